@@ -24,99 +24,111 @@ use texts::behind;
 const FIRST_RUN: &[u8] = b"heap 1 1\ntype A n*32\nscript s\nptr p A\nnum n\nnew p A\nconst n 7\n\
     setn p 1 n\nconst n 0\ngetn n p 1\nprint n\n";
 
-/// Commands, the lines of a text with `/` for a newline, and what is written, or the line that is reported. They are:
-/// the first script; a refused load; a full heap; a loop of two rounds and a branch; a dangling load; a load from a
-/// freed run; a second free; scripts without instructions; options; two freed objects that point to each other, which
-/// nothing keeps but a sweep; a freed object that a register keeps; such two again, with their entries; a script of as
-/// many instructions as one may execute; a canonical text; a schedule with a load of a global before the store and one
-/// after, that ends within a call of `s`; traces, in the last of which a freed object points to another one, and one
-/// cycle releases both (a sweep would keep the other); and the smallest generated program.
+/// Runs: a name, the words of a command, a text with `/` for a newline, and what is written, or the line that is
+/// reported. A row is `NAME | WORDS | TEXT -> WRITTEN`.
 const RUNS: &str = "\
-run | heap 1 1/type A n*32/script s/ptr p A/num n/new p A/const n 7/setn p 1 n/const n 0/\
+the first script | run | heap 1 1/type A n*32/script s/ptr p A/num n/new p A/const n 7/setn p 1 n/const n 0/\
     getn n p 1/print n/ -> script s/7/
-run | heap 1 1/type A n*2/script s/ptr p A/num n/const n 5/getn n p 0/print n/ -> script s/7: null/0/
-run | heap 1 1/type A n*32/script s/ptr p A/new p A/new p A/new p A/ -> script s/7: full/
-run | heap 1 1/type A n/script s/ptr p A/num n/const n 3/new p A/repeat 2/setn p 0 n/const n 0/\
+a load that null refuses | run | \
+    heap 1 1/type A n*2/script s/ptr p A/num n/const n 5/getn n p 0/print n/ -> script s/7: null/0/
+a full heap | run | heap 1 1/type A n*32/script s/ptr p A/new p A/new p A/new p A/ -> script s/7: full/
+a loop of two rounds and a branch | run | \
+    heap 1 1/type A n/script s/ptr p A/num n/const n 3/new p A/repeat 2/setn p 0 n/const n 0/\
     getn n p 0/if n/print n/else/new p A/end/end/ -> script s/3/3/
-run | heap 1 1/type A n*32/script s/ptr p A/num n/new p A/const n 7/setn p 1 n/free p/const n 0/\
+a dangling load | run | heap 1 1/type A n*32/script s/ptr p A/num n/new p A/const n 7/setn p 1 n/free p/const n 0/\
     getn n p 1/print n/ -> script s/7/
-run | heap 1 1/type A n*33/script s/ptr p A/num n/new p A/free p/getn n p 0/print n/ -> script s/8: fault/0/
-run | heap 1 1/type A n/script s/ptr p A/new p A/free p/free p/ -> script s/7: double/
-run | heap 1 1/type A n p:A+0/script s/ptr p A -> script s/
-run | heap 1 1/script s/script t/ -> script s/script t/
-run --markers 1 | heap 1 1/script s/ -> script s/
-run --sweep | heap 1 1/script s/ -> script s/
-run --sweep | heap 1 1/type A p:A n*31/script s/ptr p A/ptr q A/new p A/new q A/setp p 0 q/setp q 0 p/free p/free q/\
+a load from a freed run | run | \
+    heap 1 1/type A n*33/script s/ptr p A/num n/new p A/free p/getn n p 0/print n/ -> script s/8: fault/0/
+a second free | run | heap 1 1/type A n/script s/ptr p A/new p A/free p/free p/ -> script s/7: double/
+a script without instructions | run | heap 1 1/type A n p:A+0/script s/ptr p A -> script s/
+two scripts without instructions | run | heap 1 1/script s/script t/ -> script s/script t/
+a marker | run --markers 1 | heap 1 1/script s/ -> script s/
+a sweep | run --sweep | heap 1 1/script s/ -> script s/
+freed objects that point to each other, which a sweep keeps | run --sweep | \
+    heap 1 1/type A p:A n*31/script s/ptr p A/ptr q A/new p A/new q A/setp p 0 q/setp q 0 p/free p/free q/\
     clear p/clear q/new p A/show p/ -> script s/14: full/null/
-run | heap 1 1/type A p:A n*31/script s/ptr p A/ptr q A/new p A/new q A/setp p 0 q/setp q 0 p/free p/free q/\
+freed objects that point to each other, which a cycle releases | run | \
+    heap 1 1/type A p:A n*31/script s/ptr p A/ptr q A/new p A/new q A/setp p 0 q/setp q 0 p/free p/free q/\
     clear p/clear q/new p A/show p/ -> script s/ptr/
-run --markers=0 -- | heap 1 1/script s/ -> script s/
-run --why | heap 1 1/type A n*31 p:A/script s/ptr x A/ptr y A/new x A/new y A/setp x 31 y/free y/ -> \
+no markers, and `--` behind them | run --markers=0 -- | heap 1 1/script s/ -> script s/
+what keeps a freed object: a register | run --why | \
+    heap 1 1/type A n*31 p:A/script s/ptr x A/ptr y A/new x A/new y A/setp x 31 y/free y/ -> \
     script s/kept 65792 32/register s y/
-run --why | heap 1 1/type A p:A n*31/script s/ptr p A/ptr q A/new p A/new q A/setp p 0 q/setp q 0 p/\
+what keeps released objects: nothing | run --why | \
+    heap 1 1/type A p:A n*31/script s/ptr p A/ptr q A/new p A/new q A/setp p 0 q/setp q 0 p/\
     free p/free q/clear p/clear q/ -> script s/
-run --sweep --why | heap 1 1/type A p:A n*31/script s/ptr p A/ptr q A/new p A/new q A/setp p 0 q/setp q 0 p/\
+what keeps freed objects in a sweep: each other | run --sweep --why | \
+    heap 1 1/type A p:A n*31/script s/ptr p A/ptr q A/new p A/new q A/setp p 0 q/setp q 0 p/\
     free p/free q/clear p/clear q/ -> script s/kept 65536 32/floating/kept 65792 32/floating/
-check | heap 1 1/type A n/script s/ptr p A/num n/const n 3/new p A/repeat 2/setn p 0 n/const n 0/\
+a program with well-typed scripts | check | \
+    heap 1 1/type A n/script s/ptr p A/num n/const n 3/new p A/repeat 2/setn p 0 n/const n 0/\
     getn n p 0/if n/print n/else/new p A/end/end/ -> ok/
-check | heap 1 1/script s/num n/print n/repeat 499999/print n/end/ -> ok/
-print |  heap 1  1/ type A n n n p:A+0/script s/ptr p A+0 -> heap 1 1/type A n*3 p:A/script s/ptr p A/
-replay | heap 1 1/type A n*2/global g A/script s/ptr p A/new p A/storeg p g/show p/script t/\
+as many instructions as a script may execute | check | heap 1 1/script s/num n/print n/repeat 499999/print n/end/ -> ok/
+a canonical text | print |  heap 1  1/ type A n n n p:A+0/script s/ptr p A+0 -> \
+    heap 1 1/type A n*3 p:A/script s/ptr p A/
+a load of a global before the store, and one after it, in a schedule that ends within a call | replay | \
+    heap 1 1/type A n*2/global g A/script s/ptr p A/new p A/storeg p g/show p/script t/\
     ptr q A/num n/loadg q g/getn n q 0/print n/loadg q g/show q/schedule/c1 enter; getg; reg; leave/\
     c1 enter; reg; leave/c0 take; head 0 13; used 0 1; grant; tally held 2; give/\
     c0 enter; reg; setg; leave/c1  enter;  getg; reg; leave /c1 enter; reg; leave/\
     c0 enter; reg -> script s/script t/13: null/0/ptr/
-trace | trace 1 1/slot x 32/a x/f x/c x/a x/a x/ -> events 5/refused 0/held 64/quarantined 32/reserved 0/cycles 2/\
+a trace with two cycles | trace | \
+    trace 1 1/slot x 32/a x/f x/c x/a x/a x/ -> events 5/refused 0/held 64/quarantined 32/reserved 0/cycles 2/\
     age 2 1/
-trace | trace 4 2/slot b 65/a b/f b/c b/a b/ -> events 4/refused 0/held 128/quarantined 128/reserved 128/cycles 0/
-trace | trace 1 1/slot x 32/a x/f x/k x/f x/c x/a x/ -> events 6/refused 0/held 64/quarantined 64/reserved 0/cycles 3/\
+a trace with a free run | trace | \
+    trace 4 2/slot b 65/a b/f b/c b/a b/ -> events 4/refused 0/held 128/quarantined 128/reserved 128/cycles 0/
+a trace with a freed object that points to another | trace | \
+    trace 1 1/slot x 32/a x/f x/k x/f x/c x/a x/ -> events 6/refused 0/held 64/quarantined 64/reserved 0/cycles 3/\
     age 2 1/age 3 1/
-gen 0 48 |  -> script s0 ops 12 refused 0/script s1 ops 12 refused 0/script s2 ops 12 refused 0/\
+the smallest generated program | gen 0 48 |  -> \
+    script s0 ops 12 refused 0/script s1 ops 12 refused 0/script s2 ops 12 refused 0/\
     script s3 ops 12 refused 0/total 48/
-gen 0 --markers 1 48 |  -> script s0 ops 12 refused 0/script s1 ops 12 refused 0/script s2 ops 12 refused 0/\
+the smallest generated program, beside a marker | gen 0 --markers 1 48 |  -> \
+    script s0 ops 12 refused 0/script s1 ops 12 refused 0/script s2 ops 12 refused 0/\
     script s3 ops 12 refused 0/total 48/
 ";
 
-/// Words of no form, a row each. `run` alone and `check --` are of one.
+/// Words of no form, behind the name of each. `run` alone and `check --` are of one.
 const WORDS: &str = "\
-fly
-run run
-run -
-run --help
-run --version
-run -h
-run --markers
-run --markers --
-run --markers 9
-run --markers 02
-run --markers=
-run --markers -1
-run --markers 1 --markers 1
-run --why --why
-run --why=
-run --sweep --markers 1
-run -- --why
-run -- --
-check --why
-check --markers 0
-print x
-replay --sweep
-gen
-gen 1
-gen 1 47
-gen 1 3000001
-gen 18446744073709551616 48
-gen 01 48
-gen 1 48 48
-gen 1 48 --why
-gen -- --markers 1 48
-trace 1
---
--- run
---help
+an unknown command | fly
+a second command | run run
+an option without a name | run -
+help for `run` | run --help
+a version of `run` | run --version
+help by a letter | run -h
+`--markers` without a number | run --markers
+`--markers` with `--` for its number | run --markers --
+nine markers | run --markers 9
+a number with a zero in front | run --markers 02
+`--markers` with an empty number | run --markers=
+a negative number | run --markers -1
+`--markers` twice | run --markers 1 --markers 1
+`--why` twice | run --why --why
+`--why` with an empty value | run --why=
+`--sweep` beside markers | run --sweep --markers 1
+an option behind `--` | run -- --why
+`--` twice | run -- --
+`--why` for `check` | check --why
+`--markers` for `check` | check --markers 0
+a word behind `print` | print x
+`--sweep` for `replay` | replay --sweep
+`gen` without a seed and a size | gen
+`gen` without a size | gen 1
+a smaller program than the smallest | gen 1 47
+a larger program than the largest | gen 1 3000001
+a seed of more than 64 bits | gen 18446744073709551616 48
+a seed with a zero in front | gen 01 48
+a third number for `gen` | gen 1 48 48
+`--why` for `gen` | gen 1 48 --why
+an option of `gen` behind `--` | gen -- --markers 1 48
+a word behind `trace` | trace 1
+`--` without a command | --
+a command behind `--` | -- run
+help without a command | --help
 ";
 
-/// A run: its words, its text, and how its source and its sink are cut into calls and which of these fail.
+/// A run: its words and its text; and of its source and of its sink, how many bytes a call moves at most, and the
+/// numbers of the calls that fail.
 #[derive(Clone, Copy)]
 struct Case<'a> {
     words: &'a [&'a str],
@@ -144,7 +156,7 @@ fn run<R: Threads + Wait + Sync>(
     run_at(rt, alloc, case, &NoPace)
 }
 
-/// The same at a pace.
+/// How the run of a case ends at a pace, and what it wrote.
 fn run_at<P: Pace + Sync, R: Threads + Wait + Sync>(
     rt: &R,
     alloc: Global,
@@ -166,10 +178,11 @@ fn run_at<P: Pace + Sync, R: Threads + Wait + Sync>(
 
 /// Whether a row of `RUNS` goes as it says.
 fn goes<R: Threads + Wait + Sync>(rt: &R, alloc: Global, row: &str) -> Result<bool, Fail> {
-    let Some((asked, text)) = row.split_once(" | ") else {
+    let columns: Vec<&str> = row.split(" | ").collect(alloc)?;
+    let [_name, asked, rest] = columns.as_slice() else {
         return Ok(false);
     };
-    let Some((text, ending)) = text.split_once(" -> ") else {
+    let Some((text, ending)) = rest.split_once(" -> ") else {
         return Ok(false);
     };
     let words: Vec<&str> = asked.split(' ').collect(alloc)?;
@@ -203,7 +216,8 @@ fn words_of_no_form_are_refused(rt: HostRuntime) -> Result<(), Fail> {
     assert_eq!(rt; status, Status::Usage);
     assert!(rt; written.is_empty());
     for row in WORDS.lines() {
-        let words: Vec<&str> = row.split(' ').collect(rt.alloc())?;
+        let (_name, words) = row.split_once(" | ").expect(&rt, "a name and words");
+        let words: Vec<&str> = words.split(' ').collect(rt.alloc())?;
         let (status, written) = run(&rt, rt.alloc(), &ample(words.as_slice(), FIRST_RUN))?;
         assert_eq!(rt; status, Status::Usage, "{row}");
         assert!(rt; written.is_empty(), "{row}");

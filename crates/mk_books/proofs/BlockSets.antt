@@ -50,7 +50,7 @@ cells_few class known = div-le_self 64 (class_words_of class)
 pub each_set : (P : ℕ → Type 0) → ((set : ℕ) → set < 16 → P set) → P 16 → P 17 → (set : ℕ) → set < 18 → P set
 each_set P blocks free in_use set is_set = grind (arith, cases_lt)
 
--- a page of a run is in the set of the pages in use alone
+-- a page of a run is only in the set of the pages in use
 pub run_of_set : (set : ℕ) → set < 16 → is_of_set set (PartOfRun false) ≡ false
 run_of_set set block = of_block_set set (PartOfRun false) block
 
@@ -66,7 +66,7 @@ block_elsewhere class used leaf is set is_set other = each_set (λ s. (s ≡ cla
     (λ s block differ. of_other_set s class leaf (bits_of (cells_of class) used) block differ
     ∙ sym (run_of_set s block)) (λ _. refl) (λ _. refl) set is_set (λ same. other (same ∙ sym is))
 
--- a page is sorted by its put into the one set in which it may be where no page of a run is
+-- a page is sorted by its put into the one set in which it may be, and no page of a run is
 pub sorted_in_place : {before after : List ℕ} {page place : ℕ} (was stands : PageUse) {inside : Bool} → place < 16
     → PutsPage before after place page inside → inside ≡ is_of_set place stands → IsRunElsewhere place was
     → IsRunElsewhere place stands → IsInItsSets before page was → SortsPage before after page stands

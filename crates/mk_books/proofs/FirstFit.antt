@@ -17,7 +17,7 @@ one_on class number leaf page pages =
     ∙ ap (λ p. option_map (cell_here (number + 1)) (first_where not (cells_taken class leaf (use_of_page p))))
     (ap (page_at (page ∷ pages)) (sym (add-one number)))
 
--- the page, where it has a free cell, and the others
+-- the page, if it has a free cell, and the others
 by_page : (class : ℕ) (leaf : Bool) (page : Page) (pages : List Page) (index later : Option ℕ) → first_where not
     (cells_taken class leaf (use_of_page page)) ≡ index → or_else (option_map (cell_here 0) index)
     (option_map page_behind (option_and_then (free_cell_on class leaf pages) later)) ≡ option_and_then

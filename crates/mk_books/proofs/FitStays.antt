@@ -1,4 +1,4 @@
--- The sets and the count stay fit for the pages where a page changes.
+-- The sets and the count stay fit for the pages when a page changes.
 use Rattle.std.proofs.{lemmas.List.get_or-map, lemmas.List.map-set, lemmas.List.Sums.sum_by-set}
 use Rattle.mk_books.proofs.Vocabulary.{Bool, FitPages, IsInItsSets, List, Nothing, Page, PageUse, PutsPage, SortsPage}
 use Rattle.mk_books.proofs.Vocabulary.{ℕ, ap, arith, cases_eq, cond, free_page, get_or, get_or-set_other}

@@ -137,7 +137,7 @@ free_cells_among-le class leaf (page ∷ pages) =
       free_cells_among-le class leaf pages,
     )
 
--- A loop over the pages: what its variables are where a block stands on page i.
+-- A loop over the pages: what its variables are if page i is a block.
 pub record AtBlock (pages : List Page) (i : ℕ) (counts : List ℕ) (class : ℕ) (leaf : Bool) (page : Page)
     (place count : ℕ) : Type 0 where
   pub within : i < length pages
@@ -155,7 +155,7 @@ pub at_block : {pages : List Page} {i : ℕ} {counts : List ℕ} {class : ℕ} {
     → count ≡ count_by not (bits_of (cells_of class) page.used) → AtBlock pages i counts class leaf page place count
 at_block within here known stands counted placed added = grind arith
 
--- the count of the class fits 64 bits, where the pages lie in memory
+-- the count of the class fits 64 bits, if the pages are in memory
 pub room_for_block : {pages : List Page} {i : ℕ} {counts : List ℕ} {class : ℕ} {leaf : Bool} {page : Page}
     {place count : ℕ} → AtBlock pages i counts class leaf page place count → length pages * 16 < 2 ^ 63
     → get_or counts place 0 + count < 2 ^ 64

@@ -6,7 +6,7 @@ use Rattle.std.proofs.lemmas.List.{at_drop_more, drop-map, length-map}
 use Rattle.mk_geom.specs.PageUses.{PageUse, free_range, is_free_page, longest_free_range, range_start}
 use Rattle.mk_geom.specs.{PageWords.{use_of_page, uses_of_pages}, declared.pages.Page.Page}
 
--- the longest range, where this many free pages stand before these and the longest of before is known
+-- the longest range, if this many free pages come before these and the longest before is known
 abbrev pub longest_with : ℕ → ℕ → List PageUse → ℕ
 longest_with longest range rest = max longest (max (range + free_range rest) (longest_free_range rest))
 

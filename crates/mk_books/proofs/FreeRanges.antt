@@ -12,7 +12,7 @@ use Rattle.mk_books.proofs.FreeRangeLemmas.{free_range_from-taken}
 abbrev pub is_free_at : List Page → ℕ → Bool
 is_free_at pages number = is_free_page (use_of_page (page_at pages number))
 
--- a page alone
+-- a single page
 
 one_page : (free : Bool) (range : ℕ) (rest other : Option ℕ) → rest ≡ other → (if free then Some 0 else option_map
     (λ n. n + 1) rest) ≡ (if nat_le 1 (if free then range + 1 else 0) then Some 0 else option_map (λ n. n + 1) other)

@@ -11,7 +11,7 @@ use Rattle.mk_books.proofs.Vocabulary.{nat_lt, not, sym, true, w64, ◌%◌, ◌
 zero_is_no_one : (bit : ℕ) → bit ≡ 0 → nat_eq bit 1 ≡ false
 zero_is_no_one bit is = ap (λ b. nat_eq b 1) is
 
--- a bit of a word, where its lower bits were shifted out
+-- a bit of a word, after its lower bits were shifted out
 bit_left : (word from k : ℕ) → from ≤ k → bit_at (word / 2 ^ from) (k - from) ≡ bit_at word k
 bit_left word from k above = ap (λ n. n % 2) (shr-shr word from (k - from)) ∙ ap (bit_at word) (omega arith)
 

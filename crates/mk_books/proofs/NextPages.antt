@@ -3,7 +3,7 @@ use Rattle.mk_books.proofs.Vocabulary.{Bool, IsNext, List, None, Option, Some, �
 use Rattle.mk_books.proofs.Vocabulary.{sym, ◌<◌, ◌∙◌, ◌≡◌}
 use Rattle.mk_books.proofs.FirstWhereLemmas.{first_where_at, first_where_nowhere}
 
--- by another test that says the same
+-- by another test that each page passes if it passes this one
 pub same_next : {passes : ℕ → Bool} (others : ℕ → Bool) (from : ℕ) {count : ℕ} (next : Option ℕ) → ((number : ℕ)
     → number < count → passes number ≡ others number) → IsNext passes from count next → IsNext others from count next
 same_next others from _ same next = grind arith

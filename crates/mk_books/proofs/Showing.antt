@@ -18,7 +18,7 @@ pub member_of_freed : (held : List Page) {pages : List Page} (sets : List ℕ) {
     → is_member sets 18 number ≡ has_freed_cells freed number
 member_of_freed held sets shows number within = grind (arith, member_at)
 
--- a set stays as it is where it stays so for the page that is sorted
+-- a set stays as it is if it stays so for the page that is sorted
 pub set_stays : (sets after : List ℕ) (page s number : ℕ) → s < 20 → number < 4096 → OthersStay sets after page
     → is_member after s page ≡ is_member sets s page → is_member after s number ≡ is_member sets s number
 set_stays sets after page s number is_set few others same = elim (cases_eq number page) [
@@ -26,7 +26,7 @@ set_stays sets after page s number is_set few others same = elim (cases_eq numbe
   | inr differ ↦ others s number is_set few differ
 ]
 
--- where a page's header or used word changes, and its quarantine stays
+-- after a page's header or used word changed, and its quarantine stayed
 pub changed_shows : (held : List Page) {pages : List Page} (sets after : List ℕ) {freed : List ℕ} {page : ℕ}
     {stands : PageUse} (now : Page) → length held ≤ 4096 → SortsPage sets after page stands
     → Shows (known_by held sets) pages freed → Shows (known_by (set held page now) after) (set pages page now) freed
@@ -42,7 +42,7 @@ changed_shows held {pages} sets after {page} now few sorts shows =
           ∙ member_of_freed held sets shows number (omega arith);
     }
 
--- where a page's quarantine word changes
+-- after a page's quarantine word changed
 pub quarantine_shows : (held : List Page) {pages : List Page} (sets after : List ℕ) {freed : List ℕ} {page : ℕ}
     (cells : ℕ) → length held ≤ 4096 → page < length held → PutsPage sets after 18 page (not (nat_eq cells 0))
     → Shows (known_by held sets) pages freed → Shows (known_by held after) pages (set freed page cells)

@@ -31,7 +31,7 @@ pub uncleaned_others : (held now : List Page) (sets after : List ℕ) {page : �
 uncleaned_others held now sets after number long few others differ =
     uncleaned_alike held now sets after number long (λ within. others 19 number (omega arith) (omega arith) differ)
 
--- where all else of a page stays in the sets
+-- if all else of a page stays in the sets
 pub record ChangesUncleaned (held : List Page) (sets slice after : List ℕ) (resident page : ℕ) (inside : Bool)
     : Type 0 where
   pub fit : FitPages held sets resident
@@ -94,7 +94,7 @@ pub header_uncleaned : (known : KnownPages) (held : List Page) (sets : List ℕ)
 header_uncleaned known held sets {slice} after page header view within read is_slice free is =
     grind (arith, uncleaned_at)
 
--- a store of a word of a page: what the set has of other pages, and of this one where it stays there
+-- a store of a word of a page: what the set has of other pages, and of this one if it stays there
 
 pub others_kept : (known : KnownPages) (held now : List Page) (sets : List ℕ) {slice after : List ℕ}
     (vec : List ℕ) {page : ℕ} (number : ℕ) → known_by held sets ≡ known → slice ≡ sets → vec ≡ after

@@ -22,8 +22,8 @@ is_uncleaned known number = slice_index_or known.uncleaned number false
 abbrev pub is_bare : KnownPages → ℕ → Bool
 is_bare known number = (page_at known.pages number).header == 0
 
--- Whether a page is uncleaned after this header word was stored: where it is free now, it is; where it was free before,
--- it is no more; and else it is as it was.
+-- Whether a page is uncleaned after this header word was stored. If it is free now, it is. If it was free before, it no
+-- longer is. Otherwise it is as it was.
 abbrev pub is_uncleaned_under : KnownPages → ℕ → ℕ → Bool
 is_uncleaned_under known number header = header == 0 || (not (is_bare known number) && is_uncleaned known number)
 

@@ -12,8 +12,8 @@ free_cell_on class leaf pages number =
     option_map (λ index. record { page = number; index = index; carve = false })
     (first_where not (cells_taken class leaf (use_of_page (page_at pages number))))
 
--- A small object goes into the lowest block of its class and sort that has a free cell; if there is none, onto the
--- lowest free page, where fewer pages are resident than may be.
+-- A small object goes into the lowest block of its class and sort that has a free cell. If there is none, it goes onto
+-- the lowest free page, if fewer pages are resident than may be.
 abbrev pub LowestBlockHasThePlace : Type 0
 LowestBlockHasThePlace =
     (limit class : ℕ) (leaf : Bool) (pages : List Page)

@@ -1,4 +1,4 @@
--- How a page map keeps its sets of pages: as bits, 64 pages in a word. A set has a summary, whose bit k is 1 where its
+-- How a page map keeps its sets of pages: as bits, 64 pages in a word. A set has a summary, whose bit k is 1 if its
 -- word k isn't 0, and then 64 words.
 use Rattle.std.specs.Prelude.{◌≡◌, ℕ, ◌+◌, ◌*◌, ◌/◌, ◌%◌, ◌<◌, ◌≤◌, Bool, false, not, ◌==◌, nat_le, nat_lt, List}
 use Rattle.std.specs.{Prelude.{length, slice_index, if◌then◌else◌, map}, Int.bit_at, List.range_with_len}
@@ -59,12 +59,12 @@ pub record PutsPage (before after : List ℕ) (set page : ℕ) (inside : Bool) :
       → is_member after other page ≡ is_member before other page
   pub other_pages : OthersStay before after page
 
--- a page is in the sets of blocks that it was in, and with freed cells where it was so
+-- a page is in the sets of blocks that it was in, and among those with freed cells if it was so
 abbrev pub StaysInOtherSets : List ℕ → List ℕ → ℕ → Type 0
 StaysInOtherSets before after page =
     (set : ℕ) → set < 19 → (set ≡ 16 → ⊥) → (set ≡ 17 → ⊥) → is_member after set page ≡ is_member before set page
 
--- A page is put among the free ones, where it may be marked, or out of them and among those in use.
+-- A page is put among the free ones and among those of them that may be marked, or out of both and among those in use.
 pub record PutsFree (before after : List ℕ) (page : ℕ) (is_free : Bool) : Type 0 where
   pub are_sets : AreSets after
   pub free : is_member after 16 page ≡ is_free
@@ -73,7 +73,7 @@ pub record PutsFree (before after : List ℕ) (page : ℕ) (is_free : Bool) : Ty
   pub other_sets : StaysInOtherSets before after page
   pub other_pages : OthersStay before after page
 
--- A page is sorted by what stands on it now. It is with freed cells where it was so.
+-- A page is sorted by what is on it now. It is among those with freed cells if it was so.
 pub record SortsPage (before after : List ℕ) (page : ℕ) (stands : PageUse) : Type 0 where
   pub are_sets : AreSets after
   pub sorted : IsInItsSets after page stands

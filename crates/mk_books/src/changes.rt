@@ -10,7 +10,7 @@ use crate::sorting::{UNCLEANED, sort_by_header, sort_by_quarantine, sort_by_used
 use mk_geom::Page;
 
 impl PageMap {
-    /// A header word was stored. A page that is freed may be marked, and one that is put in use is no free page.
+    /// A page's header word was stored. A page that becomes free may still be marked, so it is to be cleaned.
     pub fn header_stored(&mut self, page: u64, header: u64)
         requires { page < length self.old.pages }
         ensures shows { (pages : List Page) (freed : List ℕ) → Shows self.old pages freed
@@ -31,7 +31,7 @@ impl PageMap {
         self.resident = self.resident + u64::from(is_resident) - was_resident;
     }
 
-    /// A used word was stored.
+    /// A page's used word was stored.
     pub fn used_stored(&mut self, page: u64, used: u64)
         requires { page < length self.old.pages }
         ensures shows { (pages : List Page) (freed : List ℕ) → Shows self.old pages freed
@@ -47,7 +47,7 @@ impl PageMap {
         sort_by_used(&mut self.sets, page, kind_of(header), before, used);
     }
 
-    /// A quarantine word was stored, which has these freed cells.
+    /// A page's quarantine word was stored, with these freed cells.
     pub fn quarantine_stored(&mut self, page: u64, freed: u64)
         requires { page < length self.old.pages }
         ensures shows { (pages : List Page) (freed_words : List ℕ) → Shows self.old pages freed_words
@@ -84,7 +84,7 @@ impl PageMap {
         }
     }
 
-    /// Nothing of a page is marked or black.
+    /// A page was cleaned: nothing of it is marked or black.
     pub fn cleaned(&mut self, page: u64)
         requires { page < length self.old.pages }
         ensures shows { (pages : List Page) (freed : List ℕ) → Shows self.old pages freed

@@ -1,4 +1,4 @@
-//! Counts of what stands on the pages.
+//! Counts of what is on the pages.
 ghost use Rattle.std.specs.Prelude.{◌≡◌, ◌<◌, count_by};
 ghost use Rattle.mk_geom.specs.PageUses.{is_free_page, resident_pages, longest_free_range, held_by_uses, census_among};
 ghost use Rattle.mk_geom.specs.PageWords.{uses_of_pages};
@@ -9,7 +9,7 @@ use mk_geom::{Census, Page, cells};
 
 const CLASSES: usize = 8;
 
-/// The counts of what stands on the pages. It walks over them four times.
+/// Counts of what is on the pages. It walks over them four times.
 pub fn census(pages: &[Page]) -> Census
     ensures { result ≡ census_among (uses_of_pages pages.now) }
 {
@@ -41,7 +41,7 @@ fn count_resident(pages: &[Page]) -> u64
     pages.iter().filter(|page| is_resident(**page)).count() as u64
 }
 
-/// The most free pages that are neighbours.
+/// How many pages the longest range of free pages has.
 fn longest_range(pages: &[Page]) -> u64
     ensures { result ≡ longest_free_range (uses_of_pages pages.now) }
 {
@@ -54,7 +54,7 @@ fn longest_range(pages: &[Page]) -> u64
     longest
 }
 
-/// The free cells of the blocks of each class, and then those of the leaf blocks.
+/// How many free cells the blocks of each class have, and then the leaf blocks of each class.
 fn free_cells(pages: &[Page]) -> [u64; 16]
     ensures { result ≡ free_cells_by_class (uses_of_pages pages.now) }
 {

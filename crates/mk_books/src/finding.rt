@@ -77,8 +77,8 @@ impl PageMap {
         self.next_of(UNCLEANED, from)
     }
 
-    /// The lowest of this many neighbours that are free. A page alone is the lowest free one. Else it goes from one
-    /// range of free pages to the next.
+    /// The first page of the lowest range of this many free pages. For one page that is the lowest free one. For more
+    /// it goes from one range of free pages to the next.
     pub fn first_range(&self, count: u64) -> Option<u64>
         requires { 1 ≤ count }
         ensures { (pages : List Page) (freed : List ℕ) → Shows self.now pages freed

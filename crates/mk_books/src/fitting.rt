@@ -8,10 +8,9 @@ use mk_geom::{Page, Place, class_of, run_pages};
 /// The largest object that takes a cell, in words.
 const SMALL_WORDS: u64 = 32;
 
-/// Where an object of this many words goes: a cell of a block of its class and sort, or else free pages, where
-/// with them no more than `resident_limit` pages are resident. None where there is no such place, and
-/// for an object of no words. A call walks over the pages once, and for a small object only to the
-/// first block that has a free cell.
+/// Where an object of this many words goes: a cell of a block of its class and sort, or else free pages, if no more
+/// than `resident_limit` pages are resident with them. None if there is no such place, and for an object of no words. A
+/// call walks over the pages once, and for a small object only to the first block that has a free cell.
 pub fn first_fit(pages: &[Page], resident_limit: u64, words: u64, leaf: bool) -> Option<Place>
     ensures { result ≡ place_on_uses resident_limit words leaf (uses_of_pages pages.now) }
 {
@@ -58,7 +57,7 @@ fn large_fit(pages: &[Page], resident_limit: u64, count: u64) -> Option<Place>
     ensures { result ≡ large_place resident_limit count (uses_of_pages pages.now) }
 {
     let mut resident: u64 = 0;
-    // Where the free range begins that ends before this page.
+    // The first page of the free range that ends before this page.
     let mut range = 0;
     let mut first = None;
     for (number, page) in pages.iter().enumerate() {

@@ -1,4 +1,4 @@
-//! Laws of first fit in the words that a page map answers in: facts alone, with no code.
+//! Laws of first fit in the words that a page map answers in: facts only, with no code.
 ghost use Rattle.mk_books.specs.Laws.{LowestBlockHasThePlace};
 
 /// Where a small object goes by first fit is told by the lowest block of its class and sort that has a free cell, the

@@ -1,4 +1,4 @@
-//! What stands on one page.
+//! What is on one page.
 ghost use Rattle.std.specs.Prelude.{◌≡◌, ◌<◌, ◌≤◌, not, count_by, IfSome, IfNone};
 ghost use Rattle.mk_geom.specs.PageUses.{Cells, is_free_page, is_resident_page, cells_taken, first_where, held_by_use};
 ghost use Rattle.mk_geom.specs.{PageWords.{use_of_page, bits_of}, Classes.cells_of};
@@ -29,7 +29,7 @@ pub(crate) struct BlockKind {
     pub(crate) leaf: bool,
 }
 
-/// The kind of a block; none where the page is no block.
+/// The class and sort of a block; none if the page is no block.
 pub(crate) fn block_of(page: Page) -> Option<BlockKind>
     ensures in_range { IfSome result (λ kind. kind.class < 8) }
     ensures block { IfSome result
@@ -43,7 +43,7 @@ pub(crate) fn block_of(page: Page) -> Option<BlockKind>
     }
 }
 
-/// The lowest cell that isn't taken, where the page is a block of this class and sort.
+/// The lowest cell that isn't taken, if the page is a block of this class and sort.
 pub(crate) fn free_cell(page: Page, class: u64, leaf: bool) -> Option<u64>
     requires { class < 8 }
     ensures { result ≡ first_where not (cells_taken class leaf (use_of_page page)) }
@@ -65,7 +65,7 @@ fn lowest_clear(word: u64, bits: u64) -> Option<u64>
     (place < bits).then_some(place)
 }
 
-/// The words of the cells that are taken, or of a page of a mapped run.
+/// How many words of the page are held: those of the cells that are taken, or all of a page of a mapped run.
 pub(crate) fn words_on(page: Page) -> u64
     ensures { result ≡ held_by_use (use_of_page page) }
 {

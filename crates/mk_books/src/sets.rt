@@ -118,7 +118,7 @@ pub(crate) fn put(sets: &mut [u64], set: usize, page: u64, inside: bool)
     }
 }
 
-/// Puts a page into a set that it mostly isn't in: it is stored without a look.
+/// Puts a page into a set. The word is stored even if the page is in there already; mostly it isn't.
 #[inline(always)]
 pub(crate) fn insert(sets: &mut [u64], set: usize, page: u64)
     requires sets { AreSets sets.old }
@@ -131,7 +131,8 @@ pub(crate) fn insert(sets: &mut [u64], set: usize, page: u64)
     store_word(sets, set, word, with_bit(bits, page % 64, true));
 }
 
-/// Takes a page out of a set that it mostly is in. Where others are left in its word, the summary stays.
+/// Takes a page out of a set. The word is stored even if the page isn't in there; mostly it is. If other pages are left
+/// in the word, the summary stays.
 #[inline(always)]
 pub(crate) fn remove(sets: &mut [u64], set: usize, page: u64)
     requires sets { AreSets sets.old }

@@ -1,4 +1,4 @@
-//! The sets that a page is in by what stands on it.
+//! The sets that a page is in, by what is on it.
 ghost use Rattle.std.specs.Prelude.{◌≡◌, ℕ, ◌<◌, ◌≤◌, ◌==◌, ◌&&◌, ◌||◌, IfOk, false, true, nat_lt, not};
 ghost use Rattle.mk_books.specs.FreeCells.{class_place};
 ghost use Rattle.mk_geom.specs.{Headers.header_of, PageWords.use_under};
@@ -35,7 +35,7 @@ pub(crate) fn block_set(class: u64, leaf: bool) -> usize
     if leaf { 8 + class } else { class }
 }
 
-/// Puts a page among the free ones, where it may be marked.
+/// Puts a page among the free ones, and among the free ones that may be marked.
 #[inline(always)]
 fn put_free(sets: &mut [u64], page: u64)
     requires sets { AreSets sets.old }
@@ -47,7 +47,7 @@ fn put_free(sets: &mut [u64], page: u64)
     insert(sets, UNCLEANED, page);
 }
 
-/// Puts a free page among those in use. It is no more among the free pages that may be marked.
+/// Puts a free page among those in use, and takes it from the free ones and from those of them that may be marked.
 #[inline(always)]
 fn put_in_use(sets: &mut [u64], page: u64)
     requires sets { AreSets sets.old }
@@ -59,7 +59,7 @@ fn put_in_use(sets: &mut [u64], page: u64)
     remove(sets, UNCLEANED, page);
 }
 
-/// Takes a page out of the sets that it is in, but that of the pages in use, so that it is sorted as one of a run.
+/// Takes a page out of its sets, and puts it among those in use. So it is sorted as a page of a run.
 #[inline(always)]
 fn leave_sets(sets: &mut [u64], page: u64, kind: PageKind)
     requires sets { AreSets sets.old }
@@ -100,8 +100,8 @@ fn join_sets(sets: &mut [u64], page: u64, kind: PageKind, used: u64)
     }
 }
 
-/// Sorts a page anew whose header word has changed, and returns whether it is resident now. It leaves its sets before
-/// the new word is read, so that each kind of page goes a way of its own.
+/// Sorts a page anew whose header word has changed, and returns whether it is resident now. The page leaves its sets
+/// before the new word is read.
 #[inline(always)]
 pub(crate) fn sort_by_header(
     sets: &mut [u64],
@@ -126,7 +126,7 @@ pub(crate) fn sort_by_header(
     is_resident
 }
 
-/// Sorts a page anew whose used word has changed. A block that has a free cell before and after stays where it is.
+/// Sorts a page anew whose used word has changed. A block that has a free cell before and after stays in its sets.
 pub(crate) fn sort_by_used(sets: &mut [u64], page: u64, kind: PageKind, before: u64, after: u64)
     requires sets { AreSets sets.old }
     requires page { page < 4096 }

@@ -2,7 +2,7 @@
 ghost use Rattle.std.specs.{Prelude.{◌≡◌, ◌↔◌, ℕ, ◌*◌, ◌<◌, ◌≤◌, IsTrue}, Int.bit_at};
 ghost use Rattle.mk_books.specs.Quarantine.{IsFreeable};
 
-/// Whether what was freed since the last pass is more than a quarter of what is held, in the same unit.
+/// Whether what was freed since the last pass is more than a quarter of what is held. Both are counts of words.
 pub fn due(fresh: u64, held: u64) -> bool
     ensures { IsTrue result ↔ (held < 4 * fresh) }
 {

@@ -17,7 +17,7 @@ pub all_below_more_is : (n : ℕ) (test : ℕ → Bool) → all_below n test ≡
 unfolding all_below
 all_below_more_is n test h t = rw (add-one, h) t
 
--- where one fails, all does
+-- if one test fails, that of all does
 pub all_below_not_is : (n k : ℕ) (test : ℕ → Bool) → k < n → test k ≡ false → all_below n test ≡ false
 unfolding all_below
 all_below_not_is zero k test lt f = absurd (omega arith)

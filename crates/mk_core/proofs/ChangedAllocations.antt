@@ -8,7 +8,7 @@ use Rattle.mk_core.proofs.UnreleasedStorage.{unreleased_kept}
 use Rattle.mk_core.specs.{Allocations.{freed_where_it_stands, no_longer_fresh, with_released}, NewPlaces.object_of}
 use Rattle.std.proofs.{Math.ListN.get_or-map as get_or-map-default, Math.Seq.get_or-append_seam, lemmas.Bool.cond_both}
 
--- what a change leaves alone
+-- what a change leaves as it is
 pub record LeavesPlaces (change : PlacedAllocation → PlacedAllocation) : Type 0 where
   pub base : (a : PlacedAllocation) → (change a).base ≡ a.base
   pub ty : (a : PlacedAllocation) → (change a).ty ≡ a.ty
@@ -53,7 +53,7 @@ pub freed_storage : (c : Config) (w : Words) (cell : Option Cell) (a : PlacedAll
     → is_small_object (object_placed c a) ≡ true → storage_of c (freed_where_it_stands w cell a) ≡ storage_of c a
 freed_storage c w x2 a small = grind (arith, freed_or_not, large_is_not_small, and-false)
 
--- Where nothing is freed, nothing changes.
+-- If nothing is freed, nothing changes.
 pub none_freed : (w : Words) (xs : List PlacedAllocation) → map (freed_where_it_stands w None) xs ≡ xs
 none_freed w [] = refl
 none_freed w (a ∷ xs) = ap (λ (ys : List PlacedAllocation). a ∷ ys) (none_freed w xs)

@@ -13,11 +13,10 @@ abbrev Holds : Config → List Event → ℕ → ℕ → Type 0
 Holds c es held fresh =
     (held_by_allocations c (left c es).allocations ≡ held) × (fresh_words_of c (left c es).allocations ≡ fresh)
 
--- Both freed objects are released at the end. The third has taken the cell of the first.
--- The third object alone is held, in 32 words.
--- After the event that frees the first object both are held, and it is fresh.
--- After the one that frees the second, after the `begin`, the second alone is fresh.
--- Two cycles have ended, each with a released object, and no call was refused.
+-- Both freed objects are released at the end. The third has taken the cell of the first. Only the third object is held,
+-- in 32 words. After the event that frees the first object both are held, and it is fresh. After the one that frees the
+-- second, after the `begin`, only the second is fresh. Two cycles have ended, each with a released object, and no call
+-- was refused.
 pub freed_counts : ((left one_page freed_after_begin).allocations
     ≡ record { base = 0; ty = 0; freed = true; fresh = false; released = true }
     ∷ record { base = 32; ty = 0; freed = true; fresh = false; released = true }

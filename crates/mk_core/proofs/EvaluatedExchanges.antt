@@ -11,7 +11,7 @@ abbrev pub is_cas : Step → Bool
 is_cas Step.Cas = true
 is_cas _ = false
 
--- what is compared, where the answer is 1
+-- what is compared, if the answer is 1
 abbrev Compares : Config → List Event → ℕ → ℕ → ℕ → ℕ → Type 0
 Compares c es k p number place =
     (answer_decided c (left c es).now (record { seat = Caller k; step = Step.Cas }) ≡ Some (Answer.Num 1))
@@ -22,7 +22,7 @@ abbrev ExchangeCompares : Config → List Event → Event → Type 0
 ExchangeCompares c es e = (k q i p r : ℕ) → e ≡ record { seat = Caller k; step = Step.Cas }
     → (flight_of (left c es).now (Caller k)).op ≡ Op.CasPtr q i p r → ComparesValues c es k q i p
 
--- The operation and the word that are compared are these alone.
+-- Only this operation and this word are compared.
 compares_there : (c : Config) (es : List Event) (q i p r number place : ℕ) → (flight_of (left c es).now (Caller 0)).op
     ≡ Op.CasPtr q i p r → target_of (never_behind c es) (register_at (never_behind c es) 0 q) i ≡ WordOf number place
     → Compares c es 0 p number place → ExchangeCompares c es (record { seat = Caller 0; step = Step.Cas })

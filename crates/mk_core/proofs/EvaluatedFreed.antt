@@ -74,7 +74,7 @@ words_tell_what_stands =
           (λ i. stands_in w.now.words cell (placed_at w.allocations i) ≡ true) (freed_number a.number h) a.stands);
     }
 
--- what no history leaves: a freed bit where nothing stands
+-- what no history leaves: a freed bit where there is no object
 abbrev pub bare : World
 bare = record {
   now = record (first_moment small) { words = record (zero_words_of 1) { freed = 4 ∷ [] } };

@@ -15,7 +15,7 @@ use Rattle.mk_never.specs.Admitted.{AccessIsAdmitted, IsAdmitted, IsCaller, Oper
 use Rattle.mk_never.specs.{declared.types.Kind.Kind, declared.types.Kind.TheVariants.Num}
 use Rattle.mk_core.specs.{Config.{IsAmong, IsBetween, IsTypeAmong}, History.{AreEnabled, CallsAreAdmitted}}
 
--- Where no fault is found, each event is enabled.
+-- If no fault is found, each event is enabled.
 
 none_of_both : (b : Bool) (at : ℕ × ℕ) (rest : Option (ℕ × ℕ)) → (if b then rest else Some at) ≡ None
     → (b ≡ true) × (rest ≡ None)
@@ -33,7 +33,7 @@ pub enabled : (c : Config) (es : List Event) → first_fault c es ≡ None → A
 unfolding first_fault
 enabled c es h = enabled_from c 0 (first_world c) es h
 
--- Heaps of a few pages, all of them resident, are within limits where their types are.
+-- Heaps of a few pages, all of them resident, are within limits if their types are.
 
 pub small_limits : (pages callers : ℕ) (types : List (List Kind)) → IsBetween 1 3 pages → IsBetween 1 2 callers
     → length types ≤ 2 → All (IsTypeAmong types) types → IsWithinLimits (heap_of pages callers types)

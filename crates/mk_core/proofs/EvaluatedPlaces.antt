@@ -43,7 +43,7 @@ grants_stand before e behind is grant =
     at_each is_grant (λ (es : List Event) (x : Event). StandsAtItsPlace one_page es x.seat) [] freed_after_begin
     (grants.0, (grants.1, (grants.2, tt))) before e behind is (ap is_grant grant)
 
--- Where the phase is marking, the mark on the page's ten cells is what serves the object first.
+-- While the phase is marking, the mark on the page's ten cells is what serves the object first.
 pub grant_while_marking : StandsAtItsPlace two_pages (take 16 granted_while_marking) c0
 unfolding by c0 all_below pointed_cell two_pages granted_while_marking left_from unreleased_storage event_number
     turn_number NoneServesFrom

@@ -1,5 +1,5 @@
--- What others leave besides, where calls are admitted, in small cases: to a caller in a call the objects that its
--- registers point to, to the turn's holder all words outside the mapped objects, and to a marker all headers.
+-- What others also leave if calls are admitted, in small cases: to a caller in a call the objects that its registers
+-- point to, to the turn's holder all words outside the mapped objects, and to a marker all headers.
 use Rattle.mk_core.proofs.Vocabulary.{AreOfOthers, Event, IsWordOf, List, Null, Seat, Step, ℕ, all_below, arith}
 use Rattle.mk_core.proofs.Vocabulary.{calls_from, false, false≢true, inl, leb-true, left, left_from, ltb-true}
 use Rattle.mk_core.proofs.Vocabulary.{never_behind, placed_at, pointed_cell, refl, slice_index, storage_of, subst, suc}

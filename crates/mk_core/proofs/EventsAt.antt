@@ -64,7 +64,7 @@ abbrev pub stands_at : {c : Config} {s : Seat} {es : List Event} (t : TurnOf c s
     ≡ base_made (object_at c es s) place → StandsAtItsPlace c es s
 stands_at t first place fits base = record { turn = t; first = first; place = place; fits = fits; base = base }
 
--- where the test holds, the first is asked too
+-- if the test holds, the first is asked too
 unfoldable pub Also : Bool → Type 0 → Type 0 → Type 0
 Also true A B = A × B
 Also false A B = B

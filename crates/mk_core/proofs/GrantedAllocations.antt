@@ -51,7 +51,7 @@ placed_stands c a place limits typed unreleased base known within =
       within = subst (λ n. n + words_made (object_placed c a) ≤ 64 * c.pages) (sym base) end;
     }
 
--- and has its headers, where these stand.
+-- and has its headers, if these stand.
 pub placed_headers : (c : Config) (w : Words) (a : PlacedAllocation) (place : Place) → IsWithinLimits c
     → a.ty < length c.types → a.base ≡ base_made (object_placed c a) place → place.index < cells_made
     (object_placed c a) → place_stands w (object_placed c a) place ≡ true → HasItsHeaders c w a

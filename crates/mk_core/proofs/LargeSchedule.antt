@@ -9,7 +9,7 @@ unfoldable pub three_pages : Config
 three_pages = heap_of 3 2 (replicate 65 Num ∷ [])
 
 -- Its last word is written to and is wiped when its pages are unmapped, while the other caller's gate is held. An
--- access to it is then refused, and a second Free told so. The next object has room after a cycle alone.
+-- access to it is then refused, and a second Free told so. The next object has room only after a cycle.
 unfoldable pub large_freed : List Event
 large_freed = by c0 (Step.Take (Some (Op.New 0 0 false)) ∷ Step.Head 0 46 ∷ Step.Head 1 26 ∷ Step.Used 0 1 ∷ Step.Grant
     ∷ Step.Tally Tally.Held 128 ∷ Step.Give ∷ []) ++ by c0

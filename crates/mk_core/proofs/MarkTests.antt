@@ -16,7 +16,7 @@ is_word_of_by s n h = and_from _ _ (le-leb _ _ h.0) (lt-ltb _ _ h.1)
 abbrev pub points_well_in : Config → Words → Storage → ℕ → ℕ → Bool
 points_well_in c w s n value = not (is_word_of s n) || points_well c.pages w value
 
--- So does each word of the allocation, where it is marked and scanned.
+-- So does each word of the allocation, if it is marked and scanned.
 abbrev pub allocation_points_well : Config → Words → PlacedAllocation → Bool
 allocation_points_well c w a = not (is_scanned_allocation c a && is_marked_allocation c w a)
     || numbered_all (points_well_in c w (storage_of c a)) w.heap

@@ -81,7 +81,7 @@ part_cells o x part = (part_sizes part).0
 pub part_words : (o : Object) (x : Option Header) → ShowsPart o 0 x → words_under x ≡ words_made o
 part_words o x part = (part_sizes part).1
 
--- what two headers of one page of an object have alike, where it is so of first pages and of later ones
+-- what two headers of one page of an object have alike, if it is so of first pages and of later ones
 same_under : (f : Option Header → ℕ) (n : ℕ) (o : Object) → ((x : Option Header) → ShowsPart o 0 x → f x ≡ n)
     → ((distance : ℕ) (x : Option Header) → ShowsPart o distance x → 1 ≤ distance → f x ≡ 0)
     → (distance : ℕ) (x y : Option Header) → ShowsPart o distance x → ShowsPart o distance y → f x ≡ f y
@@ -110,7 +110,7 @@ pub small_heads_none : (o : Object) (distance : ℕ) (x : Option Header) → Sho
     → is_small_object o ≡ true → (heads_run x ≡ false) × (is_unmapped_header x ≡ false)
 small_heads_none o distance x x3 is = grind arith
 
--- The object's cell is scanned where the object has a pointer and is mapped.
+-- The object's cell is scanned if the object has a pointer and is mapped.
 pub part_has_no_pointers : (o : Object) (x : Option Header) → ShowsPart o 0 x
     → has_no_pointers x ≡ (o.leaf || is_unmapped_header x)
 part_has_no_pointers o x x2 = grind arith

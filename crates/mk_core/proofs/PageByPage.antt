@@ -1,4 +1,4 @@
--- The words of the heap and the dirty words, page by page: their length, where each stands, and a change of one.
+-- The words of the heap and the dirty words, page by page: their length, the place of each, and a change of one.
 use Rattle.std.proofs.lemmas.List.{drop-replicate, drop-set-add, replicate-append-replicate, set-append_left}
 use Rattle.std.proofs.{lemmas.List.{take-replicate, take-set-le}, Common.{drop-set-lt, get_or-append-add, get_or-drop}}
 use Rattle.std.proofs.{Common.{get_or-take, length-append, length-drop, length-take-le}, Math.Seq.take-set-lt}

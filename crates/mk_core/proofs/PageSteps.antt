@@ -16,7 +16,7 @@ either_holds : (a b : Bool) → (a || b) ≡ true → (a ≡ true) ⊎ (b ≡ tr
 either_holds true b h = inl refl
 either_holds false b h = inr h
 
--- what follows from each of two tests, where a third says which of them is asked
+-- what follows from each of two tests, if a third says which of them is asked
 by_test : {A : Type 0} (b x y : Bool) → (if b then x else y) ≡ true → (b ≡ true → x ≡ true → A)
     → (b ≡ false → y ≡ true → A) → A
 by_test true x y h on_true on_false = on_true refl h

@@ -1,4 +1,4 @@
--- What is known where there is a place of a New, or a cell that a Free frees.
+-- What is known if there is a place of a New, or a cell that a Free frees.
 use Rattle.mk_core.proofs.Vocabulary.{Bool, Cell, Config, Flight, List, Moment, None, Object, Op, Option, Page, Place}
 use Rattle.mk_core.proofs.Vocabulary.{Some, Words, ℕ, and_parts, ap, arith, eqb-true, false, if◌then◌else◌, inl, inr}
 use Rattle.mk_core.proofs.Vocabulary.{is_phase, not, not-true, object_made, place_now, pointed_cell, quarantine_word}
@@ -8,7 +8,7 @@ use Rattle.mk_core.specs.{NewPlaces.target, declared.seats.Placing.TheVariants.{
 use Rattle.mk_core.specs.{Effects.{chosen, taken}, TurnConditions.{cell_freed, frees}, declared.seats.Placing.Placing}
 use Rattle.mk_core.specs.declared.seats.Stage.{Stage}
 
--- what stands under a test, where something does
+-- what is there under a test, if something is
 some_under : {A : Type 0} (b : Bool) (o : Option A) (x : A) → (if b then o else None) ≡ Some x
     → (b ≡ true) × (o ≡ Some x)
 some_under true o x h = (refl, h)

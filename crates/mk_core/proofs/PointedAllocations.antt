@@ -44,7 +44,7 @@ cell_points_into pages header u s is stands shows found = elim (cases_Bool (is_s
       (low, (omega (arith, run.first), omega (arith, run.first, run.words, run.some)))
 ]
 
--- So a value on the pages of an allocation points into its storage where it points into its cell.
+-- So a value on the pages of an allocation points into its storage if it points into its cell.
 pub pointers_come_back : (c : Config) (w : Words) (a : PlacedAllocation) → IsWithinLimits c → StandsOnHeap c a
     → HasItsHeaders c w a → (u : ℕ) → stands_on (page_at_address u) (storage_of c a) ≡ true
     → pointed_cell c.pages w.pages u ≡ Some (cell_of_storage (storage_of c a)) → PointsInto u (storage_of c a)
@@ -64,12 +64,12 @@ pub base_points : (c : Config) (w : Words) (a : PlacedAllocation) → IsWithinLi
     → HasItsHeaders c w a → pointed_cell c.pages w.pages (address_of a.base) ≡ Some (cell_of_storage (storage_of c a))
 base_points c w a limits st has = grind (arith, words_within, typed_size, word_points)
 
--- A release releases it exactly where its cell is left unmarked.
+-- A release releases it exactly if its cell is left unmarked.
 pub released_where_left : (c : Config) (w : Words) (a : PlacedAllocation) → IsWithinLimits c → StandsOnHeap c a
     → HasItsHeaders c w a → (with_released c w a).released ≡ is_left_unmarked w (cell_of_storage (storage_of c a))
 released_where_left c w a limits st has = cc (st.unreleased, base_points c w a limits st has)
 
--- It is marked where its cell is, and what points into it points well there.
+-- It is marked if its cell is, and what points into it points well then.
 pub marked_where_its_cell_is : (c : Config) (w : Words) (a : PlacedAllocation) → IsWithinLimits c → StandsOnHeap c a
     → HasItsHeaders c w a → is_marked_allocation c w a ≡ is_marked w (cell_of_storage (storage_of c a))
 marked_where_its_cell_is c w a limits st has = grind (arith, base_points)

@@ -1,4 +1,4 @@
--- Where the cell lies into which a value points.
+-- Where the cell is into which a value points.
 use Rattle.std.proofs.{Common.option_and_then, Math.Nat.{div-le_self, div-lt_iff_lt-mul}}
 use Rattle.mk_core.proofs.Vocabulary.{Block, Bool, Cell, Free, Header, Later, LeafBlock, LeafRun, None, Option, Run}
 use Rattle.mk_core.proofs.Vocabulary.{Some, Words, ℕ, ap, arith, cells_of, cells_under, false, header_at, header_in}

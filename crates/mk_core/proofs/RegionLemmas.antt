@@ -221,7 +221,7 @@ length_joined (xs ∷ xss) = length-append xs (joined xss) ∙ ap (λ n. length 
 pub has_all_words : ListHasAllWords
 has_all_words pages w h = length_joined (regions w) ∙ (begins h).all
 
--- A table of zeros is gaps alone.
+-- A table of zeros is nothing but gaps.
 abbrev total : List ℕ → ℕ
 total [] = 0
 total (n ∷ counts) = n + total counts

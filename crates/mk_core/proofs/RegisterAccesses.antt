@@ -1,4 +1,4 @@
--- What an access to a register or to a tally leaves alone.
+-- What an access to a register or to a tally leaves as it is.
 use Rattle.std.proofs.Common.{rules}
 use Rattle.mk_core.proofs.Vocabulary.{Access, Config, Flight, Load, Named, Store, Tally, Word, Words, ℕ, and_parts}
 use Rattle.mk_core.proofs.Vocabulary.{arith, ltb-true, nat_lt, refl, true, ◌<◌, ◌≡◌}
@@ -36,7 +36,7 @@ pub register_leaves_tallies : (w : Words) (k r : ℕ) (a : Access) → LeavesTal
 register_leaves_tallies w k r Load = record { held = refl; fresh = refl; cycles = refl; released = refl; full = refl }
 register_leaves_tallies w k r _ = record { held = refl; fresh = refl; cycles = refl; released = refl; full = refl }
 
--- and one to a tally the tallies alone.
+-- and one to a tally only the tallies.
 pub tally_leaves : (w : Words) (n : Tally) (v : ℕ) → LeavesTable w (accessed w (Named (tally_word n)) (Store v))
 tally_leaves w Tally.Held v = search rules
 tally_leaves w _ v = search rules

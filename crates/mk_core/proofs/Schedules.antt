@@ -58,7 +58,7 @@ pointer_set q i p =
 unfoldable pub one_page : Config
 one_page = heap_of 1 1 (replicate 32 Num ∷ [])
 
--- Two objects are freed, one before a cycle begins and one after its begin. The first alone is released by it.
+-- Two objects are freed, one before a cycle begins and one after its begin. It releases only the first.
 unfoldable pub freed_after_begin : List Event
 freed_after_begin = carved 0 0 0 125 32 ++ granted 1 3 64 ++ by c0 (Step.Take (Some (Op.Free 0)) ∷ Step.Reg ∷ Step.Quar
     0 1 ∷ Step.Quar 0 4294967297 ∷ Step.Begin ∷ Step.Give ∷ []) ++ freed 1 0 4294967299 32 ++ cleared 0 ++ cleared 1 ++

@@ -16,14 +16,14 @@ points_into_member c S value b a = not (not a.released && is_word_of (storage_of
 abbrev pub is_into_members : Config → World → (ℕ → Bool) → ℕ → Bool
 is_into_members c w S value = not (nat_le 65536 value) || numbered_all (points_into_member c S value) w.allocations
 
--- a register's value of the never-reusing heap, where the allocations stand
+-- a register's value of the never-reusing heap, if the allocations stand
 abbrev pub register_is_into_members : Config → World → (ℕ → Bool) → Value → Bool
 register_is_into_members c w S value = is_into_members c w S (image_of (bases_of w.allocations) value)
 
 abbrev pub word_is_into_members : Config → World → (ℕ → Bool) → PlacedAllocation → ℕ → ℕ → Bool
 word_is_into_members c w S a n value = not (is_word_of (storage_of c a) n) || is_into_members c w S value
 
--- So is each word of the allocation, where it is a member that has words to follow.
+-- So is each word of the allocation, if it is a member that has words to follow.
 abbrev pub words_are_into_members : Config → World → (ℕ → Bool) → ℕ → PlacedAllocation → Bool
 words_are_into_members c w S i a = not (not a.released && (not (storage_of c a).leaf && S i))
     || numbered_all (word_is_into_members c w S a) w.now.words.heap

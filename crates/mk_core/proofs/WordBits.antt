@@ -51,7 +51,7 @@ no_common n m k z h =
     let none : min (bit_at n k) (bit_at m k) ≡ 0 = sym (bit_at_and n m k) ∙ ap (λ x. bit_at x k) z ∙ bit_at-zero k in
     ne_eqb (bit_at m k) 1 (λ e. omega arith)
 
--- the bits that go, where some of a word's stay
+-- the bits that go, if some of a word's stay
 pub rest_is : (n m : ℕ) → bit_and n m ≡ n → m - n ≡ bit_xor m n
 rest_is n m sub = let sum : n + bit_xor m n ≡ m = sym (or_disjoint n (bit_xor m n) disjoint) ∙ whole in omega arith
   where
@@ -77,7 +77,7 @@ rest_is n m sub = let sum : n + bit_xor m n ≡ m = sym (or_disjoint n (bit_xor 
 pub rest_bits : (n m k : ℕ) → bit_and n m ≡ n → has_bit m k ≡ true → has_bit n k ≡ false → has_bit (m - n) k ≡ true
 rest_bits n m k sub h out = grind (arith, bit_is_one, bit_is_none, has_from, rest_is, bit_at_xor)
 
--- The bit that stands for a cell is its alone.
+-- No other cell has the bit that stands for a cell.
 pub bit_for_small : (k : ℕ) → k < 64 → bit_for k ≡ 2 ^ k
 bit_for_small k lt = let le : 2 ^ k ≤ 2 ^ 63 = pow_mono {i = k} {j = 63} (omega arith) in omega arith
 

@@ -66,7 +66,7 @@ abbrev pub seen_bit : Option Cell → ℕ
 seen_bit (Some cell) = bit_for cell.index
 seen_bit None = 0
 
--- the word, where the seat is number k among the callers or markers, f is its call and x what it is at as a marker
+-- the word, if the seat is number k among the callers or markers, f is its call and x what it is at as a marker
 abbrev pub word_reached : Config → ℕ → Flight → Marker → Step → TableWord
 word_reached c k f x (step.Enter o) = Named (word.Gate k)
 word_reached c k f x step.Leave = Named (word.Gate k)
@@ -109,7 +109,7 @@ word_reached c k f x step.Mmark = Named (word.Mark (seen_page (cell_seen c x.see
 word_reached c k f x step.Mblack = Named (word.Black (scan_page x.scan))
 word_reached c k f x step.Over = Named word.Phase
 
--- the access, where the seat takes the turn by this number and its New is so far
+-- the access, if the seat takes the turn by this number and its New is so far
 abbrev pub access_by : Config → ℕ → Flight → Placing → Marker → Step → Access
 access_by c n f placing x (step.Enter o) = Exchange 0 1
 access_by c n f placing x step.Leave = Store 0

@@ -11,7 +11,7 @@ abbrev pub is_some_and : {A : Type 0} → (A → Bool) → Option A → Bool
 is_some_and test (Some x) = test x
 is_some_and test None = false
 
--- Where it is there, the test holds of it.
+-- If there is a value, the test holds of it.
 abbrev pub is_none_or : {A : Type 0} → (A → Bool) → Option A → Bool
 is_none_or test (Some x) = test x
 is_none_or test None = true

@@ -10,7 +10,7 @@ use Rattle.mk_core.specs.{declared.seats.Flight.Flight, declared.seats.Progress.
 use Rattle.mk_never.specs.declared.operations.Op.TheVariants as op
 use Rattle.mk_core.specs.declared.events.Answer.TheVariants as answer
 
--- the registers q, p, r and d of an operation, its global, and its offset in words; 0 where it has none
+-- the registers q, p, r and d of an operation, its global, and its offset in words; 0 if it has none
 
 abbrev pub q_of : Op → ℕ
 q_of (op.GetNum q i) = q
@@ -167,7 +167,7 @@ value_written f _ = f.p
 abbrev pub onward : Flight → Option Answer → Progress
 onward f a = record { flight = record f { stage = stage_behind f.stage (steps_of f.op) }; answer = a }
 
--- nothing is decided, and the call stays where it is
+-- nothing is decided, and the call stays at its stage
 abbrev pub still : Flight → Progress
 still f = record { flight = f; answer = None }
 

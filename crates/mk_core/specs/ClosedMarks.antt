@@ -37,7 +37,7 @@ pub data IsGuarded (c : Config) (m : Moment) (n : ℕ) : Type 0 where
   PageIsDirty : slice_index m.words.dirty (n / 64) ≡ 1 → IsGuarded c m n
   DirtyIsOwed : (k : ℕ) → OwesDirty m k (n / 64) → IsGuarded c m n
 
--- Each word of a black cell is guarded, whatever stands there, but where its words aren't scanned.
+-- Each word of a black cell is guarded, whatever it holds, unless the words of the cell aren't scanned.
 abbrev pub BlackIsGuarded : Config → Moment → Type 0
 BlackIsGuarded c m =
     (p k i : ℕ) → k < cells_under (header_in m.words p) → has_bit (slice_index m.words.blacks p) k ≡ true

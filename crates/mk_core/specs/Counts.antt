@@ -33,7 +33,7 @@ pub record TalliesAreTidy (c : Config) (es : List Event) : Type 0 where
   pub released : (left c es).now.words.released ≡ in_a_word (releases (left c es).allocations)
   pub full : (left c es).now.words.full ≡ in_a_word (full_answers c es)
 
--- A list is tidy where they are so before each `give`.
+-- A list is tidy if they are so before each `give`.
 abbrev pub IsTidy : Config → List Event → Type 0
 IsTidy c es =
     (before : List Event) (e : Event) (behind : List Event)
@@ -49,7 +49,7 @@ abbrev pub decides_freed : Config → Moment → Flight → Step → Bool
 decides_freed c m f (step.Quar p v) = is_some (cell_freed c.pages m.words f p v)
 decides_freed c m f _ = false
 
--- A free is due where more than a quarter of the held words is fresh after the event that decides it.
+-- A free is due if more than a quarter of the held words is fresh after the event that decides it.
 pub record IsDue (c : Config) (es : List Event) (e : Event) : Type 0 where
   pub decides : decides_freed c (left c es).now (flight_of (left c es).now e.seat) e.step ≡ true
   pub quarter : held_by_allocations c (left c (es ++ e ∷ [])).allocations < 4 * fresh_words_of c

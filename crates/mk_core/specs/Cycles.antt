@@ -92,7 +92,7 @@ pub record TurnOf (c : Config) (s : Seat) (es : List Event) : Type 0 where
   pub took : (left c before).now.words.turn ≡ 0
   pub goes_on : list_any (λ (e : Event). is_same_seat s e.seat && is_give e.step) behind ≡ false
 
--- A cycle is begun in a call where its `begin` stands after the call's `take`, and ended in it likewise.
+-- A cycle is begun in a call if its `begin` comes after the call's `take`, and ended in it likewise.
 abbrev pub BeginsIn : {c : Config} {s : Seat} {es : List Event} → TurnOf c s es → Type 0
 BeginsIn t = At is_begin t.behind
 

@@ -37,7 +37,7 @@ begins_where_free f o found = if found == 0 then record { flight = begun o; answ
 abbrev pub progress_probe : Flight → ℕ → Progress
 progress_probe f header = if is_unmapped_header (header_of header) then refused f answer.Fault else onward f None
 
--- a look at the quarantine word of an undecided Free's target, where it is freed already
+-- a look at the quarantine word of an undecided Free's target, if it is freed already
 abbrev pub sees_double : Words → Option Cell → Word → Bool
 sees_double w cell (word.Quar p) = is_some_and (λ (x : Cell). (p == x.page) && is_freed w x) cell
 sees_double w cell _ = false
@@ -49,7 +49,7 @@ abbrev pub progress_freed : Flight → Option Cell → Progress
 progress_freed f (Some cell) = decided f answer.Done
 progress_freed f None = still f
 
--- A step of a caller whose call is f, where its access finds this word.
+-- A step of a caller whose call is f, if its access finds this word.
 abbrev pub progress : Config → Moment → Flight → ℕ → Step → Progress
 progress c m f found (step.Enter o) = begins_where_free f o found
 progress c m f found step.Leave = record { flight = at_rest; answer = None }
@@ -79,7 +79,7 @@ abbrev pub is_mapped_cell : Words → Placing → Cell → Bool
 is_mapped_cell w placing cell =
     is_used w cell && not (heads_run (header_in w cell.page) && is_freed w cell) && not (is_ungranted placing cell)
 
--- A heap word of a cell that is scanned gives a hand where the cell is marked, or, in the stop, belongs to a mapped
+-- A heap word of a cell that is scanned gives a hand if the cell is marked, or, in the stop, if it belongs to a mapped
 -- allocation.
 abbrev pub hand_of_cell : Words → Bool → Placing → Cell → ℕ → Option Hand
 hand_of_cell w in_stop placing cell value =
@@ -118,7 +118,7 @@ abbrev pub cycle_ended : OwnCycle → OwnCycle
 cycle_ended Begun = Ended
 cycle_ended cycle = cycle
 
--- What the holder of the turn has done after its step; a seat that doesn't hold it leaves that alone.
+-- What the holder of the turn has done after its step; a seat that doesn't hold it changes nothing of that.
 abbrev pub holding_behind : Config → Moment → Seat → Flight → ℕ → Step → Holding → Holding
 holding_behind c m s f found (step.Take o) h = if found == 0 then nothing_done else h
 holding_behind c m s f found step.Give h = nothing_done
@@ -145,7 +145,7 @@ holding_behind c m s f found _ h = h
 abbrev pub open_hand : Config → ℕ → Option ℕ
 open_hand c value = if is_heap_address c.pages value then Some value else None
 
--- The open hand is closed where the header of its page shows nothing there.
+-- The open hand is closed if the header of its page shows nothing there.
 abbrev pub hand_behind_look : Config → ℕ → ℕ → Option ℕ → Option ℕ
 hand_behind_look c page header None = None
 hand_behind_look c page header (Some value) =
@@ -156,7 +156,7 @@ behind_mlook c found (word.Head p) x =
     record x { hand = hand_behind_look c p found x.hand; seen = Some (record { page = p; header = found }) }
 behind_mlook c found _ x = record x { seen = None }
 
--- the scan of a cell under the header that was seen: no word of it, where it isn't scanned
+-- the scan of a cell under the header that was seen, with no word to load if the cell isn't scanned
 abbrev pub scan_begun : ℕ → ℕ → ℕ → Scan
 scan_begun page index header =
     record {
@@ -202,7 +202,7 @@ fresh_behind c m f (step.Quar p v) = min (m.fresh_words + words_freed m.words (c
 fresh_behind c m f step.Begin = 0
 fresh_behind c m f _ = m.fresh_words
 
--- A step of a caller's changes its own call alone, and one of a marker's what this marker is at.
+-- A step of a caller changes only its own call, and one of a marker only what this marker is at.
 abbrev pub flights_behind : Config → Moment → Seat → ℕ → Step → List Flight
 flights_behind c m (seat.Caller k) found s =
     slice_set m.seats.flights k (progress c m (flight_of m (seat.Caller k)) found s).flight

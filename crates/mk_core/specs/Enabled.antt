@@ -55,7 +55,7 @@ marker_may c x (step.Black p v) = true
 marker_may c x (step.Unblack p) = true
 marker_may c x step.Over = true
 
--- condition 7 for the kinds of the turn's holder, where its call is f
+-- condition 7 for the kinds of the turn's holder, if its call is f
 abbrev pub holder_may : Config → Moment → Flight → Step → Bool
 holder_may c m f step.Give = may_give m f
 holder_may c m f (step.Head p v) = may_head c m f p v
@@ -114,7 +114,7 @@ failing_in_order c m e =
     else 5)
     else 4
 
--- The first condition that fails, or 0 where none does.
+-- The first condition that fails, or 0 if none fails.
 abbrev pub failing : Config → Moment → Event → ℕ
 failing c m e =
     if seat_exists c e.seat

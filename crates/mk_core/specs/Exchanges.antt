@@ -8,8 +8,8 @@ use Rattle.mk_never.specs.declared.operations.Op.TheVariants as op
 use Rattle.mk_core.specs.declared.events.Answer.TheVariants as answer
 use Rattle.mk_core.specs.declared.events.Step.TheVariants as step
 
--- Register q leads to a word of an allocation, and the answer is 1 exactly where the values of that word and of
--- register p are equal.
+-- Register q leads to a word of an allocation, and the answer is 1 exactly if the values of that word and of register p
+-- are equal.
 pub record ComparesValues (c : Config) (es : List Event) (k q i p : ℕ) : Type 0 where
   pub number : ℕ
   pub place : ℕ

@@ -129,7 +129,7 @@ pub record ScanIsLeft (w v : World) : Type 0 where
   pub marks : OnlyGrow w.now.words.marks v.now.words.marks
   pub blacks : OnlyGrow w.now.words.blacks v.now.words.blacks
 
--- The frame law of lists that are enabled alone.
+-- The frame law of lists of which no more is asked than that they are enabled.
 pub record IsLeft (c : Config) (s : Seat) (es fs : List Event) : Type 0 where
   pub own : OwnIsLeft c s (left c es) (left c fs)
   pub in_call : (k : ℕ) → s ≡ Caller k → IsInCall (left c es).now s → CallIsLeft (left c es) (left c fs) k
@@ -144,8 +144,8 @@ OthersLeave =
     → AreOfOthers (s ∷ []) more
     → IsLeft c s es (es ++ more)
 
--- What needs admitted calls besides. The allocations to which a caller's registers lead stay unreleased, and mapped
--- where they are, while it is in a call.
+-- What also needs admitted calls. The allocations to which a caller's registers lead stay unreleased while it is in a
+-- call, and mapped if they are.
 pub record TargetsAreLeft (c : Config) (es fs : List Event) (k : ℕ) : Type 0 where
   pub unreleased : (r a : ℕ) → r < 8 → LeadsTo (register_at (never_behind c es) k r) a
       → (placed_at (left c fs).allocations a).released ≡ false

@@ -18,7 +18,7 @@ unfoldable pub AreOfOthers : List Seat → List Event → Type 0
 AreOfOthers seats [] = ⊤
 AreOfOthers seats (e ∷ es) = (is_one_of seats e.seat ≡ false) × AreOfOthers seats es
 
--- A list begins with what was seen, and goes on with events of other seats alone.
+-- A list begins with what was seen, and goes on only with events of other seats.
 pub record Grows (seats : List Seat) (seen es : List Event) : Type 0 where
   pub more : List Event
   pub is : es ≡ seen ++ more

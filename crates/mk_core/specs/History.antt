@@ -70,7 +70,7 @@ IsEnabledBehind c es e = IsEnabled c (left c es).now e
 abbrev pub IsAdmittedBehind : Config → List Event → Event → Type 0
 IsAdmittedBehind c es e = CallsAreAdmitted c (es ++ e ∷ [])
 
--- where each allocation stands: the first heap word, whose address its grant stored
+-- where each allocation is: its first heap word, whose address its grant stored
 abbrev pub bases_of : List PlacedAllocation → List ℕ
 bases_of xs = map (λ (a : PlacedAllocation). a.base) xs
 

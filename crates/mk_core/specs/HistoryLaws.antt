@@ -36,7 +36,7 @@ CallsAreAdmittedInParts c es more =
 abbrev pub EarlierPartIsHistory : Config → List Event → List Event → Type 0
 EarlierPartIsHistory c es more = IsHistory c (es ++ more) → IsHistory c es
 
--- A word has a bit that another hasn't exactly where it has the bit and the other hasn't.
+-- A bit is in what is left of a word without another exactly if the word has it and the other hasn't.
 abbrev pub BitsWithout : Type 0
 BitsWithout = (word other k : ℕ) → has_bit (without word other) k ≡ (has_bit word k && not (has_bit other k))
 

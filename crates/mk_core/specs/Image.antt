@@ -1,4 +1,4 @@
--- The image of a reply of the heap that never reuses storage: the same reply in words.
+-- The image of a reply of the heap that never reuses storage: that reply with a word in place of each value.
 use Rattle.std.specs.Prelude.{ℕ, ◌+◌, List, map, slice_index}
 use Rattle.mk_geom.specs.Addresses.{address_of}
 use Rattle.mk_never.specs.{declared.values.Value.Value, declared.values.Value.TheVariants.{Null, Num, Ptr}}
@@ -8,7 +8,7 @@ use Rattle.mk_never.specs.declared.operations.Reply.TheVariants.{Done, Num as Nu
 use Rattle.mk_core.specs.declared.events.Answer.TheVariants.{Done as IsDone, Num as IsNumber, Word, Full as IsFull}
 use Rattle.mk_core.specs.declared.events.Answer.TheVariants.{Fault as IsFault, Null as IsNull, Double as IsDouble}
 
--- a value as a word, where allocation a stands from heap word (slice_index bases a) on
+-- a value as a word, if allocation a begins at heap word (slice_index bases a)
 abbrev pub image_of : List ℕ → Value → ℕ
 image_of bases Null = 0
 image_of bases (Num n) = n

@@ -34,8 +34,8 @@ pub data ShowsPart (o : Object) (distance : ℕ) : Option Header → Type 0 wher
   OfLater : (mapped : Bool) → 1 ≤ distance → is_small_object o ≡ false
       → ShowsPart o distance (Some (Later distance mapped))
 
--- The header word is the one that this page gets with the object, or, where the object has a run, gets as it is
--- unmapped.
+-- The header word is the one that this page gets with the object, or, if the object has a run, the one that it gets as
+-- the run is unmapped.
 abbrev pub IsHeaderOf : Object → ℕ → ℕ → Type 0
 IsHeaderOf o distance header =
     (header ≡ header_made o distance)

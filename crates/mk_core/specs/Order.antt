@@ -102,7 +102,7 @@ comes_next stage.Turn o s = may_decide_new o s
 comes_next stage.Give o s = is_of_any_holder s
 comes_next _ _ _ = false
 
--- The host takes the turn where it hasn't it, with no operation. Whether it may say `over` is asked last.
+-- The host takes the turn if it hasn't it, with no operation. Whether it may say `over` is asked last.
 abbrev pub comes_next_to_host : Bool → Step → Bool
 comes_next_to_host has_turn (step.Take None) = not has_turn
 comes_next_to_host has_turn step.Over = true

@@ -57,7 +57,7 @@ GrantsStandAtTheirPlaces c es =
     (before : List Event) (e : Event) (behind : List Event) → es ≡ before ++ e ∷ behind → e.step ≡ step.Grant
     → StandsAtItsPlace c before e.seat
 
--- A Full stands only where nothing fits, after a cycle that was begun and ended in its call.
+-- A Full comes only if nothing fits, after a cycle that was begun and ended in its call.
 pub record FindsNoPlace (c : Config) (es : List Event) (s : Seat) : Type 0 where
   pub turn : TurnOf c s es
   pub cycle : BeginsAndEndsIn turn

@@ -30,7 +30,8 @@ is_word c word.Full = true
 abbrev pub is_other_caller : Config → Seat → ℕ → Bool
 is_other_caller c seat j = nat_lt j c.callers && not (is_number_of seat j)
 
--- The word that a call accesses is one of the heap. It is at its `probe`, and then stays the same.
+-- The word that a call accesses is one of the heap. It is so at the `probe`, and no later step changes which word it
+-- is.
 abbrev pub is_word_met : Config → Flight → Bool
 is_word_met c f = nat_le 65536 f.q && nat_lt (word_met f) (64 * c.pages)
 
@@ -146,7 +147,7 @@ has_gates c w seat f step.Mmark = true
 has_gates c w seat f step.Mblack = true
 has_gates c w seat f step.Over = true
 
--- condition 6, of the phase; where it goes by case, it is one that a case names
+-- condition 6, of the phase; if a kind has several cases, it is a phase that one of them names
 abbrev pub has_phase : ℕ → Step → Bool
 has_phase n step.Give = (n == 0) || (n == 1) || (n == 5)
 has_phase n (step.Head p v) = (n == 0) || (n == 1) || (n == 4)

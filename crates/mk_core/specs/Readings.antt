@@ -25,7 +25,7 @@ is_in_call f = not (is_idle f.stage) && not (is_under_turn f.op)
 abbrev pub is_in_turn : Flight → Bool
 is_in_turn f = not (is_idle f.stage) && is_under_turn f.op
 
--- The seat holds the turn: a caller in a New or a Free, and the host where no caller does and the turn word isn't 0.
+-- The seat holds the turn: a caller in a New or a Free, and the host if no caller does and the turn word isn't 0.
 abbrev pub Holds : Config → Moment → Seat → Type 0
 Holds c m (Caller k) = (k < c.callers) × (is_in_turn (flight_of m (Caller k)) ≡ true)
 Holds c m (Marker k) = ⊥
@@ -100,6 +100,6 @@ SnapshotsTell c es =
     (begin : At is_begin es) → list_any (λ (e : Event). is_begin e.step || is_release e.step) begin.behind ≡ false
     → SnapshotTells c begin
 
--- What the tallies tell where nobody holds the turn: the counts.
+-- What the tallies tell while nobody holds the turn: the counts.
 abbrev pub TalliesTell : Config → List Event → Type 0
 TalliesTell c es = (left c es).now.words.turn ≡ 0 → TalliesAreExact c es × (IsTidy c es → TalliesAreTidy c es)

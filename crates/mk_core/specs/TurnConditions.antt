@@ -21,7 +21,7 @@ place_now c m f =
     if is_undecided_new f then place_by_placing c.resident m.words.pages
     (object_made c f.op) m.seats.holding.placing else None
 
--- Where the phase is marking, the cells that a header makes are marked before it is stored.
+-- If the phase is marking, the cells that a header makes are marked before it is stored.
 abbrev pub is_marked_first : Words → Object → Place → Bool
 is_marked_first w o place =
     not (is_phase w 1) || (without (bits_made o) (slice_index w.marks place.page) == 0)

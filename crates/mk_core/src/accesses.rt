@@ -9,12 +9,12 @@ pub enum TableWord {
     Named(Word),
 }
 
-/// How a word is accessed. Each is one sequentially consistent step.
+/// How a word is accessed. Each access is one sequentially consistent step.
 #[derive(Clone, Copy)]
 pub enum Access {
     Load,
     Store(u64),
-    /// Stores `new` where it finds `old`.
+    /// Stores `new` if it finds `old`.
     Exchange { old: u64, new: u64 },
     Or(u64),
     Add(u64),

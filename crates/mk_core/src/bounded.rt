@@ -2,7 +2,7 @@
 ghost use Rattle.std.specs.Prelude.{◌≡◌, ℕ, Bool, ◌<◌};
 ghost use Rattle.mk_core.specs.Bounded.{all_below};
 
-/// Whether the test holds of each number below this one.
+/// Whether the test holds of each number below `count`.
 #[tactic(auto, using(crate::proofs::AllBelow::all_below_facts))]
 pub(crate) fn all_below<F: Fn(u64) -> bool>(count: u64, test: F) -> bool
     requires { F.IsAlwaysCallable test }

@@ -73,7 +73,7 @@ pub(crate) fn global_of(op: Op) -> u8
     }
 }
 
-/// The words between the one that the register points to and the one that is meant.
+/// How many words after the one that the register points to the operation's word is.
 pub(crate) fn offset_of(op: Op) -> u64
     ensures { result ≡ i_of op }
 {
@@ -88,14 +88,14 @@ pub(crate) fn offset_of(op: Op) -> u64
     }
 }
 
-/// Whether a call of the operation begins with `take`, and else with `enter`.
+/// Whether a call of the operation begins with `take`. Others begin with `enter`.
 pub(crate) fn is_under_turn(op: Op) -> bool
     ensures { result ≡ is_under_turn op }
 {
     matches!(op, Op::New { .. } | Op::Free { .. })
 }
 
-/// The steps of a call after that one, in order.
+/// The steps of a call after the one that begins it, in order.
 fn steps_of(op: Op) -> &'static [Stage]
     ensures { result.now ≡ steps_of op }
 {
@@ -120,14 +120,14 @@ fn steps_of(op: Op) -> &'static [Stage]
     }
 }
 
-/// The first of the steps, where there is one.
+/// The first of the steps; `Idle` if there is none.
 fn first_of(steps: &[Stage]) -> Stage
     ensures { result ≡ first_of steps.now }
 {
     steps.first().copied().unwrap_or(Stage::Idle)
 }
 
-/// The stage after this one among the steps.
+/// The stage after this one among the steps; `Idle` after the last.
 fn behind(stage: Stage, steps: &[Stage]) -> Stage
     ensures { result ≡ stage_behind stage steps.now }
 {
@@ -174,7 +174,7 @@ pub(crate) fn begun(op: Op) -> Flight
     }
 }
 
-/// The heap word that an access meets. It may be none of the heap.
+/// The number of the heap word that an access meets. The heap may have no such word.
 pub(crate) fn word_met(flight: Flight) -> u128
     ensures { result ≡ word_met flight }
 {
@@ -219,7 +219,7 @@ pub(crate) fn onward(flight: Flight, answer: Option<Answer>) -> Progress
     }
 }
 
-/// Nothing is decided, and the call stays where it is.
+/// A call after a step that decides nothing and leaves it at its stage.
 pub(crate) fn still(flight: Flight) -> Progress
     ensures { result ≡ still flight }
 {
@@ -255,7 +255,7 @@ fn progress_q(flight: Flight, found: u64) -> Progress
     }
 }
 
-/// `reg` that loads p.
+/// `reg` that loads p and finds this value.
 fn progress_p(flight: Flight, found: u64) -> Progress
     ensures { result ≡ progress_p flight flight.op found }
 {
@@ -293,7 +293,7 @@ pub(crate) fn progress_reg(flight: Flight, found: u64) -> Progress
     }
 }
 
-/// `read`: a number is the answer, and a pointer is put into d besides.
+/// `read`: the value is the answer, and a pointer is put into d as well.
 pub(crate) fn progress_read(flight: Flight, found: u64) -> Progress
     ensures { result ≡ progress_read flight flight.op found }
 {
@@ -321,7 +321,7 @@ pub(crate) fn progress_getg(flight: Flight, found: u64) -> Progress
 }
 
 impl Core {
-    /// Whether the type of a `New` is there.
+    /// Whether the configuration has the type of a `New`.
     fn has_type(&self, op: Op) -> bool
         ensures { result ≡ has_type self.now.config op }
     {
@@ -331,7 +331,7 @@ impl Core {
         }
     }
 
-    /// Whether the registers, the global and the type of an operation are there.
+    /// Whether the configuration has the registers, the global and the type of an operation.
     pub(crate) fn has_operands(&self, op: Op) -> bool
         ensures { result ≡ has_operands self.now.config op }
     {

@@ -24,7 +24,7 @@ pub fn bit(index: u64) -> u64
     1 << index
 }
 
-/// The bit of a word that stands for a cell; none for a cell that no word has a bit for.
+/// The bit of a word that stands for a cell; none if a word has no bit for it.
 pub(crate) fn word_bit(index: u64) -> Option<u64>
     ensures some { IfSome result (λ bit. bit ≡ 2 ^ index) }
     ensures none { IfNone result (64 ≤ index) }
@@ -32,7 +32,7 @@ pub(crate) fn word_bit(index: u64) -> Option<u64>
     (index < 64).then(|| 1 << index)
 }
 
-/// The bit that stands for a cell, or 0 where a word has none for it.
+/// The bit of a word that stands for a cell; 0 if a word has no bit for it.
 pub fn bit_for(index: u64) -> u64
     ensures { result ≡ bit_for index }
 {
@@ -74,7 +74,7 @@ pub fn without(word: u64, other: u64) -> u64
     word - (word & other)
 }
 
-/// How many cells there are under a header word; a run is one, at its head page.
+/// How many cells a page of this header word has. A run is one cell, at its head page.
 pub fn cells_under(header: u64) -> u64
     ensures exact { result ≡ cells_under (header_of header) }
     ensures few { result ≤ 32 }
@@ -86,7 +86,7 @@ pub fn cells_under(header: u64) -> u64
     }
 }
 
-/// The words of one of them.
+/// How many words each of these cells has.
 pub fn words_under(header: u64) -> u64
     ensures exact { result ≡ words_under (header_of header) }
     ensures few { result ≤ 4096 }
@@ -98,7 +98,7 @@ pub fn words_under(header: u64) -> u64
     }
 }
 
-/// The run that has its head at a page of this header word.
+/// The run that has its head at this page, by the page's header word.
 pub(crate) fn run_headed(header: u64, page: u64) -> Option<RunPages>
     ensures { result ≡ run_headed (header_of header) page }
 {
@@ -120,8 +120,8 @@ pub(crate) fn heads_run(header: u64) -> bool
     )
 }
 
-/// Whether the words of a cell under the header aren't scanned: those of a leaf object, and of an
-/// unmapped run.
+/// Whether the words of a cell under the header word aren't scanned, as it is with a leaf object and with an unmapped
+/// run.
 pub fn has_no_pointers(header: u64) -> bool
     ensures { result ≡ has_no_pointers (header_of header) }
 {
@@ -154,21 +154,21 @@ impl Table {
         self.page(page as u128).used
     }
 
-    /// The head page of a page's run; another page is its own.
+    /// The head page of a page's run. A page of no run is its own head page.
     pub(crate) fn head_page(&self, page: u64) -> u64
         ensures { result ≡ head_page self.now page }
     {
         head_page_under(self.header(page), page)
     }
 
-    /// The bits of a page's cells.
+    /// The bits that stand for the cells of a page, all of them.
     pub(crate) fn cell_bits(&self, page: u64) -> u64
         ensures { result ≡ cell_bits self.now page }
     {
         (1 << cells_under(self.header(page))) - 1
     }
 
-    /// The first heap word of a cell.
+    /// The number of the first heap word of a cell.
     pub(crate) fn first_word(&self, cell: Cell) -> u128
         ensures { result ≡ first_word self.now cell }
     {
@@ -176,7 +176,7 @@ impl Table {
         PAGE_WORDS as u128 * cell.page as u128 + cell.index as u128 * words as u128
     }
 
-    /// The words of a cell.
+    /// How many words a cell has.
     pub(crate) fn cell_words(&self, cell: Cell) -> u64
         ensures exact { result ≡ cell_words self.now cell }
         ensures few { result ≤ 4096 }

@@ -22,7 +22,7 @@ impl Model for GlobalTable {
 }
 
 impl GlobalTable {
-    /// No globals. The allocator is kept for `add`; no memory is taken.
+    /// A table without globals. The allocator is kept for `add`; no memory is taken.
     pub fn new(alloc: Global) -> GlobalTable
         ensures { result ≡ [] }
     {
@@ -58,8 +58,8 @@ impl GlobalTable {
     }
 }
 
-/// What a heap is started with: pages of 64 words and how many of them may be resident, the count of
-/// its callers and of the threads that mark, and the types and globals of its program.
+/// What a heap is started with: how many pages of 64 words it has, how many of them may be resident, how many callers
+/// and how many threads that mark there are, and the types and globals of its program.
 #[derive(Drop)]
 pub struct Config {
     pub pages: u64,

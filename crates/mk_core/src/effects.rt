@@ -23,7 +23,7 @@ use crate::{
 use mk_geom::{Cell, Place, is_unmapped};
 use mk_never::Op;
 
-/// A decided answer, after which `give` comes.
+/// A call that is decided by this answer, and goes on up to its `give`.
 fn decided(flight: Flight, answer: Answer) -> Progress
     ensures { result ≡ decided flight answer }
 {
@@ -36,7 +36,7 @@ fn decided(flight: Flight, answer: Answer) -> Progress
     }
 }
 
-/// A call begins where its gate or the turn is found 0.
+/// A call begins if its gate, or the turn, is found 0.
 fn begun_where_free(flight: Flight, op: Op, found: u64) -> Progress
     ensures { result ≡ begins_where_free flight op found }
 {
@@ -61,7 +61,7 @@ fn progress_probe(flight: Flight, header: u64) -> Progress
     }
 }
 
-/// The first step that serves the new object fixes its place.
+/// How far a place is after a step that serves the new object: the first such step fixes it.
 fn chosen(placing: Placing, place: Option<Place>) -> Placing
     ensures { result ≡ chosen placing place }
 {
@@ -80,7 +80,7 @@ fn taken(placing: Placing, place: Option<Place>) -> Placing
     }
 }
 
-/// Whether a `New` has taken the cell and isn't granted yet.
+/// Whether a `New` has taken the cell, and its object isn't granted yet.
 fn is_ungranted(placing: Placing, cell: Cell) -> bool
     ensures { result ≡ is_ungranted placing cell }
 {
@@ -100,7 +100,7 @@ fn cycle_ended(cycle: OwnCycle) -> OwnCycle
 }
 
 impl Core {
-    /// What a step makes of a caller's call, where its access finds this word.
+    /// What a step makes of a caller's call, when its access finds this word.
     pub(crate) fn progress(&self, flight: Flight, found: u64, step: Step) -> Progress
         ensures { result ≡ progress self.now.config self.now.now flight found step }
     {
@@ -146,7 +146,7 @@ impl Core {
         }
     }
 
-    /// `quar`, which decides a `Free` where it frees its target.
+    /// `quar`, which decides a `Free` if it frees the target.
     fn progress_quarantine(&self, flight: Flight, page: u64, value: u64) -> Progress
         ensures { result ≡ progress_freed flight
             (cell_freed self.now.config.pages self.now.now.words flight page value) }
@@ -213,8 +213,8 @@ impl Core {
         self.table.is_at(Phase::Wanted) && self.others_are_held(seat)
     }
 
-    /// The hand that a heap word of a scanned cell gives: where the cell is marked, or belongs to a mapped
-    /// allocation in the stop.
+    /// The hand that a heap word of a scanned cell gives. It gives one if the cell is marked, or, in the stop, if it
+    /// belongs to a mapped allocation.
     fn hand_of_cell(&self, in_stop: bool, cell: Cell, value: u64) -> Option<Hand>
         ensures { result ≡ hand_of_cell self.now.now.words in_stop self.now.now.seats.holding.placing cell value }
     {
@@ -252,7 +252,8 @@ impl Core {
         }
     }
 
-    /// How far a place is after a step that makes this of it. In a cycle's release the step serves no object.
+    /// How far a place is after a step that may make this of it. While the phase is releasing the step serves no
+    /// object, and leaves the place as it is.
     fn placing_served(&self, served: Placing) -> Placing
         ensures { result ≡ (if is_phase self.now.now.words 4 then self.now.now.seats.holding.placing else served) }
     {
@@ -263,7 +264,7 @@ impl Core {
         }
     }
 
-    /// The place of the object that a `mark` may serve.
+    /// How far a place is after a `mark`, which may serve the new object.
     fn placing_marked(&self, flight: Flight, page: u64, value: u64) -> Placing
         ensures { result ≡ (if marks_place self.now.now.words (object_made self.now.config flight.op)
             (place_now self.now.config self.now.now flight) page value then chosen self.now.now.seats.holding.placing
@@ -295,8 +296,8 @@ impl Core {
         marker_behind(&self.config, found, step, self.marker(number))
     }
 
-    /// The storage that an object freed by a `quar` leaves: that of a small one, since a run is no longer
-    /// mapped.
+    /// How many words of storage an object leaves that a `quar` frees: those of a small object's cell, and none of a
+    /// run, which is no longer mapped.
     fn words_freed(&self, cell: Option<Cell>) -> u64
         ensures { result ≡ words_freed self.now.now.words cell }
     {
@@ -308,7 +309,7 @@ impl Core {
         }
     }
 
-    /// The count of fresh words after a step. It stands still at the greatest number.
+    /// How many words are fresh after a step. The count stops at 2^64 - 1.
     pub(crate) fn fresh_behind(&self, flight: Flight, step: Step) -> u64
         ensures { result ≡ fresh_behind self.now.config self.now.now flight step }
     {

@@ -55,7 +55,7 @@ pub enum Step {
     Cas,
     Getg,
     Setg,
-    /// The host's carries no operation.
+    /// A caller's `take` has its operation, and the host's has none.
     Take(Option<Op>),
     Give,
     Look(Word),
@@ -96,7 +96,7 @@ pub struct Event {
     pub step: Step,
 }
 
-/// The image of a reply, in words: a pointer is its address, and null is 0.
+/// What a caller is told: the image of a reply. A pointer is its address, and null is 0.
 #[derive(Clone, Copy, Debug, PartialEq, Eq)]
 pub enum Answer {
     Done,
@@ -115,8 +115,7 @@ pub struct NotEnabled {
     pub condition: u64,
 }
 
-/// The seats that a kind of step is open to: callers in a call, the holder of the turn, markers, or the
-/// host alone.
+/// The seats that a kind of step is open to: callers in a call, the holder of the turn, markers, or only the host.
 #[derive(Clone, Copy)]
 pub enum Group {
     Callers,

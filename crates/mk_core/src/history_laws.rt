@@ -1,4 +1,4 @@
-//! Laws of histories: facts alone, with no code.
+//! Laws of histories: facts only, with no code.
 ghost use Rattle.std.specs.Prelude.{ℕ, Bool, List};
 ghost use Rattle.mk_core.specs.{declared.config.Config.Config, Enabled.EnabledEventsMeetAll};
 ghost use Rattle.mk_core.specs.HistoryLaws.{LeftInParts, EnabledInParts, CallsInParts, NeverInParts};
@@ -8,8 +8,8 @@ ghost use Rattle.mk_core.specs.Touched.{TouchedIsClosed, TouchedIsLeast};
 
 use crate::Event;
 
-/// What a list of events leaves, decides and asks for is what its earlier part does, and then its later part
-/// after that. The earlier part of a history is a history.
+/// A list of events leaves, decides and asks for what its earlier part does, and then its later part after that. The
+/// earlier part of a history is a history.
 
 #[tactic(auto, using(crate::proofs::HistoryParts::histories_are_of_two_parts_facts))]
 pub fn histories_are_of_two_parts()
@@ -22,7 +22,7 @@ pub fn histories_are_of_two_parts()
     ensures earlier { (c : Config) (es more : List Event) → EarlierPartIsHistory c es more }
 {}
 
-/// An event is enabled exactly where it meets each condition.
+/// An event is enabled exactly if it meets each condition.
 #[tactic(auto, using(crate::proofs::Conditions::enabled_events_meet_all))]
 pub fn enabled_events_meet_all_conditions()
     ensures { EnabledEventsMeetAll }

@@ -1,10 +1,10 @@
-//! Laws of the words of the table: facts alone, with no code.
+//! Laws of the words of the table: facts only, with no code.
 ghost use Rattle.mk_core.specs.Layout.{NamesAreApart, IndexesAreOfTheTable, WordsStandAtTheirIndexes};
 ghost use Rattle.mk_core.specs.Layout.{ChangesStandAtTheirIndexes, RegionsKeepTheirLengths, ListHasAllWords};
 ghost use Rattle.mk_core.specs.Layout.{FirstWordsAreZero, AccessesStandAtTheirIndexes, LineGroupsAreApart};
 
-/// Each word of the table has an index of its own. The words as one list have each at its index, and a
-/// change of a word is a change there alone.
+/// Each word of the table has an index of its own. In the list of all words each is at its index, and a change of a
+/// word changes only that place.
 #[tactic(auto, using(crate::proofs::RegionLemmas::words_have_indexes_of_their_own_facts))]
 pub fn words_have_indexes_of_their_own()
     ensures apart { NamesAreApart }
@@ -14,8 +14,8 @@ pub fn words_have_indexes_of_their_own()
     ensures lengths { RegionsKeepTheirLengths }
 {}
 
-/// The words as one list are as many as the table's, the first are all 0, and an access changes its word
-/// there as it changes a word of the table.
+/// The list of all words is as long as the table. At first all are 0. An access changes its word there as it changes a
+/// word of the table.
 #[tactic(auto, using(crate::proofs::RegionLemmas::words_are_one_list_facts))]
 pub fn words_are_one_list()
     ensures count { ListHasAllWords }
@@ -23,7 +23,7 @@ pub fn words_are_one_list()
     ensures accesses { AccessesStandAtTheirIndexes }
 {}
 
-/// Words that different threads store to share no cache line.
+/// Words of two groups, which different threads store to, have indexes that differ by 8 at least.
 #[tactic(auto, using(crate::proofs::LayoutLemmas::groups_apart))]
 pub fn line_groups_stand_apart()
     ensures { LineGroupsAreApart }

@@ -37,7 +37,7 @@ impl Model for Core {
     ghost invariant = { λ c. IsWithinLimits c.config };
 }
 
-/// No call.
+/// What a caller is at that is in no call.
 pub(crate) const AT_REST: Flight = Flight {
     stage: Stage::Idle,
     op: Op::IsNull { p: 0 },
@@ -55,7 +55,7 @@ pub(crate) const OUTSIDE: Marker = Marker {
     seen: None,
 };
 
-/// What a seat that has just taken the turn has done.
+/// What a seat has done that has just taken the turn.
 pub(crate) const NOTHING_DONE: Holding = Holding {
     hand: None,
     placing: Placing::Unplaced,
@@ -71,7 +71,7 @@ impl Core {
         let _config = &self.config;
     }
 
-    /// The call of a seat; a host and a marker have none.
+    /// The call of a caller; the host and markers are in no call.
     pub(crate) fn flight(&self, seat: Seat) -> Flight
         ensures { result ≡ flight_of self.now.now seat }
     {

@@ -48,7 +48,7 @@ pub(crate) fn is_open_to(seat: Seat, group: Group) -> bool
     )
 }
 
-/// Whether whoever holds the turn may make the step, whatever it holds the turn for.
+/// Whether any holder of the turn may make the step, whatever it holds the turn for.
 fn is_of_any_holder(step: Step) -> bool
     ensures { result ≡ is_of_any_holder step }
 {
@@ -58,7 +58,7 @@ fn is_of_any_holder(step: Step) -> bool
     }
 }
 
-/// Whether the step is one under the turn of a call that isn't decided.
+/// Whether a call under the turn that isn't decided may make the step.
 fn may_decide(op: Op, step: Step) -> bool
     ensures { result ≡ may_decide_new op step }
 {
@@ -90,7 +90,7 @@ fn comes_next(stage: Stage, op: Op, step: Step) -> bool
     }
 }
 
-/// Whether the step is one that the host may make, where it has the turn or hasn't.
+/// Whether the host may make the step next, by whether it has the turn.
 fn comes_next_to_host(has_turn: bool, step: Step) -> bool
     ensures { result ≡ comes_next_to_host has_turn step }
 {
@@ -119,7 +119,7 @@ impl Core {
         self.table.turn() == 1 + self.config.callers
     }
 
-    /// Whether the event comes next in the order of its seat; a marker has none.
+    /// Whether the event comes next in the order of its seat. Markers have no order.
     pub(crate) fn is_in_order(&self, event: Event) -> bool
         ensures { result ≡ is_in_order self.now.config self.now.now event.seat event.step }
     {

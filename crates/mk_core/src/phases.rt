@@ -3,10 +3,10 @@
 ghost use Rattle.std.specs.Prelude.{◌≡◌, ◌==◌, ◌%◌, ◌/◌};
 ghost use Rattle.mk_core.specs.Phases.{phase_number};
 
-/// How many phase words there are with the same count of markers.
+/// How many phase words there are for each count of markers.
 const PHASES: u64 = 8;
 
-/// What a heap is at: none of a cycle, one of a cycle's four phases, or past all cycles.
+/// What a heap is at: in no cycle, in one of a cycle's four phases, or past all cycles.
 #[derive(Clone, Copy)]
 pub enum Phase {
     None,

@@ -25,7 +25,7 @@ pub(crate) enum PageHeaders {
 }
 
 impl PageHeaders {
-    /// That of the page so far after the first.
+    /// The header word of the page that is so many pages after the first.
     fn word(self, distance: u64) -> u128
         ensures { result ≡ header_wanted self distance }
     {
@@ -63,7 +63,8 @@ pub(crate) fn pages_made(object: Object) -> u64
     }
 }
 
-/// The header word of a page of a run, which may have more pages than a header can say.
+/// The header word of a page of a run, as a number that may be too great for a word: the run may have more pages than a
+/// header can say.
 fn run_word(count: u64, mapped: bool, leaf: bool, distance: u64) -> u128
     ensures { result ≡ word_of (run_header count mapped leaf distance) }
 {
@@ -81,7 +82,7 @@ fn run_word(count: u64, mapped: bool, leaf: bool, distance: u64) -> u128
     16 * parameter as u128 + encode(shortest) as u128 % 16
 }
 
-/// The header word that the page so far after the first of them gets.
+/// The header word of the page that is so many pages after the object's first.
 pub(crate) fn header_made(object: Object, distance: u64) -> u128
     ensures { result ≡ header_made object distance }
 {
@@ -98,7 +99,7 @@ pub(crate) fn header_made(object: Object, distance: u64) -> u128
     }
 }
 
-/// The bits of the cells that these headers make.
+/// The bits of all cells that the object's first page gets with its header.
 pub(crate) fn bits_made(object: Object) -> u64
     ensures { result ≡ bits_made object }
 {
@@ -109,7 +110,7 @@ pub(crate) fn bits_made(object: Object) -> u64
     }
 }
 
-/// The first heap word of the object.
+/// The number of the object's first heap word.
 pub(crate) fn base_made(object: Object, place: Place) -> u128
     ensures { result ≡ base_made object place }
 {
@@ -121,33 +122,33 @@ pub(crate) fn base_made(object: Object, place: Place) -> u128
     PAGE_WORDS as u128 * place.page as u128 + index
 }
 
-/// The header word of an unmapped run's page.
+/// The header word of the page that is so many pages after the first of an unmapped run.
 pub(crate) fn unmapped_header(count: u64, distance: u64) -> u128
     ensures { result ≡ unmapped_header count distance }
 {
     run_word(count, false, false, distance)
 }
 
-/// Before the step that decides a `New`.
+/// Whether the call is a `New` before the step that decides it.
 pub(crate) fn is_undecided_new(flight: Flight) -> bool
     ensures { result ≡ is_undecided_new flight }
 {
     matches!((flight.stage, flight.op), (Stage::Turn, Op::New { .. }))
 }
 
-/// Before the step that decides a `Free` whose register is loaded.
+/// Whether the call is a `Free` whose register is loaded, before the step that decides it.
 pub(crate) fn is_undecided_free(flight: Flight) -> bool
     ensures { result ≡ is_undecided_free flight }
 {
     matches!((flight.stage, flight.op), (Stage::Turn, Op::Free { .. }))
 }
 
-/// Whether the value is the word and the bit of the index besides.
+/// Whether the value is the word and the bit of the index, added.
 #[tactic(auto, using(crate::proofs::Bits::sum_past))]
 pub(crate) fn adds_bit(word: u64, index: u64, value: u64) -> bool
     ensures { result ≡ (value == word + 2 ^ index) }
 {
-    // A bit that no word has makes the sum too great for a value.
+    // If no word has the bit, the sum is too great for a value.
     word_bit(index).is_some_and(|bit| value as u128 == word as u128 + bit as u128)
 }
 
@@ -162,8 +163,8 @@ impl Table {
         })
     }
 
-    /// Whether the page is the first of this many that hasn't the header word that is wanted there, and the
-    /// value is that word.
+    /// Whether the page is the first of this many without the header word that is wanted there, and the value is that
+    /// word.
     pub(crate) fn is_next_header(
         &self,
         first: u64,
@@ -236,7 +237,7 @@ impl Core {
         }
     }
 
-    /// Where the object of a `New` goes by first fit.
+    /// The place of the object of a `New` by first fit.
     pub(crate) fn first_fit(&self, op: Op) -> Option<Place>
         ensures { result ≡ place_on_pages self.now.config.resident self.now.now.words.pages
             (object_made self.now.config op) }

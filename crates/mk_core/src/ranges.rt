@@ -1,6 +1,6 @@
-//! Conditions 4, 5 and 6 of an event: its arguments are in range, and the gates and the phase are as its
-//! kind asks. The definitions name every kind. Here `_` stands for those of which a condition asks nothing, since the
-//! proof refuses it where it takes another.
+//! Conditions 4, 5 and 6 of an event: its arguments are in range, and the gates and the phase are as its kind asks. The
+//! definitions name every kind. Here `_` stands for those of which a condition asks nothing: if it stood for another,
+//! the proof would fail.
 ghost use Rattle.std.specs.Prelude.{◌≡◌, ◌*◌, ◌==◌, nat_lt};
 ghost use Rattle.mk_core.specs.{Moments.{is_number_of, is_held, others_are_held, none_is_held}, NewPlaces.target};
 ghost use Rattle.mk_core.specs.Ranges.{is_word, is_other_caller, is_word_met, is_in_range, is_run_cell, has_gates};
@@ -15,7 +15,7 @@ use crate::{Flight, Gate, Phase, Seat, Step, Word};
 use mk_geom::{Cell, HEAP_START, PAGE_WORDS, is_unmapped};
 
 impl Seat {
-    /// Whether it is the caller of this number.
+    /// Whether the seat is the caller of this number.
     fn is_caller(self, caller: u64) -> bool
         ensures { result ≡ is_number_of self caller }
     {
@@ -60,8 +60,8 @@ fn is_at(phase: u64, other: Phase) -> bool
     phase == other.number()
 }
 
-/// Whether the phase is one that the kind of step asks for; where that goes by case, one that a case
-/// names.
+/// Whether the phase is one at which the kind of step may come. If a kind has several cases, it is a phase that one of
+/// them names.
 pub(crate) fn has_phase(phase: u64, step: Step) -> bool
     ensures { result ≡ has_phase phase step }
 {
@@ -168,7 +168,7 @@ impl Core {
         all_below(self.config.callers, |caller| !self.table.is_held(caller))
     }
 
-    /// Whether the gates are as a step of the seat asks, which is in the middle of this call.
+    /// Whether the gates are as a step of the seat asks, for a seat that is in the middle of this call.
     pub(crate) fn has_gates(&self, seat: Seat, flight: Flight, step: Step) -> bool
         ensures { result ≡ has_gates self.now.config self.now.now.words seat flight step }
     {

@@ -66,7 +66,7 @@ pub fn tally_word(tally: Tally) -> Word
     }
 }
 
-/// The heap word that a scan loads next, or 0.
+/// The number of the heap word that a scan loads next, or 0 if nothing is scanned.
 #[inline(always)]
 pub fn next_word(scan: Option<Scan>) -> u64
     ensures { result ≡ next_word scan }
@@ -74,7 +74,7 @@ pub fn next_word(scan: Option<Scan>) -> u64
     scan.map_or(0, |scan| scan.next)
 }
 
-/// The page of the cell that is scanned, or 0.
+/// The page of the cell that is scanned, or 0 if none is.
 #[inline(always)]
 pub fn scan_page(scan: Option<Scan>) -> u64
     ensures { result ≡ scan_page scan }
@@ -82,7 +82,7 @@ pub fn scan_page(scan: Option<Scan>) -> u64
     scan.map_or(0, |scan| scan.page)
 }
 
-/// The bit of the cell that is scanned, or 0.
+/// The bit of the cell that is scanned, or 0 if none is.
 #[inline(always)]
 pub fn scan_bit(scan: Option<Scan>) -> u64
     ensures { result ≡ scan_bit scan }
@@ -90,7 +90,7 @@ pub fn scan_bit(scan: Option<Scan>) -> u64
     scan.map_or(0, |scan| bit_for(scan.index))
 }
 
-/// The page of the cell that the open hand points into, or 0.
+/// The page of the cell that the open hand points into, or 0 if it points into none.
 #[inline(always)]
 pub fn seen_page(cell: Option<Cell>) -> u64
     ensures { result ≡ seen_page cell }
@@ -98,7 +98,7 @@ pub fn seen_page(cell: Option<Cell>) -> u64
     cell.map_or(0, |cell| cell.page)
 }
 
-/// The bit of that cell, or 0.
+/// The bit of the cell that the open hand points into, or 0 if it points into none.
 #[inline(always)]
 pub fn seen_bit(cell: Option<Cell>) -> u64
     ensures { result ≡ seen_bit cell }
@@ -116,7 +116,7 @@ fn register_word(caller: u64, register: u8) -> Word
 }
 
 impl Core {
-    /// What a seat is at as a marker; another is outside.
+    /// What a marker is at. A seat that is no marker counts as outside.
     pub(crate) fn marker_at(&self, seat: Seat) -> Marker
         ensures { result ≡ marker_at self.now.now seat }
     {
@@ -138,7 +138,7 @@ impl Core {
         }
     }
 
-    /// The heap word that a call's access meets.
+    /// The number of the heap word that a call's access meets.
     fn heap_word(&self, flight: Flight) -> u64
         requires { IsTrue (is_word_met self.now.config flight) }
         ensures { result ≡ word_met flight }
@@ -147,7 +147,7 @@ impl Core {
         word_met(flight) as u64
     }
 
-    /// The first heap word of the object that is granted.
+    /// The number of the first heap word of the object that is granted.
     fn granted_base(&self, flight: Flight) -> u128
         ensures { result ≡ granted_base self.now.config flight self.now.now.seats.holding.placing }
     {
@@ -157,7 +157,7 @@ impl Core {
         }
     }
 
-    /// Its address.
+    /// The address of the object that is granted.
     fn granted_address(&self, flight: Flight) -> u64
         ensures { result ≡ address_of
             (granted_base self.now.config flight self.now.now.seats.holding.placing) % 2 ^ 64 }
@@ -205,7 +205,7 @@ impl Core {
         })
     }
 
-    /// How an event accesses it.
+    /// How an event accesses the word that it reaches.
     pub(crate) fn access(&self, event: Event) -> Access
         requires seat { IsTrue (seat_exists self.now.config event.seat) }
         ensures { result ≡ access self.now.config self.now.now event }

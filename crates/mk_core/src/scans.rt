@@ -11,7 +11,7 @@ use crate::machine::OUTSIDE;
 use crate::{Config, Marker, Phase, Presence, Scan, SeenHeader, Step, Word};
 use mk_geom::{Cell, HEAP_START, PAGE_BYTES, PAGE_WORDS, lookup, page_at};
 
-/// The scan of a cell under the header word that was seen: no word of it, where it isn't scanned.
+/// The scan of a cell under the header word that was seen. It has no words to load if the cell isn't scanned.
 fn scan_begun(page: u64, index: u64, header: u64) -> Scan
     requires page { page < 4096 }
     requires index { index < 32 }
@@ -27,7 +27,7 @@ fn scan_begun(page: u64, index: u64, header: u64) -> Scan
     }
 }
 
-/// The scan that a claim begins, where it finds these marks.
+/// The scan that a claim begins when it finds these marks.
 fn scan_claimed(page: u64, index: u64, marks: u64, seen: Option<SeenHeader>) -> Option<Scan>
     requires page { page < 4096 }
     requires index { index < 32 }
@@ -50,7 +50,7 @@ fn scan_onward(scan: Option<Scan>) -> Option<Scan>
     })
 }
 
-/// A marker that finds the phase marking attends, and another visits.
+/// How a marker is in that comes in: it attends if it finds the phase marking, and otherwise visits.
 fn presence_behind_attend(found: u64) -> Presence
     ensures { result ≡ (if found % 8 == 1 then Presence.Attending else Presence.Visiting) }
 {
@@ -61,7 +61,7 @@ fn presence_behind_attend(found: u64) -> Presence
     }
 }
 
-/// A value outside the heap isn't an open hand.
+/// The open hand after a load of this value: none if the value is outside the heap.
 fn open_hand(config: &Config, value: u64) -> Option<u64>
     requires { config.now.pages ≤ 4096 }
     ensures { result ≡ open_hand config.now value }
@@ -70,7 +70,7 @@ fn open_hand(config: &Config, value: u64) -> Option<u64>
     (HEAP_START..end).contains(&value).then_some(value)
 }
 
-/// An open hand after a look at the header of a page: closed, where that shows nothing there.
+/// The open hand after a look at the header of a page: closed if the header shows nothing there.
 fn hand_behind_look(config: &Config, page: u64, header: u64, hand: Option<u64>) -> Option<u64>
     ensures { result ≡ hand_behind_look config.now page header hand }
 {

@@ -58,13 +58,13 @@ pub struct Hand {
     pub source: Source,
 }
 
-/// The place of a `New`, and how far it is.
+/// The place of a `New`, and how far the call is with it.
 #[derive(Clone, Copy)]
 pub enum Placing {
     Unplaced,
     /// A step has served the new object, so its place is fixed.
     Chosen(Place),
-    /// Its used bit is set.
+    /// The cell's used bit is set.
     Used(Place),
     Granted,
 }
@@ -77,7 +77,7 @@ pub enum OwnCycle {
     Ended,
 }
 
-/// The run of a large object: its head page, and its count of pages.
+/// The run of a large object: its head page, and how many pages it has.
 #[derive(Clone, Copy)]
 pub struct RunPages {
     pub page: u64,
@@ -94,7 +94,7 @@ pub struct Holding {
     pub cycle: OwnCycle,
 }
 
-/// Whether a marker is in. One that found another phase than marking is visiting.
+/// Whether a marker is in, and how: one that came in at another phase than marking only visits.
 #[derive(Clone, Copy)]
 pub enum Presence {
     Out,
@@ -102,8 +102,8 @@ pub enum Presence {
     Attending,
 }
 
-/// The cell that a marker scans: its page and index, and the heap words from `next` up to `end` that it
-/// has still to load.
+/// The cell that a marker scans: its page and index, and the numbers of the heap words that are still to be loaded,
+/// from `next` up to `end`, which isn't among them.
 #[derive(Clone, Copy)]
 pub struct Scan {
     pub page: u64,
@@ -119,8 +119,8 @@ pub struct SeenHeader {
     pub header: u64,
 }
 
-/// What a marker is at: its scan, its open hand, and the header that its last look showed, where that look
-/// was at a header.
+/// What a marker is at: its scan, its open hand, and the header that its last look showed, if that was a look at a
+/// header.
 #[derive(Clone, Copy)]
 pub struct Marker {
     pub presence: Presence,
@@ -129,14 +129,14 @@ pub struct Marker {
     pub seen: Option<SeenHeader>,
 }
 
-/// What a step makes of a call: how it goes on, and the answer, where the step decides it.
+/// What a step makes of a call: how it goes on, and the answer, if the step decides it.
 #[derive(Clone, Copy)]
 pub struct Progress {
     pub flight: Flight,
     pub answer: Option<Answer>,
 }
 
-/// What a `New` makes: this many words, leaf where none of them is a pointer.
+/// What a `New` makes: an object of this many words, which is leaf if none of them is a pointer.
 #[derive(Clone, Copy)]
 pub struct Object {
     pub words: u64,

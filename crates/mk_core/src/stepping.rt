@@ -122,8 +122,8 @@ impl Core {
         }
     }
 
-    /// Sets what the seat is in the middle of after its step, whose access found this word. Gives the
-    /// answer that the step decides.
+    /// Sets what the seat is in the middle of after its step, whose access found this word. Returns the answer that the
+    /// step decides.
     fn move_seat(&mut self, event: Event, found: u64) -> Option<Answer>
         requires { IsEnabled self.old.config self.old.now event }
         ensures seats { self.new
@@ -156,7 +156,7 @@ impl Core {
         answer
     }
 
-    /// One event, where it is enabled.
+    /// Makes one event, if it is enabled.
     fn advance(&mut self, event: Event) -> Result<Option<Answer>, NotEnabled>
         ensures enabled { MatchResult result (λ _. IsEnabled self.old.config self.old.now event)
             (λ r. (failing self.old.config self.old.now event ≡ r.condition) × (1 ≤ r.condition)) }
@@ -180,9 +180,9 @@ impl Core {
         Ok(answer)
     }
 
-    /// One event, after every list of events for which the core stands. The answer is that of the call
-    /// that the event decides, and None where it decides none. A compare and exchange that finds another
-    /// value is an event too: it changes nothing, and decides nothing but in a `cas`.
+    /// Makes one event, after every list of events for which the core stands. The answer is that of the call that the
+    /// event decides, and None if it decides none. A compare and exchange that finds another value is an event too: it
+    /// changes nothing, and decides nothing except in a `cas`.
     pub fn step(&mut self, event: Event) -> Result<Option<Answer>, NotEnabled>
         ensures exact { (events : List Event) → CoreStandsFor self.old events
             → (IsOk result ↔ AreEnabled self.old.config (events ++ event ∷ [])) }

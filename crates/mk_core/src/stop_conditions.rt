@@ -35,7 +35,7 @@ fn is_bit_of(cell: Option<Cell>, page: u64, value: u64) -> bool
 }
 
 impl Table {
-    /// Whether no mark of the page is left, and its freed cells are the snapshot.
+    /// Whether the page has no marks and no black bits, and its freed cells are the snapshot.
     fn has_clean_page(&self, page: u64) -> bool
         ensures { result ≡ has_clean_page self.now page }
     {
@@ -50,7 +50,7 @@ impl Table {
             && self.dirty(page) == 0
     }
 
-    /// Whether no cell of the page is released, and the page has a used cell where it has a header.
+    /// Whether no cell of the page is released, and the page has a used cell if it has a header.
     fn has_settled_page(&self, page: u64) -> bool
         ensures { result ≡ has_settled_page self.now page }
     {
@@ -71,7 +71,7 @@ impl Table {
         self.all_point_well(pages, self.registers()) && self.all_point_well(pages, self.globals())
     }
 
-    /// Whether the cell is there and marked, and its words point well or aren't scanned.
+    /// Whether the page has such a cell, it is marked, and its words point well or aren't scanned.
     #[tactic(auto, unfolding(crate::specs::StopConditions::may_turn_black))]
     fn may_turn_black(&self, pages: u64, cell: Cell) -> bool
         ensures { result ≡ may_turn_black pages self.now cell }

@@ -1,4 +1,4 @@
-//! Laws of the storage of allocations: facts alone, with no code.
+//! Laws of the storage of allocations: facts only, with no code.
 ghost use Rattle.mk_core.specs.ObjectHeaders.{HeadersShowParts, PartsNameTheirHeads, FirstPartsHaveCells};
 ghost use Rattle.mk_core.specs.ObjectHeaders.{LaterPartsHaveNone};
 ghost use Rattle.mk_core.specs.StandingAllocations.{StorageHoldsObjects, StandingHasStorage, HeadersShowStorage};
@@ -15,8 +15,8 @@ pub fn headers_show_their_objects()
     ensures later { LaterPartsHaveNone }
 {}
 
-/// An allocation that stands on the heap has a storage there, which the headers of its pages show. An
-/// address in it points, by lookup, into its cell, which begins at its base and has its words.
+/// An allocation on the heap has a storage there, which the headers of its pages show. An address in it points, by
+/// lookup, into its cell, which begins at its base and has its words.
 #[tactic(auto, using(crate::proofs::StandingAllocations::an_allocation_has_its_cell_facts))]
 pub fn an_allocation_has_its_cell()
     ensures words { StorageHoldsObjects }
@@ -26,8 +26,8 @@ pub fn an_allocation_has_its_cell()
     ensures cells { CellsBeginAtBases }
 {}
 
-/// The unreleased storage is that of the unreleased allocations, and that of a list in two parts is that
-/// of its parts.
+/// The unreleased storage is that of the unreleased allocations. That of a list in two parts is that of the first part
+/// and then of the second.
 #[tactic(auto, using(crate::proofs::UnreleasedStorage::unreleased_in_parts))]
 pub fn unreleased_storage_is_of_allocations()
     ensures contains { UnreleasedStorageIsOfAllocations }

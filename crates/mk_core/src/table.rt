@@ -62,7 +62,7 @@ impl Model for Table {
     } };
 }
 
-/// This many zeros.
+/// A list of this many zeros.
 fn zeros(alloc: Global, count: usize) -> Result<Vec<u64>, NoMemory>
     ensures { IfOk result (λ list. list.items ≡ replicate count 0) }
 {
@@ -81,7 +81,7 @@ fn free_pages(alloc: Global, count: usize) -> Result<Vec<Page>, NoMemory>
     Ok(Vec::from_elem(alloc, FREE_PAGE, count)?)
 }
 
-/// The number at a place that may be greater than any list is long.
+/// The number at a place of the list; 0 past its end. The place may be greater than any list is long.
 fn number_at(list: &[u64], place: u128) -> u64
     ensures { result ≡ slice_index list.now place }
 {
@@ -91,7 +91,7 @@ fn number_at(list: &[u64], place: u128) -> u64
     }
 }
 
-/// Sets the number at a place; one after the list's end isn't there.
+/// Sets the number at a place of the list. Past its end nothing is set.
 fn set_number(list: &mut [u64], place: u128, value: u64)
     ensures { list.new ≡ slice_set list.old place value }
 {
@@ -138,7 +138,7 @@ impl Table {
         }
     }
 
-    /// The pages as they are.
+    /// The header word and used word of each page.
     pub(crate) fn pages(&self) -> &[Page]
         ensures { result.now ≡ self.now.pages }
     {
@@ -352,7 +352,7 @@ impl Table {
         }
     }
 
-    /// Performs the access.
+    /// Performs the access to the word of that name.
     pub(crate) fn access(&mut self, name: TableWord, access: Access)
         ensures { self.new ≡ accessed self.old name access }
     {

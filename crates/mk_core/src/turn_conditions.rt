@@ -17,7 +17,7 @@ use crate::{Core, Flight, OwnCycle, Phase, Placing, Stage};
 use mk_books::{QuarantineWord, held_by_pages};
 use mk_geom::{Cell, Place};
 
-/// Whether no call of a caller's is undecided.
+/// Whether the call of the turn's holder is decided. The host makes no calls, and counts as decided.
 fn is_decided(stage: Stage) -> bool
     ensures { result ≡ is_decided stage }
 {
@@ -31,7 +31,7 @@ fn is_used_once(placing: Placing) -> bool
 }
 
 impl Table {
-    /// Whether the cells that a header makes are marked, where the phase is marking.
+    /// Whether the cells that a header makes are marked already, if the phase is marking.
     fn is_marked_first(&self, object: Object, place: Place) -> bool
         ensures { result ≡ is_marked_first self.now object place }
     {
@@ -48,8 +48,8 @@ impl Table {
             && self.is_marked_first(object, place)
     }
 
-    /// Whether nothing is on the page, and the value says so. A later page of a run is asked for its
-    /// head's words.
+    /// Whether nothing is on the page, and the value says so. For a later page of a run the words of its head page are
+    /// asked.
     fn empties(&self, page: u64, value: u64) -> bool
         ensures { result ≡ empties self.now page value }
     {
@@ -135,7 +135,7 @@ impl Core {
         }
     }
 
-    /// Whether the cell of the place is taken, after all its headers.
+    /// Whether the value takes the cell of the place, and all headers of the place are there.
     fn takes_cell(&self, flight: Flight, page: u64, value: u64) -> bool
         ensures { result ≡ takes_cell self.now.now.words (object_made self.now.config flight.op)
             (place_now self.now.config self.now.now flight) page value }

@@ -21,7 +21,7 @@ pub is_address : (pages header u : ℕ) (k : Cell) → cell_at pages header u �
     → (65536 ≤ u) × (page_at_address u < pages)
 is_address pages header u k is = grind (arith, and_parts, leb-true, ltb-true, none-some, cond-false)
 
--- The storage of the page that a value is in, where the value points into a cell: a cell of its block, or the run.
+-- The storage of the page that a value is in, if the value points into a cell: a cell of its block, or the run.
 pub record IsCellOn (xs : List Storage) (u : ℕ) (k : Cell) (t : Storage) : Type 0 where
   pub inside : Contains xs t
   pub low : 65536 ≤ u

@@ -17,7 +17,7 @@ use Rattle.mk_geom.specs.Storages.{Storage, class_of_storage, first_page, is_cel
 use Rattle.mk_geom.specs.{Storages.{taken_cells, use_by, use_of_storages}, PageWords.uses_of_pages}
 use Rattle.mk_geom.specs.{StorageWords.held_by_storages, declared.pages.Page.Page}
 
--- the words of a storage that are on one page, where it is mapped
+-- the words of a storage that are on one page, if it is mapped
 abbrev pub words_there : Storage → ℕ
 words_there s = if s.mapped then (if is_small s then s.words else 64) else 0
 
@@ -73,7 +73,7 @@ none_set (bit ∷ bits) each =
     sum_by-cons (λ (b : Bool). cond {A = ℕ} b 1 0) bit bits
     ∙ omega (arith, none_set bits (λ k within. each (suc k) (omega arith)))
 
--- the words that a page holds, where this is a storage that stands there
+-- the words that a page holds, if this is a storage on it
 abbrev held_as : List Storage → ℕ → Option Storage → ℕ
 held_as xs page o = held_by_use (use_by xs page o)
 

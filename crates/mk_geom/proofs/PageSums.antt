@@ -23,7 +23,7 @@ pub sum_below-zero : (f : ℕ → ℕ) (n : ℕ) → ((p : ℕ) → p < n → f 
 sum_below-zero f zero each = refl
 sum_below-zero f (suc n) each = omega (arith, sum_below-zero f n (λ p lt. each p (omega arith)), each n (omega arith))
 
--- where this many pages from one on have the same number, and the others nothing
+-- if this many pages from one on have the same number, and the others nothing
 module _ (f : ℕ → ℕ) (first count a : ℕ) (before : (p : ℕ) → p < first → f p ≡ 0)
     (within : (p : ℕ) → first ≤ p → p < first + count → f p ≡ a) (behind : (p : ℕ) → first + count ≤ p → f p ≡ 0) where
   sum_within : (n k : ℕ) → n ≡ first + k → k ≤ count → sum_below f n ≡ k * a

@@ -15,7 +15,7 @@ pub words_by_large : (page : ℕ) (xs : List Storage) (s : Storage) → is_small
     → words_by xs page (Some s) ≡ run_page (s.words / 64) s.mapped s.leaf (page - first_page s)
 words_by_large page xs s large = cond-false (is_small s) _ _ large
 
--- Any storage on a page says what its words are, and where there is none they are 0.
+-- Any storage on a page says what its words are, and if there is none they are 0.
 pub words_at : (n page : ℕ) (xs : List Storage) (s : Storage) → AreLaidOut n xs → Contains xs s
     → stands_on page s ≡ true → words_of_storages xs page ≡ words_by xs page (Some s)
 words_at n page xs s laid inside stands = elim (find_cases (stands_on page) xs) [
@@ -27,8 +27,8 @@ words_at n page xs s laid inside stands = elim (find_cases (stands_on page) xs) 
   | inr (none, others) ↦ absurd (false≢true (sym (others s inside) ∙ stands))
 ]
 
--- The words of a page, where a storage stands on it: `words_at` reads them off any storage there is, and these two say
--- them of a cell and of a run that the list has, each by its numbers.
+-- The words of a page, if a storage is on it: `words_at` reads them off any storage there is, and these two say them of
+-- a cell and of a run that the list has, each by its numbers.
 module _ (n : ℕ) (xs : List Storage) (s : Storage) (laid : AreLaidOut n xs) (inside : Contains xs s) where
   pub cell_page_words : (page class index : ℕ) → class < 8 → index < cells_of class
       → s.first ≡ 64 * page + index * class_words_of class → s.words ≡ class_words_of class

@@ -90,7 +90,7 @@ taken_cells-set page class index xs ys b here others = same_lists _ _ same_lengt
 pub same_index : (words i j : ℕ) → 1 ≤ words → i * words ≡ j * words → i ≡ j
 same_index words i j some same = grind (arith, cases_order, mul-le)
 
--- where no storage stands, no cell is taken
+-- where there is no storage, no cell is taken
 pub none_taken : (n page class : ℕ) (xs : List Storage) → class < 8 → All (IsStorage n) xs
     → ((s : Storage) → Contains xs s → stands_on page s ≡ false) → (k : ℕ) → k < cells_of class
     → is_cell_taken xs page (class_words_of class) k ≡ false

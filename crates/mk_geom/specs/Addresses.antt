@@ -24,7 +24,7 @@ page_at_address address = (address - 65536) / 512
 abbrev pub word_at_address : ℕ → ℕ
 word_at_address address = (address - 65536) / 8 % 64
 
--- the cell of a block that has the word; none where the word lies after the last cell
+-- the cell of a block that has the word; none if the word comes after the last cell
 abbrev pub cell_of_block : ℕ → ℕ → ℕ → Option Cell
 cell_of_block class page word =
     if nat_lt word (cells_of class * class_words_of class)
@@ -50,7 +50,7 @@ cell_under (Later distance mapped) page word =
 cell_under (LeafBlock class) page word = cell_of_block class page word
 cell_under (LeafRun pages) page word = Some (run_of_page (LeafRun pages) page)
 
--- what the address points into, in a heap of this many pages, where its page has this header word
+-- what the address points into, in a heap of this many pages, if its page has this header word
 abbrev pub cell_at : ℕ → ℕ → ℕ → Option Cell
 cell_at pages header address =
     if is_heap_address pages address

@@ -23,7 +23,7 @@ word_of (Later distance false) = 12 + 16 * distance
 word_of (LeafBlock class) = 13 + 16 * class
 word_of (LeafRun pages) = 14 + 16 * pages
 
--- the header, where its parameter is within the limits
+-- the header, if its parameter is within the limits
 abbrev pub header_within : ℕ → ℕ → ℕ → Header → Option Header
 header_within least parameter greatest header =
     if nat_le least parameter && nat_le parameter greatest then Some header else None
@@ -40,7 +40,7 @@ header_with kind parameter =
     else if kind == 14 then header_within 1 parameter 64 (LeafRun parameter)
     else None
 
--- what the word says; None where it is no header word
+-- what the word says; None if it is no header word
 abbrev pub header_of : ℕ → Option Header
 header_of word = header_with (word % 16) (word / 16)
 

@@ -16,7 +16,7 @@ PagesShowUses =
     (pages : List Page) (storages : List Storage)
     → PagesStandFor pages storages → uses_of_pages pages ≡ uses_of_storages (length pages) storages
 
--- so first fit finds the same place on them,
+-- so first fit finds the place on them that it finds among the storages,
 abbrev pub PagesShowPlaces : Type 0
 PagesShowPlaces =
     (pages : List Page) (storages : List Storage) (limit words : ℕ) (leaf : Bool)
@@ -24,7 +24,7 @@ PagesShowPlaces =
     → place_on_uses limit words leaf (uses_of_pages pages)
     ≡ place_among_storages (length pages) limit words leaf storages
 
--- and they have the same counts.
+-- and their counts are those of the storages.
 abbrev pub PagesShowCensus : Type 0
 PagesShowCensus =
     (pages : List Page) (storages : List Storage)
@@ -72,7 +72,7 @@ PointsIntoCell =
     → IsStorage pages s → ShowsStorage s (page_at_address u) header → PointsInto u s
     → cell_at pages header u ≡ Some (cell_of_storage s)
 
--- A value that points into a storage's cell points into the storage, where its page shows one that stands there.
+-- A value that points into a storage's cell points into the storage, if its page shows one that is there.
 abbrev pub CellHasPointers : Type 0
 CellHasPointers =
     (pages header u : ℕ) (storages : List Storage) (s t : Storage)
@@ -80,7 +80,7 @@ CellHasPointers =
     → stands_on (page_at_address u) t ≡ true → ShowsStorage t (page_at_address u) header
     → cell_at pages header u ≡ Some (cell_of_storage s) → PointsInto u s
 
--- On pages that stand for storages a value points into one of them exactly where it points into its cell.
+-- On pages that stand for storages a value points into one of them exactly if it points into its cell.
 abbrev pub PointersHitCells : Type 0
 PointersHitCells =
     (pages : List Page) (storages : List Storage)
@@ -88,7 +88,7 @@ PointersHitCells =
     → (u : ℕ) (s : Storage) → Contains storages s
     → PointsInto u s ↔ (cell_on pages u ≡ Some (cell_of_storage s))
 
--- A cell there that a value points into is that of a storage, where its used bit is set.
+-- A cell there that a value points into is that of a storage, if its used bit is set.
 abbrev pub UsedCellHasStorage : Type 0
 UsedCellHasStorage =
     (pages : List Page) (storages : List Storage)

@@ -55,11 +55,11 @@ cell_place class leaf (page ∷ pages) =
     (first_where not (cells_taken class leaf page)))
     (option_map page_behind (cell_place class leaf pages))
 
--- the pages from a page on, where they are free and have to be carved
+-- the pages from a page on, which are free and have to be carved
 abbrev pub carved : ℕ → Place
 carved page = record { page = page; index = 0; carve = true }
 
--- such a cell; if there is none, cell 0 of the lowest free page, where fewer pages are resident than may be
+-- such a cell; if there is none, cell 0 of the lowest free page, if fewer pages are resident than may be
 abbrev pub small_place : ℕ → ℕ → Bool → List PageUse → Option Place
 small_place limit class leaf pages =
     or_else (cell_place class leaf pages)
@@ -76,12 +76,12 @@ range_start count [] = None
 range_start count (page ∷ pages) =
     if nat_le count (free_range (page ∷ pages)) then Some 0 else option_map (λ n. n + 1) (range_start count pages)
 
--- that range, where no more pages are resident with it than may be
+-- that range, if no more pages are resident with it than may be
 abbrev pub large_place : ℕ → ℕ → List PageUse → Option Place
 large_place limit count pages =
     if nat_le (resident_pages pages + count) limit then option_map carved (range_start count pages) else None
 
--- First fit: where an object of this many words goes, leaf or not, where this many pages may be resident.
+-- First fit: where an object of this many words goes, leaf or not, if this many pages may be resident.
 abbrev pub place_on_uses : ℕ → ℕ → Bool → List PageUse → Option Place
 place_on_uses limit words leaf pages =
     if is_small_size words

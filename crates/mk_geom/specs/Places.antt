@@ -4,7 +4,8 @@ use Rattle.mk_geom.specs.{declared.pages.Page.Page, declared.pages.Place.Place, 
 use Rattle.mk_geom.specs.PageUses.{PageUse, Nothing, Cells, PartOfRun, is_free_page, resident_pages}
 use Rattle.mk_geom.specs.PageWords.{use_of_page, uses_of_pages}
 
--- An object of this class and sort may take the cell: the page is free, or a block of them where the cell isn't taken.
+-- An object of this class and sort may take the cell: the page is free, or a block of that class and sort in which the
+-- cell isn't taken.
 abbrev pub MayTakeCell : ℕ → Bool → ℕ → PageUse → Type 0
 MayTakeCell class leaf index Nothing = index < cells_of class
 MayTakeCell class leaf index (Cells class' leaf' taken) = (class' ≡ class) × (leaf' ≡ leaf)

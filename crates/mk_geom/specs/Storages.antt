@@ -41,7 +41,7 @@ abbrev pub taken_cells : List Storage → ℕ → ℕ → List Bool
 taken_cells storages page class =
     map (is_cell_taken storages page (class_words_of class)) (range_with_len 0 (cells_of class))
 
--- what stands on a page, where this is a storage that does
+-- what is on a page, if this is a storage on it
 abbrev pub use_by : List Storage → ℕ → Option Storage → PageUse
 use_by storages page None = Nothing
 use_by storages page (Some s) =
@@ -126,7 +126,7 @@ abbrev pub run_page : ℕ → Bool → Bool → ℕ → Page
 run_page pages mapped leaf distance =
     record { header = word_of (run_header pages mapped leaf distance); used = run_used distance }
 
--- the words of a page, where this is a storage that stands on it
+-- the words of a page, if this is a storage on it
 abbrev pub words_by : List Storage → ℕ → Option Storage → Page
 words_by storages page None = free_page
 words_by storages page (Some s) =

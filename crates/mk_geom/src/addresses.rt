@@ -1,4 +1,4 @@
-//! What an address points into. The heap's words stand one after the other from the heap's start on.
+//! What an address points into. The heap's words come one after the other from the heap's start on, 8 bytes each.
 ghost use Rattle.std.specs.Prelude.{◌≡◌, ◌<◌, ◌≤◌, true, false, IfSome, IfNone};
 ghost use Rattle.mk_geom.specs.Addresses.{cell_at, cell_of_block, head_page_under, is_heap_address, page_at_address};
 ghost use Rattle.mk_geom.specs.Headers.{header_of};
@@ -20,14 +20,14 @@ pub struct Cell {
     pub index: u64,
 }
 
-/// The page that an address is in, counted from the heap's first; that one, where the address is before the heap.
+/// The page that an address is in, counted from 0. An address before the heap counts as one of page 0.
 pub fn page_at(address: u64) -> u64
     ensures { result ≡ page_at_address address }
 {
     address.saturating_sub(HEAP_START) / PAGE_BYTES
 }
 
-/// The page that an address is in, in a heap of this many pages. None where the address is outside the heap.
+/// The page that an address is in, in a heap of this many pages. None if the address is outside the heap.
 pub fn heap_page(pages: u64, address: u64) -> Option<u64>
     ensures page { IfSome result (λ page. page ≡ page_at_address address) }
     ensures within { IfSome result (λ page. page < pages) }
@@ -39,7 +39,7 @@ pub fn heap_page(pages: u64, address: u64) -> Option<u64>
     (page < pages).then_some(page)
 }
 
-/// The head page of the run that a page is of, by its header word; another page is its own.
+/// The head page of a page's run, by the page's header word. A page of no run is its own head page.
 pub fn head_page_under(header: u64, page: u64) -> u64
     ensures exact { result ≡ head_page_under (header_of header) page }
     ensures least { result ≤ page }
@@ -50,10 +50,9 @@ pub fn head_page_under(header: u64, page: u64) -> u64
     }
 }
 
-/// The cell or run that an address points into, used or not, in a heap of this many pages, where
-/// `header` is the header word of the address's page. None where the address is outside the heap, in
-/// a block's tail or on a free page, where the word is no header word, and where its distance
-/// leads to before the heap.
+/// The cell or run that an address points into, used or not, in a heap of this many pages. `header` is the header word
+/// of the address's page. None if the address is outside the heap, in a block's tail or on a free page. None too if the
+/// word is no header word, or if its distance leads to before the heap.
 #[inline(always)]
 pub fn lookup(pages: u64, header: u64, address: u64) -> Option<Cell>
     ensures { result ≡ cell_at pages header address }

@@ -2,26 +2,26 @@
 ghost use Rattle.std.specs.Prelude.{◌≡◌, ℕ, ◌/◌, ◌<◌, ◌≤◌, ◌↔◌, ◌⊎◌, IfSome, IsNone};
 ghost use Rattle.mk_geom.specs.Classes.{class_for, class_words_of, cells_of, run_pages_of};
 
-/// The words of a page.
+/// How many words a page has.
 pub const PAGE_WORDS: u64 = 64;
 
-/// The words of a cell, by class.
+/// How many words a cell has, by class.
 const CLASS_WORDS: [u64; 8] = [2, 4, 6, 8, 12, 16, 24, 32];
 
-/// The words of the largest object that has a class.
+/// How many words the largest object has that has a class.
 const SMALL_WORDS: u64 = 32;
 
-/// The class, by how many pairs of words the object has: cells have whole pairs. So it is found without a search.
+/// The class of an object, by its size in pairs of words, rounded up. A cell has whole pairs.
 const CLASS_BY_PAIRS: [u64; 17] = [0, 0, 1, 2, 3, 4, 4, 5, 5, 6, 6, 6, 6, 7, 7, 7, 7];
 
-/// The cells of a block, by class, so that they are known without a division.
+/// How many cells a block has, by class.
 const CELLS: [u64; 8] = [32, 16, 10, 8, 5, 4, 2, 2];
 
-/// What 1024 divided by the words of a cell is, rounded up, by class. A word of a page times that, divided by 1024, is
-/// the word divided by the words of a cell, so that takes no division.
+/// 1024 divided by the words of a cell, rounded up, by class. The number of a word on its page times this, divided by
+/// 1024, is the number of the word's cell. So no division by the cell's words is needed.
 const SHARES: [u64; 8] = [512, 256, 171, 128, 86, 64, 43, 32];
 
-/// The size class of an object of this many words. An object of more than 32 is large, and has no class.
+/// The size class of an object of this many words. An object of more than 32 words is large, and has no class.
 #[tactic(auto, using(crate::proofs::ClassTable::classes_listed))]
 pub fn class_of(words: u64) -> Option<u64>
     ensures exact { result ≡ class_for words }
@@ -36,7 +36,7 @@ pub fn class_of(words: u64) -> Option<u64>
     Some(CLASS_BY_PAIRS[words.div_ceil(2) as usize])
 }
 
-/// The words of a cell of the class.
+/// How many words a cell of the class has.
 pub fn class_words(class: u64) -> u64
     requires { class < 8 }
     ensures { result ≡ class_words_of class }
@@ -44,7 +44,7 @@ pub fn class_words(class: u64) -> u64
     CLASS_WORDS[class as usize]
 }
 
-/// The cells of a block of the class.
+/// How many cells a block of the class has.
 #[tactic(auto, using(crate::proofs::ClassTable::cells_listed))]
 pub fn cells(class: u64) -> u64
     requires { class < 8 }
@@ -53,7 +53,8 @@ pub fn cells(class: u64) -> u64
     CELLS[class as usize]
 }
 
-/// The cell of a block of the class that a word of the page is in, where the word isn't in the block's tail.
+/// The cell of a block of the class that a word of the page is in; both are counted from 0. The word isn't in the
+/// block's tail.
 #[inline(always)]
 #[tactic(auto, using(crate::proofs::ClassTable::divided_by_shares))]
 pub fn index_in_block(class: u64, word: u64) -> u64
@@ -64,7 +65,7 @@ pub fn index_in_block(class: u64, word: u64) -> u64
     word * SHARES[class as usize] / 1024
 }
 
-/// The pages of a run for an object of this many words.
+/// How many pages a run has for an object of this many words.
 pub fn run_pages(words: u64) -> u64
     ensures { result ≡ run_pages_of words }
 {

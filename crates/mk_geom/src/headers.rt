@@ -3,8 +3,8 @@ ghost use Rattle.std.specs.Prelude.{◌≡◌, ◌≢◌, Some, IfSome, IfNone};
 ghost use Rattle.mk_geom.specs.declared.headers.Header.{Header};
 ghost use Rattle.mk_geom.specs.Headers.{IsInRange, word_of, header_of, is_unmapped_header};
 
-/// What a page is. Classes are 0 to 7, a run's pages 1 to 64, and a distance counts pages from the
-/// head of the run to this one, 1 to 63. The later pages of a leaf run are those of a mapped run.
+/// What a page is. Classes are 0 to 7. A run has 1 to 64 pages. A distance counts the pages from the head of the run to
+/// this one, 1 to 63. The later pages of a leaf run are as those of another mapped run.
 #[derive(Clone, Copy, Debug, PartialEq, Eq)]
 pub enum Header {
     Free,
@@ -20,7 +20,7 @@ pub enum Header {
     LeafRun { pages: u64 },
 }
 
-/// The header word.
+/// The header word that says this.
 pub fn encode(header: Header) -> u64
     requires { IsInRange header }
     ensures exact { result ≡ word_of header }
@@ -36,8 +36,8 @@ pub fn encode(header: Header) -> u64
     }
 }
 
-/// What the header word says; none where the word is no header word. Most words are those of a free page or a block,
-/// which are told by two comparisons.
+/// What a header word says; none if the word is no header word. Free pages and blocks come first, since most pages are
+/// one of these.
 #[inline(always)]
 pub fn decode(word: u64) -> Option<Header>
     ensures exact { result ≡ header_of word }
@@ -74,7 +74,7 @@ pub fn decode(word: u64) -> Option<Header>
     }
 }
 
-/// Whether the header word is that of an unmapped run's page. Most have another kind, and nothing else is read of them.
+/// Whether the header word is that of an unmapped run's page. For most words the low four bits are enough to tell.
 #[inline(always)]
 pub fn is_unmapped(word: u64) -> bool
     ensures { result ≡ is_unmapped_header (header_of word) }
@@ -83,7 +83,7 @@ pub fn is_unmapped(word: u64) -> bool
     if !(11..=12).contains(&kind) {
         return false;
     }
-    // Of a run's pages, 64 at most, all but the first are later ones.
+    // A run has 64 pages at most, of which one is its head.
     let most = if kind == 11 { 64 } else { 63 };
     (1..=most).contains(&(word / 16))
 }

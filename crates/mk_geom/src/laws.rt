@@ -1,12 +1,12 @@
-//! Laws of pages and the storages that they stand for: facts alone, with no code. A proof that needs a
-//! law calls its function, or cites the lemma that proves it.
+//! Laws of pages and the storages that they stand for: facts only, with no code. A proof that needs a law calls its
+//! function, or cites the lemma that proves it.
 ghost use Rattle.mk_geom.specs.Laws.{PagesShowUses, PagesShowPlaces, PagesShowCensus, PagesHoldMappedWords};
 ghost use Rattle.mk_geom.specs.Laws.{StoragesHaveHeaderWords, FreePagesStandForNothing, CellPageHasWords};
 ghost use Rattle.mk_geom.specs.Laws.{RunPageHasWords, BarePageIsFree, PointsIntoCell, CellHasPointers};
 ghost use Rattle.mk_geom.specs.Laws.{PointersHitCells, UsedCellHasStorage, CellsTellStoragesApart};
 ghost use Rattle.mk_geom.specs.Laws.{AddressesOfWordsPointIn, CellHasFirstWord, FoundCellIsPlace, FoundRunIsPlace};
 
-/// Place, fits, census and the words that are held may be read off the pages as they are.
+/// The place of an object, whether one fits, the census and the held words can be read off the pages as they are.
 #[tactic(auto, using(crate::proofs::HeldWords::pages_show_what_stands_there_facts))]
 pub fn pages_show_what_stands_there()
     ensures uses { PagesShowUses }
@@ -16,15 +16,15 @@ pub fn pages_show_what_stands_there()
     ensures header_words { StoragesHaveHeaderWords }
 {}
 
-/// The words of a page may be read off any storage that stands there.
+/// The words of a page can be read off any storage that is on it.
 pub fn pages_have_the_words_of_storages()
     ensures cell { CellPageHasWords }
     ensures run { RunPageHasWords }
     ensures bare { BarePageIsFree }
 {}
 
-/// What points into a storage points into its cell, and nothing else does, where the header of its page shows
-/// what stands there. So it is on pages that stand for storages.
+/// If the header of its page shows a storage, what points into the storage points into its cell, and nothing else does.
+/// So it is on pages that stand for storages.
 #[tactic(auto, using(crate::proofs::PointedCells::cell_first, crate::proofs::PointedCells::address_points_into))]
 pub fn a_storage_has_its_cell()
     ensures points_into { PointsIntoCell }
@@ -36,13 +36,12 @@ pub fn a_storage_has_its_cell()
     ensures addresses { AddressesOfWordsPointIn }
 {}
 
-/// The pages of a new heap.
+/// The pages of a new heap stand for no storage.
 pub fn free_pages_stand_for_nothing()
     ensures { FreePagesStandForNothing }
 {}
 
-/// The place that first fit finds is one that the object may take. A run of at most 4096 words has 1 to
-/// 64 pages.
+/// The object may take the place that first fit finds. A run of at most 4096 words has 1 to 64 pages.
 pub fn first_fit_finds_places()
     ensures cells { FoundCellIsPlace }
     ensures runs { FoundRunIsPlace }

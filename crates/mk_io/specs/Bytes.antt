@@ -18,7 +18,7 @@ abbrev pub TakesCount : Option (List ℕ) → Option (List ℕ) → ℕ → Type
 TakesCount old new count =
     IfSome old (λ left. (count ≤ length left) × (new ≡ Some (drop count left)))
 
--- the same of some number of bytes up to a limit
+-- a source had some number of bytes left, up to a limit, and has now what comes after them
 abbrev pub TakesAtMost : Option (List ℕ) → Option (List ℕ) → ℕ → Type 0
 TakesAtMost old new limit = (count : ℕ) × (count ≤ limit) × TakesCount old new count
 

@@ -27,7 +27,7 @@ write_fails s len = fails_next s.fails s.calls || (s.room == 0 && not (len == 0)
 abbrev pub taken_count : SinkState → ℕ → ℕ
 taken_count s len = min (min s.chunk len) s.room
 
--- how many of that many bytes the next write takes, or `None` where it fails
+-- how many of that many bytes the next write takes, or `None` if it fails
 abbrev pub count_written : SinkState → ℕ → Option ℕ
 count_written s len = if write_fails s len then None else Some (taken_count s len)
 

@@ -17,11 +17,11 @@ abbrev pub new_source : List ℕ → ℕ → List ℕ → SourceState
 new_source bytes chunk fails =
     record { left = bytes; chunk = chunk; fails = fails; calls = 0; faults = 0 }
 
--- how many bytes a read gives to a buffer of that length where it does not fail
+-- how many bytes a read gives to a buffer of that length if it doesn't fail
 abbrev pub given_count : SourceState → ℕ → ℕ
 given_count s space = min (min s.chunk space) (length s.left)
 
--- how many bytes the next read gives to a buffer of that length, or `None` where it fails
+-- how many bytes the next read gives to a buffer of that length, or `None` if it fails
 abbrev pub count_read : SourceState → ℕ → Option ℕ
 count_read s space = if fails_next s.fails s.calls then None else Some (given_count s space)
 

@@ -1,8 +1,8 @@
 -- What a clause sees of a `StdinSource` or a `StdoutSink`.
 use Rattle.std.specs.{Prelude.{ℕ, List}, declared.option.Option.Option}
 
--- The bytes that the reader has left or that the writer holds, where it says, and how many calls
--- failed, which stops at 2^64 - 1.
+-- The bytes that the reader has left or that the writer holds, if it says so, and how many calls failed, which stops at
+-- 2^64 - 1.
 pub record Stream : Type 0 where
   pub known : Option (List ℕ)
   pub faults : ℕ

@@ -48,8 +48,8 @@ impl CallPlan {
 
 /// A source of bytes in memory.
 ///
-/// A call gives at most `chunk` bytes. Calls are numbered from 1, and each after number 2^64 - 1
-/// has that number too. Those whose number stands in `fails` fail.
+/// A call gives at most `chunk` bytes. Calls are numbered from 1, and each after number 2^64 - 1 has that number too.
+/// Those whose number is in `fails` fail.
 #[derive(Drop)]
 pub struct MemSource {
     bytes: Vec<u8>,
@@ -124,13 +124,13 @@ impl Source for MemSource {
 
 /// A sink that keeps the bytes that it takes in memory.
 ///
-/// A call takes at most `chunk` bytes, and no more than `reserve` made room for. Calls are numbered
-/// from 1, and each after number 2^64 - 1 has that number too. Those whose number stands in
-/// `fails` fail, and so do those that bring bytes where no room is left.
+/// A call takes at most `chunk` bytes, and no more than `reserve` made room for. Calls are numbered from 1, and each
+/// after number 2^64 - 1 has that number too. Those whose number is in `fails` fail, and so does a call that brings
+/// bytes when no room is left.
 #[derive(Drop)]
 pub struct MemSink {
     bytes: Vec<u8>,
-    // What `reserve` made room for, whatever more the `Vec` has.
+    // The number of bytes that `reserve` made room for; the `Vec` may have more.
     room: usize,
     chunk: usize,
     plan: CallPlan,
@@ -168,7 +168,7 @@ impl MemSink {
         }
     }
 
-    /// The bytes that the sink took.
+    /// All bytes that the sink took so far, in order.
     pub fn bytes(&self) -> &[u8]
         ensures { result.now ≡ self.now.taken }
     {
@@ -180,7 +180,7 @@ impl MemSink {
         ensures ok { OnOk result (self.new ≡ record self.old { room = max self.old.room n }) }
         ensures err { OnErr result (self.new ≡ self.old) }
 
-        // It fails only where the room was missing.
+        // It fails only if the room was missing.
         ensures missing { OnErr result (self.old.room < n) }
     {
         if self.bytes.reserve(n).is_err() {

@@ -25,7 +25,7 @@ pub enum ReadStop {
 
 /// Reads all bytes up to the end of input.
 ///
-/// Where the source doesn't say what it has left, the clauses on content say nothing.
+/// If the source doesn't say what it has left, the clauses on content say nothing.
 pub fn read_all<S: Source>(alloc: Global, source: &mut S) -> Result<Vec<u8>, ReadStop>
     ensures all { IfOk result (λ bytes.
         TakesAll (S.left source.old) (S.left source.new) bytes.items) }

@@ -7,9 +7,9 @@ use crate::Failed;
 
 /// What bytes are written to, a part at a time.
 ///
-/// The ghost member `taken` is the bytes that the sink took so far, or `None` where it doesn't say
-/// them: then the clauses on content say nothing. `faults` counts the calls that failed, and
-/// `has_room` says that the sink takes this many more bytes with no call that fails.
+/// The ghost member `taken` is the bytes that the sink took so far, or `None` if it doesn't say them: then the clauses
+/// on content say nothing. `faults` counts the calls that failed, and `has_room` says that the sink takes this many
+/// more bytes with no call that fails.
 pub trait Sink {
     ghost taken: { Self → Option (List ℕ) };
 
@@ -17,8 +17,7 @@ pub trait Sink {
 
     ghost has_room: { Self → ℕ → Bool };
 
-    /// Takes some bytes from the front of `bytes`, at least one where there is one, and returns how
-    /// many.
+    /// Takes some bytes from the front of `bytes`, at least one if there is one, and returns how many.
     fn write(&mut self, bytes: &[u8]) -> Result<usize, Failed>
         ensures within { IfOk result (λ n. n ≤ length bytes.now) }
         ensures progress { IfOk result (λ n. 0 < length bytes.now → 0 < n) }

@@ -7,9 +7,9 @@ use crate::Failed;
 
 /// What bytes are read from, a part at a time.
 ///
-/// The ghost member `left` is the bytes that are still to come, or `None` where the source doesn't
-/// tell them: then the clauses on content say nothing. `faults` counts the calls that failed, and
-/// `never_fails` says that no call fails from now on.
+/// The ghost member `left` is the bytes that are still to come, or `None` if the source doesn't tell them: then the
+/// clauses on content say nothing. `faults` counts the calls that failed, and `never_fails` says that no call fails
+/// from now on.
 pub trait Source {
     ghost left: { Self → Option (List ℕ) };
 
@@ -17,10 +17,9 @@ pub trait Source {
 
     ghost never_fails: { Self → Bool };
 
-    /// Reads some bytes to the front of `buf`, and returns how many. What stands after them in
-    /// `buf` is left open.
+    /// Reads some bytes to the front of `buf`, and returns how many. After them `buf` may hold anything.
     ///
-    /// No byte, where `buf` has room for one, is the end of input.
+    /// If `buf` has room and no byte is read, the input is at its end.
     fn read(&mut self, buf: &mut [u8]) -> Result<usize, Failed>
         ensures within { IfOk result (λ n. n ≤ length buf.new) }
         ensures bytes { IfOk result (λ n. Takes (left self.old) (left self.new) (take n buf.new)) }

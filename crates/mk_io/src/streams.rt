@@ -11,7 +11,7 @@ use std::marker::Model;
 
 /// A source over a reader, as standard input. It doesn't tell the bytes that are left.
 ///
-/// Each `read` is one read of the reader, and fails where that answers an error.
+/// Each `read` is one read of the reader, and fails if that answers an error.
 #[derive(Drop)]
 pub struct StdinSource<T: Read> {
     reader: T,
@@ -63,9 +63,9 @@ impl<T: Read> Source for StdinSource<T> {
 
 /// A sink over a writer, as standard output. It doesn't tell the bytes that it took.
 ///
-/// Each `write` is one write of the writer, and fails where that answers an error or takes none of
-/// some bytes. `Ok` says that the writer was handed the bytes. Nothing is flushed: std's standard
-/// output keeps no byte back, and a writer that does, as a `BufWriter`, is for its owner to flush.
+/// Each `write` is one write of the writer. It fails if that answers an error, or takes none of some bytes. `Ok` says
+/// that the writer was handed the bytes. Nothing is flushed: std's standard output keeps no byte back, and the owner of
+/// a writer that does, as a `BufWriter`, has to flush it.
 #[derive(Drop)]
 pub struct StdoutSink<T: Write> {
     writer: T,

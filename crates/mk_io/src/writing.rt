@@ -7,7 +7,7 @@ use crate::sinks::Sink;
 
 /// Writes all of `bytes`, in as many calls as the sink needs.
 ///
-/// Where the sink doesn't say what it took, the clauses on content say nothing.
+/// If the sink doesn't say what it took, the clauses on content say nothing.
 pub fn write_all<K: Sink>(sink: &mut K, bytes: &[u8]) -> Result<(), Failed>
     ensures ok { OnOk result (Appends (K.taken sink.old) (K.taken sink.new) bytes.now) }
 

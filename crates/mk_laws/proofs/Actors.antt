@@ -82,7 +82,7 @@ host_takes : (c : Config) (m : Moment) (x : Step) → Meets c m Host x → is_ta
 host_takes c m (Step.Take None) h t = HostTakes (eqb-false m.words.turn (1 + c.callers) (not-true _ h.order))
 host_takes c m x3 h t = grind (arith, and_parts)
 
--- where no caller is astray, each event that meets the conditions is one of these
+-- if no caller is astray, each event that meets the conditions is one of these
 pub acts : (c : Config) (m : Moment) (seat : Seat) (x : Step)
     → ((k : ℕ) → k < c.callers → is_astray (standing (flight_of m (Caller k))) ≡ false)
     → Meets c m seat x → Actor c m seat x
@@ -122,7 +122,7 @@ acts c m Host x a h = by (group_of x) refl
     ]
     by _ g = let e : false ≡ true = ap (is_open_to Host) (sym g) ∙ h.kind in cc
 
--- a New is decided by its own caller alone
+-- only its own caller decides a New
 
 pub grants_new : (c : Config) (m : Moment) (seat : Seat) → Meets c m seat Step.Grant
     → is_undecided_new (flight_of m seat) ≡ true

@@ -1,4 +1,4 @@
--- The storages of unreleased allocations lie apart, where nothing is on its way.
+-- The storages of unreleased allocations are apart while nothing is on its way.
 use Rattle.std.proofs.{Common.le_refl, lemmas.Bool.cases_order, lemmas.List.Elements.Contains-get_or}
 use Rattle.mk_laws.proofs.Vocabulary.{Among, AreApart, BeginsAtCell, Bool, Cell, Claim, Config, Header, IsAtCell}
 use Rattle.mk_laws.proofs.Vocabulary.{IsLaidOn, IsOfOneCell, IsShown, IsSized, IsWithinLimits, LayoutScene, List, None}
@@ -94,7 +94,7 @@ small_is c a sized = words_are_small (object_placed c a) sized
 module _ {c : Config} {w : Words} {xs : List PlacedAllocation} {a b : PlacedAllocation}
     (laid : IsLaidOn (quiet_scene c w xs)) (x : Lies c w xs a) (y : Lies c w xs b)
     (other : IsOfOneCell (claim_of c None a) (claim_of c None b) → ⊥) where
-  -- where they share no page
+  -- if they share no page
   far : ((d e : ℕ) → d < pages_made (object_placed c a) → e < pages_made (object_placed c b)
       → a.base / 64 + d ≢ b.base / 64 + e) → LieApart (storage_of c a) (storage_of c b)
   far none =

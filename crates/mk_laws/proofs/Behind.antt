@@ -20,7 +20,7 @@ releasing_marks w seat Step.Release known h on = refl
 releasing_marks w seat Step.End known h on = refl
 releasing_marks w seat x known h on = grind (arith, eqb-true, colour_step)
 
--- Where there is a place after, the turn is the same,
+-- If there is a place after, the turn is as before,
 turn_kind : (c : Config) (w : World) (seat : Seat) (x : Step) → Meets c w.now seat x
     → has_place (WorldBehind c w seat x).now.seats.holding.placing ≡ true
     → (WorldBehind c w seat x).now.words.turn ≡ w.now.words.turn

@@ -58,7 +58,7 @@ module _ {listed : List ℕ} {safe : ℕ → Bool} {s : ImageScene} {n : NeverSt
   own_safe : (r : ℕ) → IsSafe safe (register_at n k r)
   own_safe r = h.set.registers (8 * k + r)
 
-  -- an access goes on where its page is mapped, and is refused where it isn't
+  -- an access goes on if its page is mapped, and is refused if it isn't
   pub probe_leads : (header : ℕ → ℕ) → PagesShow header s n → (o : Op) (q p r l x : ℕ) → flight_among s.flights k
       ≡ flight Stage.Probe o q p r l → d_of o < 8 → is_astray (standing_at Stage.Probe o) ≡ false
       → CarriesOwn bases n k (flight Stage.Probe o q p r l) → x ≡ header (((q - 65536) / 8 + i_of o) / 64)
@@ -288,7 +288,7 @@ module _ (c : Config) (w : World) (n : NeverState) (known : KnownWorld c w) (mir
       (λ past. let y : false ≡ true = sym (begun_plain next).0 ∙ past in cc))
       (λ z. flies_on safe _ n k o (flight_of w.now (Caller k)) was was (ready.images.carried k) (ready.images.probed k))
 
-  -- a call that stays where it is
+  -- a call that stays at its stage
   pub stays : (k : ℕ) (o : Op) → Leads safe (image_scene_of w) n k o
       (record (image_scene_of w) { flights = slice_set w.now.seats.flights k (flight_of w.now (Caller k)) }) None
   stays k o = (

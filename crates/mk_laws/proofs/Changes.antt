@@ -47,7 +47,7 @@ colours_of m = colours_with m.words m.seats.holding.hand
 abbrev pub IsQuiet : Moment → Type 0
 IsQuiet m = (phase_of m.words ≡ 0) ⊎ ((phase_of m.words ≡ 2) × (none_attends m.seats.markers ≡ true))
 
--- where a seat steps
+-- if a seat steps
 pub data ColourStep (c : Config) (m : Moment) (seat : Seat) : Colours → Type 0 where
   Leaves : ColourStep c m seat (colours_of m)
   ClearsMarks : (p : ℕ) → phase_of m.words ≡ 0

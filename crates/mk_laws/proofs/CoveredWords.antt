@@ -10,7 +10,7 @@ use Rattle.mk_laws.proofs.Vocabulary.{words_under, ◌*◌, ◌+◌, ◌-◌, �
 use Rattle.mk_core.proofs.PointedPages.{pointed_head}
 use Rattle.mk_laws.{proofs.FoundHeaders.free_shows, specs.Kept.LaterPagesAreKnown, specs.WholeRuns.RunsAreWhole}
 
--- A number is in one of equal parts alone.
+-- A number is in only one of equal parts.
 pub one_part : (size i j n : ℕ) → i * size ≤ n → n < i * size + size → j * size ≤ n → n < j * size + size → i ≡ j
 one_part size i j n from to low high = grind (arith, cases_order, mul-le)
 
@@ -62,7 +62,7 @@ covered_word w p k i later lk scanned li some = elim (cell_on (header_in w p) k 
 module _ (c : Config) (w : World) (runs : RunsAreWhole c w) (p k x : ℕ)
     (known : k < cells_under (header_in w.now.words p)) (from : 64 * p + k * words_under (header_in w.now.words p) ≤ x)
     (to : x < 64 * p + k * words_under (header_in w.now.words p) + words_under (header_in w.now.words p)) where
-  -- where its page has a header
+  -- if its page has a header
   word_head : header_at w.now.words (x / 64) ≢ 0 → head_page w.now.words (x / 64) ≡ p
   word_head some =
       let start : ℕ = 64 * p + k * words_under (header_in w.now.words p) in

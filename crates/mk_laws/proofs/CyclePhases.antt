@@ -65,8 +65,8 @@ pub moves_phase : (c : Config) (w : World) (e : Event) (es : List Event) → Are
 unfolding AreEnabledFrom
 moves_phase c w e es on = grind (arith, enabled_meets, phase_asked, phase_moves)
 
--- Without events of one kind a claim of the phase stays along a list, and another kind doesn't come, where each step
--- says so.
+-- Without events of one kind a claim of the phase stays along a list, and another kind doesn't come, if each step says
+-- so.
 pub phases_go_on : (P : ℕ → Type 0) (stops out : Step → Bool) → ((x : Step) (p : ℕ) → AsksPhase x p → P p
     → stops x ≡ false → P (phase_behind x p) × (out x ≡ false)) → (c : Config) (w : World) (es : List Event)
     → AreEnabledFrom c w es → P (phase_of w.now.words) → list_any (λ (e : Event). stops e.step) es ≡ false → P

@@ -213,7 +213,7 @@ module _ {c : Config} {w : World} (v : World) {n : NeverState} (known : KnownWor
       true≢false (sym left ∙ ap (is_released_cell w.now.words) (sym cell)
       ∙ (told_to_images c w n known all).kept m.number u)
 
-  -- The cell's words are 0, where its bit is one of these.
+  -- The cell's words are 0, if its bit is one of these.
   abbrev wiped_in : Words → ℕ → ℕ → ℕ → Bool
   wiped_in x p bits k = not (has_bit bits k) || words_are_zero x (first_word w.now.words
       (record { page = p; index = k })) (cell_words w.now.words (record { page = p; index = k }))
@@ -275,7 +275,7 @@ module _ (c : Config) (es more : List Event) (e : Event) (h : IsHistory c (es ++
   host_same : e.seat ≡ Host → host_has_turn c v.now ≡ host_has_turn c w.now
   host_same is = grind (arith, left_to, eq-eqb, eqb-true, ne_eqb, host_stays_out, eqb-false)
 
-  -- what is asked of the turn's holder alone
+  -- what is asked only of the turn's holder
   record AsksStill : Type 0 where
     gates : has_gates c v.now.words e.seat (flight_of v.now e.seat) e.step ≡ true
     phase : has_phase (phase_of v.now.words) e.step ≡ true

@@ -40,7 +40,7 @@ pub held_idle : {c : Config} {v : View} (j : ℕ) → Orderly c v → j < c.call
     → (flight_in v j).stage ≡ Stage.Idle
 held_idle {v} j p lt e = resting_idle _ _ (held_resting v.turn j _ (gate_in v j) e (p.each j lt))
 
--- Where the gates of all others are held, all but one are idle.
+-- While the gates of all others are held, all but one are idle.
 pub others_idle : {c : Config} {v : View} (k : ℕ) → Orderly c v → ((j : ℕ) → j < c.callers → k ≢ j → gate_in v j ≡ 2)
     → (j : ℕ) → j ≢ k → (flight_in v j).stage ≡ Stage.Idle
 others_idle {c} {v} k p held j ne = elim (cases_lt j c.callers) [
@@ -158,7 +158,7 @@ MeetsOf c w seat x = MeetsAll c w.now (record { seat = seat; step = x })
 abbrev AdmittedOf : Config → World → NeverState → Event → Type 0
 AdmittedOf c w n e = AreAdmitted c.globals n (asked (call_decided c w.now e))
 
--- a kind that is for the turn's holder and leaves its flight alone, or for others
+-- a kind that is for the turn's holder and leaves its flight as it is, or for others
 abbrev is_still : Step → Bool
 is_still Step.Reg = false
 is_still Step.Write = false

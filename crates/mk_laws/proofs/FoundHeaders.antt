@@ -23,7 +23,7 @@ use Rattle.mk_geom.{proofs.ClassTable.{some_cells}, specs.Addresses.{cell_under,
 use Rattle.mk_core.{proofs.{ObjectHeaders.{same_cells, same_words}, PageSteps.Unmaps}, specs.NewPlaces.{bits_made}}
 use Rattle.mk_core.proofs.{PointedPages.{found_under, lies_under}, ServingSteps.Carves, WordBits.without_none}
 
--- It finds no header on its page, marked cells and words 0; or it unmaps, which shows the same.
+-- It finds no header on its page, marked cells and words 0; or it unmaps, which shows what was shown.
 pub data HeadFinds (pages : ℕ) (w : Words) (p header : ℕ) : Type 0 where
   Carved : header_at w p ≡ 0 → ((value : ℕ) (x : Cell) → page_at_address value ≡ p → cell_at pages header value ≡ Some x
       → is_marked w x ≡ true) → ((k i : ℕ) → k < cells_under (header_of header) → i < words_under (header_of header)
@@ -127,7 +127,7 @@ run_cell_at : (pages header value : ℕ) {distance : ℕ} {o : Object} → Shows
 run_cell_at pages header value {distance = distance} {o = o} part large =
     ap (λ (x : Option Cell). if is_heap_address pages value then x else None) (run_cell_under _ _ part large)
 
--- Unmapping shows the same.
+-- Unmapping shows what was shown.
 
 unmapped_goes : (pages before after : ℕ) {distance : ℕ} {o : Object} → is_small_object o ≡ false
     → ShowsPart o distance (header_of before) → ShowsPart o distance (header_of after)

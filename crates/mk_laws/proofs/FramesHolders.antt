@@ -13,7 +13,7 @@ pub holds_is : (c : Config) (m : Moment) (seat : Seat) → Orderly c (view_of m)
 holds_is c m (Caller k) o t = (t.0, sym (in_turn_told _ _ (not_astray c m o k t.0)) ∙ ap is_standing_under_turn t.1)
 holds_is c m _ o t = t
 
--- What is asked of the holder alone is asked of no other.
+-- What is asked only of the holder is asked of no other.
 pub record AsksNothing (c : Config) (m : Moment) (s : Seat) (f : Flight) (n : ℕ) (x : Step) : Type 0 where
   pub gates : has_gates c m.words s f x ≡ true
   pub phase : has_phase n x ≡ true

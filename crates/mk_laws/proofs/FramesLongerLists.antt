@@ -118,7 +118,7 @@ module _ (globals : List ℕ) (n m : NeverState) (k : ℕ) (on : Continues n m) 
 -- What a step asks of the heap that never reuses storage it asks after a longer list too: what it finds may differ,
 -- and so the answer, but not whether it decides, nor what for.
 
--- What two moments have in common where the answer reads it: an own register, whether a page is unmapped, the target.
+-- What two moments have in common if the answer reads it: an own register, whether a page is unmapped, the target.
 pub record SeesTheSame (c : Config) (m n : Moment) (f : Flight) (found find : ℕ) (x : Step) : Type 0 where
   pub reg : x ≡ Step.Reg → find ≡ found
   pub probe : x ≡ Step.Probe → is_unmapped_header (header_of find) ≡ is_unmapped_header (header_of found)
@@ -329,7 +329,7 @@ tallies_on kept counts tidy = record {
   full = ap (λ (s : Steady). s.full) kept.steady ∙ tidy.full ∙ ap in_a_word (sym counts.fulls);
 }
 
--- The tallies are as they should be before each `give` of the longer list, and before the event where it is one.
+-- The tallies are as they should be before each `give` of the longer list, and before the event if it is one.
 pub tidy_by_last : (c : Config) (xs : List Event) (e : Event) → IsTidy c xs → (e.step ≡ Step.Give → TalliesAreTidy c xs)
     → IsTidy c (xs ++ e ∷ [])
 tidy_by_last c xs e tidy last before x behind is give = by (splits_last xs e before x behind is)

@@ -100,7 +100,7 @@ mark_since {c} {m} (Caller j) x known h k at = elim (cases_eq k j) [
     flight = (progress c m (flight_of m (Caller j)) (found c m (record { seat = Caller j; step = x })) x).flight
 mark_since _ x known h k at = inl refl
 
--- Where the marks are closed after a step, no page was dirty before it.
+-- If the marks are closed after a step, no page was dirty before it.
 was_clean : {c : Config} {w : World} (seat : Seat) (x : Step) → KnownWorld c w → Meets c w.now seat x
     → DirtyStands c w → phase_behind x (phase_of w.now.words) ≡ 3 → (p : ℕ) → slice_index w.now.words.dirty p ≡ 0
 was_clean {c} {w} seat Step.Close known h d three p = elim (cases_lt p c.pages) [
@@ -203,7 +203,7 @@ dirty_stands = holds_of_histories Stands first_stands kept
 -- A page without a header.
 
 module _ (c : Config) (w : World) (n : NeverState) (known : KnownWorld c w) (all : Invariant c w n) where
-  -- Where an allocation stands there is a header.
+  -- Where there is an allocation there is a header.
   allocation_shows : {p : ℕ} → HasAllocation c w p → header_at w.now.words p ≢ 0
   allocation_shows {p} x z =
       let a : PlacedAllocation = placed_at w.allocations x.number in

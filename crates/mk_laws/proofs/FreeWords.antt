@@ -68,7 +68,7 @@ module _ {c : Config} {w : World} {n : NeverState} (known : KnownWorld c w) (all
             word = run_word a.base _ (pages_made o) x aligned (large_words o run.large) at.0 at.1;
           }
 
-  -- and of a mapped one, where the freed run is gone.
+  -- and of a mapped one, if the freed run is gone.
   pub of_one_mapped : phase_of w.now.words ≢ 4 → is_run_gone w.now.words w.now.seats.holding.freed ≡ true
       → (x : ℕ) → slice_index w.now.words.heap x ≢ 0 → IsWordOfMapped c w.allocations x
   of_one_mapped quiet gone x some = by (all.zeros x some)

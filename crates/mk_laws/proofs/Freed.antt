@@ -175,7 +175,7 @@ pub run_large : {o : Object} {x : Option Header} (p : ℕ) → ShowsPart o 0 x �
     → run_headed x p ≡ Some (record { page = p; count = pages_made o })
 run_large p x4 l = grind (arith, small)
 
--- Where no run is on its way, the header of a claim's page stays right for what it becomes.
+-- While no run is on its way, the header of a claim's page stays right for what it becomes.
 moves : (freed now large going : Bool) (o : Object) (d h : ℕ) → (freed ≡ true → now ≡ true)
     → (freed ≡ false → now ≡ true → large ≡ true → going ≡ true)
     → HasHeader (mode_of (freed && large) false) o d h → HasHeader (mode_of (now && large) going) o d h

@@ -76,7 +76,7 @@ was_freed c w seat f (Step.Quar p v) run e = elim (else_freed _ w.now.seats.hold
 ]
 was_freed c w seat f x run e = grind (arith, Before)
 
--- Who is under the turn after a step of its own was so, where somebody had the turn.
+-- Who is under the turn after a step of its own was so before, if somebody had the turn.
 
 holds_now : (c : Config) (v : View) (seat : Seat) (k : ℕ) → seat ≡ Caller k → HoldsTurn c v seat
     → standing (flight_in v k) ≡ UnderTurn
@@ -192,7 +192,7 @@ module _ (c : Config) (w : World) (n : NeverState) (known : KnownWorld c w) (oth
   abbrev GrowsBehind : Seat → Step → Type 0
   GrowsBehind seat x = IsLonger (bases_of w.allocations) (bases_of (world_behind c w (event_of seat x)).allocations)
 
-  -- the holder's own step, where the run was freed before
+  -- the holder's own step, if the run was freed before
   own_old : (k : ℕ) (x : Step) (run : RunPages) → Meets c w.now (Caller k) x → GrowsBehind (Caller k) x
       → w.now.seats.holding.freed ≡ Some run → gives x ≡ false → OwnsBehind (Caller k) x run k
   own_old k x run h grows old g free =
@@ -272,7 +272,7 @@ module _ (c : Config) (w : World) (n : NeverState) (known : KnownWorld c w) (oth
     | inr ne ↦ other_new j k p v run ne h
   ]
 
-  -- Where no call is in flight, it was freed before.
+  -- If no call is in flight, it was freed before.
   was_before : {x : Step} {run : RunPages} → WasFreed c w at_rest run x → w.now.seats.holding.freed ≡ Some run
   was_before (Before old g) = old
   was_before {run = run} (Now p v heads) = absurd (no_run w.now.words _ run heads)

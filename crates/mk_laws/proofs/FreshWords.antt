@@ -65,7 +65,7 @@ module _ (c : Config) (change : PlacedAllocation → PlacedAllocation) where
   abbrev pub CountsAsBefore : PlacedAllocation → Type 0
   CountsAsBefore a = fresh_part c (change a) ≡ fresh_part c a
 
-  -- where each does
+  -- if each does
   pub fresh_kept : (xs : List PlacedAllocation) → ((i : ℕ) → CountsAsBefore (placed_at xs i))
       → fresh_words_of c (map change xs) ≡ fresh_words_of c xs
   fresh_kept [] same = refl
@@ -73,7 +73,7 @@ module _ (c : Config) (change : PlacedAllocation → PlacedAllocation) where
       let was = fresh_cons c a xs in
       omega (arith, same 0, fresh_kept xs (λ i. same (suc i)), fresh_cons c (change a) (map change xs))
 
-  -- where one of them counts so much more
+  -- if one of them counts so much more
   pub fresh_more : (xs : List PlacedAllocation) (j more : ℕ) → j < length xs
       → ((i : ℕ) → i ≢ j → CountsAsBefore (placed_at xs i)) → fresh_part c (change (placed_at xs j))
       ≡ fresh_part c (placed_at xs j) + more → fresh_words_of c (map change xs) ≡ fresh_words_of c xs + more

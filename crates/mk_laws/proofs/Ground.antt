@@ -57,7 +57,7 @@ of_one_same a b e = record { base = rw e; ty = rw e }
 pub of_one_joined : (a b d : PlacedAllocation) → AreOfOne a b → AreOfOne b d → AreOfOne a d
 of_one_joined a b d x y = record { base = y.base ∙ x.base; ty = y.ty ∙ x.ty }
 
--- Where allocation i is unreleased after a step, it was there and unreleased, or it is the one granted.
+-- If allocation i is unreleased after a step, it was there and unreleased, or it is the one granted.
 pub data Came (xs ys : List PlacedAllocation) (x : Step) (i : ℕ) : Type 0 where
   Stayed : (placed_at xs i).released ≡ false → AreOfOne (placed_at xs i) (placed_at ys i) → Came xs ys x i
   IsNew : x ≡ Step.Grant → i ≡ length xs → Came xs ys x i
@@ -128,7 +128,7 @@ used_up c w f p n b =
       placing = if b then w.now.seats.holding.placing else taken w.now.seats.holding.placing (place_now c w.now f);
     }
 
--- where a seat steps whose call is f
+-- if a seat steps whose call is f
 pub data GroundStep (c : Config) (w : World) (f : Flight) : Ground → Type 0 where
   Rests : GroundStep c w f (ground_of w)
   Starts : w.now.words.turn ≡ 0 → f.stage ≡ Stage.Idle

@@ -329,12 +329,12 @@ module _ (c : Config) (w : World) (seat : Seat) (limits : IsWithinLimits c) (kno
           let same = phase_stays c w.now seat x stays in
           grind (arith, goes_on, closed, stays_closed, leaves_closed)
 
--- Where cells are closed, so are the allocations that stand there.
+-- If cells are closed, so are the allocations in them.
 
 has_headers : {c : Config} {w : Words} {a : PlacedAllocation} → StandsMapped c w a → HasItsHeaders c w a
 has_headers st distance lt = inl (st.headers distance lt)
 
--- Its cell is scanned, where it isn't leaf.
+-- Its cell is scanned, if it isn't leaf.
 is_scanned_cell : {c : Config} {w : Words} {a : PlacedAllocation} → IsWithinLimits c → StandsMapped c w a
     → (storage_of c a).leaf ≡ false → has_no_pointers (header_in w (a.base / 64)) ≡ false
 is_scanned_cell {c} {w} {a} limits st leaf =

@@ -81,7 +81,7 @@ pub owes_in_call : {c : Config} {m : Moment} (j : ℕ) → Known c m → (flight
     → (j < c.callers) × (standing (flight_of m (Caller j)) ≡ InCall)
 owes_in_call j known at = grind (arith, cases_lt, get_or_past, is_astray, standing_at, not_astray, calls_stand)
 
--- where a `close` is enabled, no call owes a dirty word
+-- if a `close` is enabled, no call owes a dirty word
 none_owes : {c : Config} {m : Moment} (seat : Seat) (j : ℕ) → Known c m → Meets c m seat Step.Close
     → (flight_of m (Caller j)).stage ≡ Stage.Dirty → ⊥
 none_owes {c} {m} seat j known h at = elim (cases_eq (holder_number c seat) j) [

@@ -48,7 +48,7 @@ page_set ps p q x P mine other = elim (cases_eq q p) [
   | inr ne ↦ rw (get_or-set_other ps p q x free_page ne) other
 ]
 
--- a header stays where only the used word changes
+-- a header stays if only the used word changes
 pub used_set : (w : Words) (p q n : ℕ) → (P : ℕ → Type 0) → P (header_at w q)
     → P (slice_index_or (slice_set w.pages p (record { header = header_at w p; used = n })) q free_page).header
 used_set w p q n P is = set_by (λ (y : Page). P y.header) w.pages p q (record { header = header_at w p; used = n })

@@ -1,4 +1,4 @@
--- Where nothing is on its way, the headers and used words are those of the unreleased storage.
+-- While nothing is on its way, the headers and used words are those of the unreleased storage.
 use Rattle.std.proofs.{Common.{Contains, pow-suc}, lemmas.Nat.Bits.{bit_at_above, bit_at_lowest, same_from_bits}}
 use Rattle.std.proofs.{lemmas.List.get_or_default, lemmas.List.Elements.Contains-get_or}
 use Rattle.mk_laws.proofs.Vocabulary.{Bool, Claim, Config, HasHeader, IsClaimed, IsLaidOn, List, None, Object}
@@ -47,7 +47,7 @@ unmapped_run : (count : ℕ) (leaf : Bool) (d : ℕ) → run_header count false 
 unmapped_run count true zero = refl
 unmapped_run count _ _ = cc
 
--- the header word of a large claim's page, mapped where the allocation isn't freed
+-- the header word of a large claim's page, mapped if the allocation isn't freed
 run_word : (o : Object) (freed : Bool) (d h : ℕ) → is_small_object o ≡ false → HasHeader
     (mode_of (freed && true) false) o d h → h ≡ word_of (run_header (pages_made o) (not (freed && true)) o.leaf d)
 run_word o true d h large has = has.1 ∙ ap word_of (unmapped_run (pages_made o) o.leaf d)

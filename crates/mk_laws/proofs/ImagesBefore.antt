@@ -1,4 +1,4 @@
--- What stands where, as lookups show it, and what a step of a caller needs of that.
+-- What is where, as lookups show it, and what a step of a caller needs of that.
 use Rattle.mk_laws.proofs.Vocabulary.{BeginsAtCell, Bool, Caller, Cell, Config, ImagePremises, IsSafeSet, IsSized}
 use Rattle.mk_laws.proofs.Vocabulary.{IsTypedAllocation, IsWithinLimits, List, Mirrors, NeverState, None, Option}
 use Rattle.mk_laws.proofs.Vocabulary.{PlacedAllocation, RunPages, Some, Words, World, ℕ, address_of, all_below-at}

@@ -161,7 +161,7 @@ twins_kept {s} {n} h (Renews xs places released freed) = twins_same places freed
 twins_kept {s} {n} h (Releases xs places released freed kept cut) = twins_same places freed h
 twins_kept h _ = record { count = h.count; ty = h.ty; freed = h.freed }
 
--- what an event leaves, and that what it decides is right, where more is granted later too
+-- what an event leaves, and that what it decides is right, also if more is granted later
 pub record Follows (c : Config) (w : World) (n : NeverState) (e : Event) : Type 0 where
   pub mirrors : Mirrors c (world_behind c w e) (never_after c w n e)
   pub bases : IsLonger (bases_of w.allocations) (bases_of (world_behind c w e).allocations)

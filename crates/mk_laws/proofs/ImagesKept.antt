@@ -20,7 +20,7 @@ use Rattle.mk_never.{proofs.{Edits.exists, Stores.this_word}, specs.Types.{zero_
 use Rattle.mk_core.proofs.ChangedAllocations.{granted_at}
 use Rattle.std.proofs.{Math.ListN.get_or-map as get_or-map-default, lemmas.List.get_or_at}
 
--- of each allocation the length and whether it is unmapped are the same
+-- each allocation keeps its length, and whether it is unmapped
 abbrev pub AreAlike : NeverState → NeverState → Type 0
 AreAlike n m = (a : ℕ) → (length (words_of m a) ≡ length (words_of n a))
     × (is_unmapped (allocation_at m a) ≡ is_unmapped (allocation_at n a))

@@ -18,7 +18,7 @@ pub record Decides (s : ImageScene) (n : NeverState) (k : ℕ) (f : Flight) : Ty
   pub was : is_put (flight_among s.flights k).stage ≡ false
   pub bare : is_bare f.stage ≡ true
 
--- the same allocations, at the same places
+-- as many allocations, each with its type and at its place
 pub record SamePlaces (xs ys : List PlacedAllocation) : Type 0 where
   pub bases : bases_of ys ≡ bases_of xs
   pub count : length ys ≡ length xs

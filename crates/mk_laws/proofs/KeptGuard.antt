@@ -79,7 +79,7 @@ marker_kept {c} {m} {n} {x} k h = record {
   seen = λ s is. goes_joined (h.seen s is) (k.headers s.page);
 }
 
--- The guarded words of a cell stay so, where it is there and scanned before.
+-- The guarded words of a cell stay so, if it is there and scanned before.
 pub cell_kept : {c : Config} {m n : Moment} (p k i : ℕ) → Keeps c m n → cells_under (header_in m.words p) ≢ 0
     → (k < cells_under (header_in m.words p) → has_no_pointers (header_in m.words p) ≡ false
     → i < words_under (header_in m.words p) → IsGuarded c m (64 * p + k * words_under (header_in m.words p) + i))

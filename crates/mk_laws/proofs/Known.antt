@@ -141,7 +141,7 @@ enabled_from {c} P one w (e ∷ es) lengths known on here = enabled_from P one (
     (accessed_lengths c.pages w.now.words (word_accessed c w.now e) (access c w.now e) lengths)
     (known_behind c w.now e known on.0) on.1 (one w e es lengths known on.0 here)
 
--- What is said of a world and the events to come holds in the end of enabled events, where each of them keeps it.
+-- What is said of a world and the events to come holds at the end of enabled events, if each of them keeps it.
 pub along_enabled : {c : Config} (P : World → List Event → Type 0) → ((w : World) (e : Event) (es : List Event)
     → AreOfPages c.pages w.now.words → Known c w.now → IsEnabled c w.now e → P w (e ∷ es) → P (world_behind c w e) es)
     → (es : List Event) → IsWithinLimits c → AreEnabled c es → P (first_world c) es → P (left c es) []

@@ -74,7 +74,7 @@ module _ (c : Config) (w : World) (seat : Seat) (b : Before c w) (laid : LayoutS
   sized : is_undecided_new f ≡ true → IsSized o
   sized new = made_sized c w.now seat b.limits b.known new
 
-  -- other pages, and another placing where no cycle releases
+  -- other pages, and another placing if no cycle releases
   abbrev PagesBehind : List Page → (Placing → Option Place → Placing) → Bool → Option Place → Type 0
   PagesBehind pages change releasing place = Laid c (object_now c w.now) releasing w (record (ground_of w) {
     pages = pages;
@@ -114,7 +114,7 @@ module _ (c : Config) (w : World) (seat : Seat) (b : Before c w) (laid : LayoutS
   used_by p n there lt (ItGivesBack on x) =
       rw on (used_gives_back c (object_now c w.now) w p n lt (rw on at laid) x (b.unreleased on))
 
-  -- `quar`, where none is freed: the allocations are as they were
+  -- `quar`, if none is freed: the allocations are as they were
   left_by : {p n : ℕ} → QuarantineStep c w.now f p n → LaidNow c w (with_halves w p n)
   left_by {p} {n} step = by step
     where

@@ -59,7 +59,7 @@ quar_kind : {c : Config} (w : World) {f : Flight} {p n : ℕ} → p < length w.n
     → KnownOn w.now.words.pages (slice_set w.now.words.freed p (n % 2 ^ 32))
 quar_kind w lf four x8 known = grind (arith, off_at, bit_cases, and_parts, has_bit_without)
 
--- what each kind does while the phase is releasing, and where it becomes so
+-- what each kind does while the phase is releasing, and as it becomes so
 known_by_kind : {c : Config} {w : World} (seat : Seat) (x : Step) → Before c w → Meets c w.now seat x
     → is_releasing_behind x (is_phase w.now.words 4) ≡ true → FreedCellsAreKnown w
     → KnownOn (WorldBehind c w seat x).now.words.pages (WorldBehind c w seat x).now.words.freed

@@ -27,7 +27,7 @@ pub word_of_fresh : (c : Config) (xs : List PlacedAllocation) (n : ℕ) → IsWo
     → IsWordOfMapped c (map no_longer_fresh xs) n
 word_of_fresh c xs n m = word_of_changed fresh_leaves m m.mapped
 
--- `release`, where the allocation's cell isn't left unmarked
+-- `release`, if the allocation's cell isn't left unmarked
 pub word_of_unreleased : {c : Config} (w : Words) {xs : List PlacedAllocation} {n : ℕ} → IsWithinLimits c
     → (m : IsWordOfMapped c xs n) → StandsOnHeap c (placed_at xs m.number) → HasItsHeaders c w (placed_at xs m.number)
     → is_left_unmarked w (cell_of_allocation c (placed_at xs m.number)) ≡ false

@@ -67,7 +67,7 @@ pub new_is_touched : (c : Config) (w : World) (n : NeverState) (seat : Seat) (x 
 new_is_touched c w n (Marker k) Step.Grant after T i s is at u = let kind = s.meets.kind in cc
 new_is_touched c w n seat x4 after x6 i s is at u = grind (arith, granted_points, and_parts)
 
--- What pointed into members alone still does after a step.
+-- What pointed only into members still does after a step.
 pub points_behind : (c : Config) (w : World) (n : NeverState) (seat : Seat) (x : Step) (after : NeverState)
     (T : ℕ → Type 0) (v : ℕ) → Steps c w n seat x after T
     → PointsOnlyInto c w.allocations T v → PointsOnlyInto c (WorldBehind c w seat x).allocations T v

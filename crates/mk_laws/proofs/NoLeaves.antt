@@ -1,4 +1,4 @@
--- Pages where no leaf begins, and that they stay so while they show cells.
+-- Pages on which no leaf begins, and that they stay so while they show cells.
 use Rattle.mk_laws.proofs.Vocabulary.{Config, Header, HeadStep, IsMarking, ItCarves, ItEmpties, ItUnmaps, NeverState}
 use Rattle.mk_laws.proofs.Vocabulary.{Object, Option, Page, PlacedAllocation, Seat, Step, World, ℕ, ap, arith}
 use Rattle.mk_laws.proofs.Vocabulary.{cells_under, eqb-true, false, first_page_shows, flight_of, free_page}

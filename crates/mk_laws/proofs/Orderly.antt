@@ -11,7 +11,7 @@ use Rattle.mk_laws.proofs.{ProtocolMoves.IdlesOutside, ProtocolMoves.MayTake, Se
 
 -- The markers that are in, and the numbers of the phase word.
 
--- where the markers that are in are counted
+-- if the markers that are in are counted
 abbrev pub count_in : List MarkerState → ℕ
 count_in xs = count_by is_in xs
 
@@ -148,7 +148,7 @@ pub holders_flight : {c : Config} {v : View} (seat : Seat) → Orderly c v → H
     → flight_in v (v.turn - 1) ≡ flight_at v.flights seat
 holders_flight seat h t = grind (arith, turn_of, flight_in, get_or_past)
 
--- what the holder shows after its step, where it goes on, where it gives the turn, and where it takes it
+-- what the holder shows after its step, if it goes on, if it gives the turn, and if it takes it
 
 pub holder_shows : {c : Config} {v : View} (seat : Seat) (f : Flight) → Orderly c v → HoldsTurn c v seat
     → (standing (flight_at v.flights seat) ≡ UnderTurn → standing f ≡ UnderTurn)

@@ -66,11 +66,11 @@ waits_flight : (c : Config) (w : World) (k : ℕ) → OthersMove c w (Caller k) 
     (record w.now.seats { flights = slice_set w.now.seats.flights k (flight_of w.now (Caller k)) }))
 waits_flight c w k = rw (set-get_or w.now.seats.flights k at_rest) Waits
 
--- a call that begins where it may
+-- a call that begins, as it may
 abbrev begun_if : Bool → Op → Flight → Flight
 begun_if b o f = (if b then record { flight = begun o; answer = None } else still f).flight
 
--- `enter`, where the gate is 0, and where it is held
+-- `enter`, if the gate is 0, and if it is held
 abbrev entered : World → ℕ → Op → Bool → World
 entered w k o b = with_words_seats w (record w.now.words
     { gates = slice_set w.now.words.gates k (if b then 1 else slice_index w.now.words.gates k) })

@@ -19,7 +19,7 @@ pub data UnderWay (es : List Event) (phase : ℕ) : Type 0 where
   Stops : phase ≡ 3 → (k : Marking es) → some_of is_release k.close.at.behind ≡ false → UnderWay es phase
   Releases : phase ≡ 4 → (k : Releasing es) → some_of is_end k.release.at.behind ≡ false → UnderWay es phase
 
--- what these events have of a cycle, where the holder of the turn is so far in one of its own
+-- what these events have of a cycle, if the holder of the turn is so far in one of its own
 abbrev pub HasCycle : List Event → OwnCycle → ℕ → Type 0
 HasCycle es NotBegun phase = ⊤
 HasCycle es Begun phase = UnderWay es phase
@@ -93,7 +93,7 @@ module _ (es : List Event) (e : Event) (phase now : ℕ) where
   ends is four (Releases at k none) =
       record { releasing = longer_releasing (e ∷ []) k; end = next_at_end k.release.at.behind e none is }
 
-  -- where the holder's own cycle stays so far, or ends
+  -- if the holder's own cycle stays so far, or ends
 
   kept : (cycle : OwnCycle) → (UnderWay es phase → UnderWay (es ++ e ∷ []) now) → HasCycle es cycle phase
       → HasCycle (es ++ e ∷ []) cycle now

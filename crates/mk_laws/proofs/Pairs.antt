@@ -44,13 +44,13 @@ image_more n bs more (Ptr a t o) e s = ap (λ x. address_of (x + o))
     (get_or_append_left bs more 0 a (let lt : a < length n.allocations = s.0 in omega (arith, e)))
 image_more n bs more _ e s = refl
 
--- what is carried, where the values are others with the same images
+-- what is carried, if the values are others whose images are these
 pub carries_same : {bs : List ℕ} (cs : List ℕ) {f : Flight} {a b d : Value} (a2 b2 d2 : Value)
     → image_of cs a2 ≡ image_of bs a
     → image_of cs b2 ≡ image_of bs b → image_of cs d2 ≡ image_of bs d → Carries bs f a b d → Carries cs f a2 b2 d2
 carries_same cs a2 b2 d2 ea eb ed h = grind arith
 
--- an access that is met, where lengths and what is unmapped are the same
+-- an access that is met, if lengths and what is unmapped stay
 pub met_same : (n m : NeverState) (v : Value) (i : ℕ) → ((a : ℕ) → length (words_of m a) ≡ length (words_of n a))
     → ((a : ℕ) → is_unmapped (allocation_at n a) ≡ false → is_unmapped (allocation_at m a) ≡ false)
     → IsMet n v i → IsMet m v i

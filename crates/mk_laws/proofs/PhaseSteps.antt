@@ -1,4 +1,5 @@
--- The phase along a cycle: it marks up to the `close`, and stays where it is up to the `release` and the `end`.
+-- The phase along a cycle: it marks up to the `close`, then stays closed up to the `release`, and releasing up to the
+-- `end`.
 use Rattle.mk_laws.proofs.Vocabulary.{Config, IsMarking, Moment, Seat, Step, ℕ, arith, cases_lt, false, inl, inr}
 use Rattle.mk_laws.proofs.Vocabulary.{is_begin, is_close, is_end, is_release, phase_of, ◌≡◌, ◌≤◌, ◌⊎◌}
 use Rattle.mk_laws.proofs.CyclePhases.{AsksPhase, IsMarking as IsMarkingPhase, phase_asked, phase_behind, phase_moves}

@@ -11,7 +11,7 @@ use Rattle.mk_laws.proofs.Basics.{Meets, before_it, grants_new, held_place, new_
 use Rattle.mk_laws.proofs.{Actors.fills_new, InvariantHistories.first_fit_finds_the_place, OwnCycles.HasCycle}
 use Rattle.mk_laws.proofs.{Tracked.HasPlace, Tracked.news_are_tracked, Tracked.unplaced_settles, Undecided.HasNew}
 
--- What holds where a caller with an undecided New makes a step of this kind holds where any seat makes it.
+-- What holds if a caller with an undecided New makes a step of this kind holds if any seat makes it.
 at_each : {c : Config} (x : Step) (claim : List Event → Seat → Type 0) → ((m : Moment) (seat : Seat) → Meets c m seat x
     → is_undecided_new (flight_of m seat) ≡ true) → ((es : List Event) (k : ℕ) → IsHistory c es → k < c.callers
     → HasNew (left c es) k → Meets c (left c es).now (Caller k) x → claim es (Caller k))

@@ -14,7 +14,7 @@ use Rattle.mk_laws.proofs.{Undecided.{HasNew, new_holds_turn, new_object}, NewPl
 use Rattle.mk_laws.proofs.{OthersMoves.others_move, TurnFrame.holding_out}
 use Rattle.mk_core.{proofs.ServingSteps.{carves_is, takes_is}, specs.Placement.{serves}}
 
--- the tests of a step that serves, where the place of now is this one
+-- the tests of a step that serves, if the place of now is this one
 
 abbrev carves_at : Config → Moment → Flight → ℕ → ℕ → Option Place → Bool
 carves_at c m f p n place = carves m.words (object_made c f.op) place p n

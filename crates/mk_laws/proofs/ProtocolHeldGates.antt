@@ -1,4 +1,4 @@
--- A gate is 2 exactly where the last event that changed it is a `hold`.
+-- A gate is 2 exactly if the last event that changed it is a `hold`.
 use Rattle.mk_laws.proofs.Vocabulary.{Bool, Config, Event, List, Moment, Seat, Step, World, ℕ, ap, caller_number}
 use Rattle.mk_laws.proofs.Vocabulary.{cases_eq, cases_lt, eq-eqb, eqb-false, eqb-true, false, first_world, flight_of}
 use Rattle.mk_laws.proofs.Vocabulary.{get_or-set_other, get_or-set_same, if◌then◌else◌, inl, inr, left, left_from}

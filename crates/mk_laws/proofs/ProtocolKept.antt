@@ -94,7 +94,7 @@ held_or gs j b lt other = elim (cases_eq b j) [
   | inr ne ↦ get_or-set_other gs j b 2 0 ne ∙ other ne
 ]
 
--- where the turn, the phase and the markers stay
+-- if the turn, the phase and the markers stay
 seats_kept : {c : Config} {v : View} (fs : List Flight) (gs : List ℕ) (i : Holding) → Orderly c v
     → length fs ≡ c.callers → length gs ≡ 16 → AllShow c.callers v.turn gs fs
     → Served (slice_index_or fs (v.turn - 1) at_rest) i → (v.turn ≡ 0 → i ≡ nothing_done)
@@ -102,14 +102,14 @@ seats_kept : {c : Config} {v : View} (fs : List Flight) (gs : List ℕ) (i : Hol
     → Orderly c (record v { flights = fs; gates = gs; holding = i })
 seats_kept fs gs i h flights gates each served free stopped = grind arith
 
--- where the turn is taken or given
+-- if the turn is taken or given
 turn_kept : {c : Config} {v : View} (fs : List Flight) (t : ℕ) → Orderly c v → length fs ≡ c.callers → t ≤ 1 + c.callers
     → AllShow c.callers t v.gates fs → (2 ≤ v.phase % 8 → v.phase % 8 ≤ 4 → t ≢ 0)
     → (v.phase % 8 ≡ 3 → (k : ℕ) → k < c.callers → t ≢ 1 + k → gate_in v k ≡ 2)
     → Orderly c (record v { flights = fs; turn = t; holding = nothing_done })
 turn_kept fs t h flights turn each cycle stopped = grind (arith, nothing_served)
 
--- where the markers change, and how many of them are in, but not how far the phase is
+-- if the markers change, and how many of them are in, but not how far the phase is
 markers_kept : {c : Config} {v : View} (k : ℕ) (x : MarkerState) (p : ℕ) → Orderly c v → p % 8 ≡ v.phase % 8
     → p ≡ v.phase % 8 + 8 * count_in (slice_set v.markers k x)
     → (is_attending x.presence ≡ true → (v.phase % 8 ≡ 1) ⊎ (v.phase % 8 ≡ 2)) → (k < length v.markers → IdlesOutside x)

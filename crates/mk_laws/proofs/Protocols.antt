@@ -8,7 +8,7 @@ use Rattle.mk_laws.{proofs.Known.{HaveOperands}, specs.Protocol.{ListsKeepThePro
 
 -- what is in order is as the protocol says
 
--- the holder is a caller, where its call is so and no call is astray
+-- the holder is a caller, if its call is so and no call is astray
 some_caller : {c : Config} (m : Moment) (test : Flight → Bool) → Orderly c (view_of m) → test at_rest ≡ false
     → test (flight_in (view_of m) (m.words.turn - 1)) ≡ true → SomeCaller c m test
 some_caller m test o rests is = grind (arith, cases_lt, get_or_past)

@@ -9,7 +9,7 @@ use Rattle.mk_laws.proofs.Vocabulary.{sym, true, used_on, without, ◌&&◌, ◌
 use Rattle.mk_core.proofs.{PageSteps.left_bits, WordBits.rest_bits}
 use Rattle.mk_laws.proofs.{Claims.claim_is, Serving.among_parts}
 
--- the bits of a word that another hasn't, where the other's are all its own
+-- the bits of a word that another hasn't, if the other's are all its own
 rest_bit : (n m k : ℕ) → bit_and n m ≡ n → has_bit (m - n) k ≡ (has_bit m k && not (has_bit n k))
 rest_bit n m k sub =
     let same : m - n ≡ without m n = ap (λ x. m - x) (sym

@@ -20,7 +20,7 @@ pub record Reaches (safe : ℕ → Bool) (s : ImageScene) (n : NeverState) (v : 
   pub of_set : safe number ≡ true
   pub kind : P (kind_in n (allocation_at n number) place)
 
--- where a header of a page says that it is unmapped
+-- if a header of a page says that it is unmapped
 abbrev pub PagesShow : (ℕ → ℕ) → ImageScene → NeverState → Type 0
 PagesShow header s n = (a i : ℕ) → (placed_at s.allocations a).released ≡ false → i < length (words_of n a)
     → is_unmapped_header (header_of (header (((placed_at s.allocations a).base + i) / 64)))

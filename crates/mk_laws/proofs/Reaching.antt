@@ -44,7 +44,7 @@ pub events_reach_the_table : EventsReachTheTable
 events_reach_the_table c es e limits on now =
     reaches e.seat e.step (known_left c es limits on) (in_heap_left c es limits on) (enabled_meets c _ e now)
 
--- the access is the same where the call, the marker and a New's place are
+-- the access stays if the call, the marker and a New's place do
 
 same_access : (c : Config) (m n : Moment) (seat : Seat) (x : Step) → flight_of n seat ≡ flight_of m seat
     → marker_at n seat ≡ marker_at m seat → (is_grant x ≡ true → n.seats.holding ≡ m.seats.holding)

@@ -20,7 +20,7 @@ pub not_releasing : (w : World) → phase_of w.now.words ≢ 4 → is_phase w.no
 not_releasing w quiet = ne_eqb _ 4 quiet
 
 module _ (c : Config) (w : World) (n : NeverState) (known : KnownWorld c w) (all : Invariant c w n) where
-  -- A freed bit is that of a freed allocation's cell, where the phase isn't releasing.
+  -- A freed bit is that of a freed allocation's cell, unless the phase is releasing.
   pub freed_cell : phase_of w.now.words ≢ 4 → (cell : Cell) → is_freed w.now.words cell ≡ true
       → IsFreedCell c w.allocations cell.page cell.index
   freed_cell quiet cell bit = elim (all.order.quarantined.owned cell.page cell.index bit) [

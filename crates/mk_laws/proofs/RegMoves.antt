@@ -21,7 +21,7 @@ carries_q : (bs : List ℕ) (f : Flight) (a b d : Value) → f.q ≡ image_of bs
     → has_some_p f.stage f.op ≡ false → has_r f.stage f.op ≡ false → Carries bs f a b d
 carries_q bs f a b d e ne p sp r = grind arith
 
--- after the load of q, an access carries q alone
+-- after the load of q, an access carries only q
 record BehindLoadQ (s : Stage) (o : Op) : Type 0 where
   pub p : has_p s o ≡ false
   pub some_p : has_some_p s o ≡ false

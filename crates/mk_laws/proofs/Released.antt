@@ -1,4 +1,4 @@
--- `release` on the terrain: an allocation is released exactly where its cell is left unmarked.
+-- `release` on the terrain: an allocation is released exactly if its cell is left unmarked.
 use Rattle.mk_laws.proofs.Vocabulary.{Among, BeginsAtCell, Bool, Cell, Claim, Config, HasItsHeaders, IsAtCell, IsShown}
 use Rattle.mk_laws.proofs.Vocabulary.{IsSized, IsWithinLimits, List, None, Object, Option, Place, PlacedAllocation}
 use Rattle.mk_laws.proofs.Vocabulary.{RunPages, RunStands, Some, StandsOnHeap, Words, World, ℕ, ap, arith, base_made}
@@ -40,12 +40,12 @@ stands_there run w {a = a} len shown u at = record {
   headers = λ d lt. header_of_mode _ _ d _ (shown.headers d lt);
 }
 
--- The index of its cell, where it is large.
+-- The index of its cell, if it is large.
 pub large_index : (c : Config) (a : PlacedAllocation) → IsSized (object_placed c a)
     → is_small_object (object_placed c a) ≡ false → (cell_of_allocation c a).index ≡ 0
 large_index c a sized large = ap (λ (x : Cell). x.index) (run_cell c a sized large)
 
--- Its cell has the place's page and index, where it has the place's base.
+-- Its cell has the place's page and index, if it has the place's base.
 pub place_index : (c : Config) (a : PlacedAllocation) (place : Place) → IsSized (object_placed c a)
     → a.base ≡ base_made (object_placed c a) place → place.index < cells_made (object_placed c a)
     → (a.base / 64 ≡ place.page) × ((cell_of_allocation c a).index ≡ place.index)
@@ -73,7 +73,7 @@ pub left_is : {c : Config} {w : Words} {a : PlacedAllocation} → IsWithinLimits
     a).released ≡ is_released_in true w.snapshot w.marks (a.base / 64) (cell_of_allocation c a).index
 left_is {c} {w} {a} limits st = released_where_left c w a limits st.stands st.headers ∙ has_bit_without _ _ _
 
--- a claim goes exactly where its cell is released
+-- a claim goes exactly if its cell is released
 pub goes : {c : Config} (run : Option RunPages) (w : Words) (xs : List PlacedAllocation) (x : Claim) → IsWithinLimits c
     → ((i : ℕ) → (placed_at xs i).released ≡ false → IsStanding c w (placed_at xs i)) → Among x (claims_of c run xs)
     → Among x (claims_of c run (map (with_released c w) xs))

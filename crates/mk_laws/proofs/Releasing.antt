@@ -53,7 +53,7 @@ shown_beside {pages} p n {x = x} lt shown apart = record {
   used = rw (headed_used pages p n x.page lt) shown.used;
 }
 
--- where a page shows what it showed, so does its head
+-- if a page shows what it showed, so does its head
 pub head_of_other : (pages : List Page) (p n q : ℕ) → q ≢ p → head_on (with_header_on pages p n) q ≡ head_on pages q
 head_of_other pages p n q ne = rw (headed_other pages p n q ne)
 

@@ -1,4 +1,4 @@
--- How many pages are resident or in a plot, where few change.
+-- How many pages are resident or in a plot, if few change.
 use Rattle.std.{proofs.{Common.min, lemmas.List.Recursion.is_count_by}, specs.List.{count_by}}
 use Rattle.mk_laws.proofs.Vocabulary.{Bool, Config, Header, List, NoPlot, Object, Option, Page, Placing, Plot, World, ℕ}
 use Rattle.mk_laws.proofs.Vocabulary.{arith, cond, count_below, false, free_page, get_or-set_other, header_of}
@@ -13,7 +13,7 @@ use Rattle.mk_laws.specs.Room.{HasRoom, in_plot, is_taken_page}
 
 -- Counts of the numbers below one that pass a test.
 
--- where fewer pass
+-- if fewer pass
 pub count_fewer : (n : ℕ) (test other : ℕ → Bool) → ((p : ℕ) → p < n → test p ≡ true → other p ≡ true)
     → count_below n test ≤ count_below n other
 unfolding count_below
@@ -25,7 +25,7 @@ count_fewer (suc n) test other fewer =
     by : (a b : Bool) → (a ≡ true → b ≡ true) → (if a then 1 else 0) ≤ (if b then 1 else 0)
     by a b h = grind arith
 
--- where none passes
+-- if none passes
 pub count_none : (n : ℕ) (test : ℕ → Bool) → ((p : ℕ) → test p ≡ false) → count_below n test ≡ 0
 unfolding count_below
 count_none zero test none = refl
@@ -55,7 +55,7 @@ no_numbers : (test : ℕ → Bool) → count_below 0 test ≡ 0
 unfolding count_below
 no_numbers test = refl
 
--- the first number alone
+-- only the first number
 count_front : (n : ℕ) (test : ℕ → Bool)
     → count_below (suc n) test ≡ (if test 0 then 1 else 0) + count_below n (λ p. test (suc p))
 unfolding count_below
@@ -92,7 +92,7 @@ pub room_unplaced : (c : Config) (o u : Object) (pages others : List Page) (plac
     → RoomOn c o pages placing → RoomOn c u others other
 room_unplaced c o u pages others placing other none fewer room = grind (arith, room_fewer, or_left, or_cases)
 
--- with the same plot, where fewer pages are resident
+-- with this plot, if fewer pages are resident
 pub room_same : (c : Config) (o : Object) (pages others : List Page) (placing : Placing)
     → ((q : ℕ) → q < c.pages → is_resident others q ≡ true → is_taken_page pages (plot_of o placing) q ≡ true)
     → RoomOn c o pages placing → RoomOn c o others placing
@@ -118,7 +118,7 @@ pub resident_other : (pages : List Page) (p n q : ℕ) → q ≢ p → is_reside
 resident_other pages p n q ne h =
     rw (← (get_or-set_other pages p q (record { header = n; used = used_on pages p }) free_page ne)) h
 
--- where the header that it gets isn't that of a resident page
+-- if the header that it gets isn't that of a resident page
 pub resident_gone : (pages : List Page) (p n q : ℕ) → p < length pages
     → is_resident_page (use_under (header_of n) (used_on pages p)) ≡ false
     → is_resident (with_header_on pages p n) q ≡ true → is_resident pages q ≡ true

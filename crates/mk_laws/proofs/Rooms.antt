@@ -17,7 +17,7 @@ use Rattle.mk_laws.proofs.{ResidentPages.{room_unplaced, unmapped_use}, Serving.
 use Rattle.mk_laws.proofs.{Serving.placed_for, Behind.object_kind, Fits.{FitsOnFreePages, fits}, Sorts.chosen_none}
 use Rattle.mk_laws.specs.Room.{HasRoom}
 
--- The place is chosen, where this many pages are free.
+-- The place is chosen, if this many pages are free.
 chosen_room : (c : Config) {o : Object} {pages : List Page} {place : Place} → length pages ≡ c.pages
     → FitsOnFreePages c.resident pages o place → RoomOn c o pages (Chosen place)
 chosen_room c {o = o} {pages = pages} {place = place} len fit =

@@ -79,7 +79,7 @@ some_run w None r is = cc
 some_run w (Some x) r is = (x, (refl, heads _ x.page r is))
 
 module _ {c : Config} {w : World} (known : KnownWorld c w) (laid : LayoutStands c w) (gates : HoldsRunGates c w) where
-  -- the run of the call, where it is what it was
+  -- the run of the call, if it is what it was
   stays : (seat : Seat) (x : Step) → Meets c w.now seat x
       → (is_heap_store x ≡ true → IsWordOfMapped c w.allocations (word_met (flight_of w.now seat)))
       → is_run_gone w.now.words w.now.seats.holding.freed ≡ true

@@ -21,7 +21,7 @@ abbrev pub is_wipe : Step → Bool
 is_wipe (Step.Wipe n) = true
 is_wipe _ = false
 
--- A word of no mapped allocation is changed by the holder alone.
+-- Only the holder changes a word of no mapped allocation.
 pub heap_after : (c : Config) (w : World) (seat : Seat) (x : Step) → (is_wipe x ≡ false)
     → (is_heap_store x ≡ true → IsWordOfMapped c w.allocations (word_met (flight_of w.now seat)))
     → (n : ℕ) → (IsWordOfMapped c w.allocations n → ⊥)

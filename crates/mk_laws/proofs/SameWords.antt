@@ -13,7 +13,7 @@ Moves c m seat x = Move c (view_of m) seat (view_of (Behind c m seat x))
 abbrev pub finds : Config → Moment → Seat → Step → ℕ
 finds c m seat x = found c m (record { seat = seat; step = x })
 
--- the words of the protocol are the same
+-- the words of the protocol stay as they are
 pub record Keeps (w x : Words) : Type 0 where
   pub turn : x.turn ≡ w.turn
   pub phase : x.phase ≡ w.phase
@@ -31,7 +31,7 @@ tally_keeps w _ v = record { turn = refl; phase = refl; gates = refl }
 abbrev pub view_by : Words → List Flight → Holding → List MarkerState → View
 view_by w fs h ms = record { turn = w.turn; phase = w.phase; gates = w.gates; flights = fs; holding = h; markers = ms }
 
--- a move, where the words of the protocol are the same
+-- a move, if the words of the protocol stay as they are
 pub with_words : {c : Config} {v : View} {seat : Seat} {w x : Words} (fs : List Flight) (h : Holding)
     (ms : List MarkerState) → Keeps w x → Move c v seat (view_by w fs h ms) → Move c v seat (view_by x fs h ms)
 with_words fs h ms same move = rw same.turn (rw same.phase (rw same.gates move))

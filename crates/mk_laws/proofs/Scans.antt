@@ -14,7 +14,7 @@ use Rattle.mk_laws.proofs.{KeptGuard.goes_same, Wells.IsWell, Wells.well_guarded
 outside_well : (c : Config) (w : Words) (v : ℕ) → is_heap_address c.pages v ≡ false → IsWell c w v
 outside_well c w v out y is = grind (arith, none-some)
 
--- the same scan, with another hand
+-- the scan stays, with another hand
 other_hand : {c : Config} {m : Moment} {hand : Option ℕ} (new : Option ℕ) {x : Scan} → ScanStands c m hand x
     → ((n : ℕ) → IsGuarded c m n ⊎ (hand ≡ Some (slice_index m.words.heap n))
     → IsGuarded c m n ⊎ (new ≡ Some (slice_index m.words.heap n))) → ScanStands c m new x

@@ -69,7 +69,7 @@ looks {c} n (Word.Head p) fits h = record {
 }
 looks n _ fits h = record { seen = λ s e. cc; page = h.page; end = h.end }
 
--- where a marker steps that finds n
+-- if a marker steps that finds n
 pub marker_fits_behind : {c : Config} (n : ℕ) (s : Step) {x : Marker}
     → ((p : ℕ) → s ≡ Step.Mlook (Word.Head p) → RunFits c p n) → ((p i : ℕ) → s ≡ Step.Claim p i → p < c.pages)
     → marker_may c x s ≡ true → MarkerFits c x → MarkerFits c (marker_behind c n s x)

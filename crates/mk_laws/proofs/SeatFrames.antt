@@ -1,4 +1,4 @@
--- The frame law of histories: what the events of others leave where all calls are admitted.
+-- The frame law of histories: what the events of others leave if all calls are admitted.
 use Rattle.mk_laws.proofs.Vocabulary.{AreOfOthers, Caller, Config, Event, Flight, GuardPremisesFrom, Holds, IsHistory}
 use Rattle.mk_laws.proofs.Vocabulary.{IsInCall, IsSound, KeepsRegisters, List, Moment, NeverState, None, Null, Num, Op}
 use Rattle.mk_laws.proofs.Vocabulary.{PlacedAllocation, Ptr, Seat, Stage, Step, Value, World, Written, ℕ, admitted_keep}
@@ -18,9 +18,9 @@ use Rattle.mk_laws.proofs.{ImagesHistories.one_event, ImagesMoves.IsLonger, Prob
 use Rattle.mk_never.specs.Reach.{LeadsTo, by_register}
 use Rattle.mk_core.specs.{Frames.{AdmittedOthersLeave, HeapIsLeft, HoldsAll, TargetsAreLeft}, Readings.is_in_call}
 
--- An allocation to which a caller's register leads stays unreleased, where it is, and in a call of the caller mapped.
+-- An allocation to which a caller's register leads stays unreleased if it is so, and in a call of the caller mapped.
 
--- Allocations stand where they stood.
+-- Allocations stay at their places.
 
 longer_joined : (xs ys zs : List ℕ) → IsLonger xs ys → IsLonger ys zs → IsLonger xs zs
 longer_joined xs ys zs a b = record { more = a.more ++ b.more; is = b.is ∙ rw a.is (append_assoc xs a.more b.more) }
@@ -105,8 +105,8 @@ module _ (c : Config) (es more : List Event) (k : ℕ) (h : IsHistory c (es ++ m
   targets_are_left call =
       record { unreleased = unreleased_still; mapped = λ r a lt leads mapped. mapped_still r a lt leads call mapped }
 
--- A caller whose gate is held decides no call, so its registers stay as they are in the heap that never reuses storage,
--- and where all gates are held, all of that heap does.
+-- A caller whose gate is held decides no call, so its registers stay as they are in the heap that never reuses storage.
+-- If all gates are held, all of that heap stays.
 
 -- Between calls nothing is decided.
 idle_decides_nothing : (c : Config) (m : Moment) (f : Flight) (s : Stage) (o : Op) (n : ℕ) (x : Step) → s ≡ Stage.Idle
@@ -160,7 +160,7 @@ held_registers {c} s es more k h others holds two =
     (λ xs ys zs a b held. let x = a held in let y = b x.0 in (y.0, λ r lt. y.1 r lt ∙ x.1 r lt)) (held_one c s k) es
     more h others (record { holds = holds; gate = two })).1
 
--- where all other gates are held
+-- if all other gates are held
 
 abbrev KeepsAll : Config → Seat → List Event → List Event → Type 0
 KeepsAll c s es fs = HoldsAll c (left c es).now s

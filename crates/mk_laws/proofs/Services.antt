@@ -1,4 +1,4 @@
--- What the turn's holder has done in its call: where a New is, and what a Free has freed.
+-- What the turn's holder has done in its call: how far a New is, and what a Free has freed.
 use Rattle.mk_laws.proofs.Vocabulary.{Flight, Granted, Holding, None, Op, Option, Placing, RunPages, Stage, Unplaced}
 use Rattle.mk_laws.proofs.Vocabulary.{arith, false, has_place, is_decided_free_at, is_new_at, is_some}
 use Rattle.mk_laws.proofs.{Vocabulary.{is_undecided_free, is_undecided_new, true, ◌≡◌}, Stages.gives_stand}

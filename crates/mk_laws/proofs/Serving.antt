@@ -18,7 +18,7 @@ pub use Rattle.mk_laws.proofs.Placing.{apart_right}
 abbrev pub Laid : Config → Object → Bool → World → Ground → Type 0
 Laid c o releasing w t = HasLayout c o releasing w.now.words.marks t
 
--- with another placing that is the same
+-- with another placing that is equal to this one
 placed_as : (c : Config) (o : Object) (releasing : Bool) (w : World) (t : Ground) (placing : Placing)
     → t.placing ≡ placing → Laid c o releasing w t → Laid c o releasing w (record t { placing = placing })
 placed_as c o releasing w t placing is st = rw is at st
@@ -64,7 +64,7 @@ head_unmaps c o releasing w {p = p} {n = n} st h =
       cells = st.cells;
     }
 
--- The place is chosen, where its pages are free.
+-- The place is chosen, if its pages are free.
 chosen_free : (c : Config) {o : Object} (releasing : Bool) (w : World) {place : Place}
     → Laid c o releasing w (ground_of w) → w.now.seats.holding.placing ≡ Unplaced → IsSized o
     → FitsOnFreePages c.resident w.now.words.pages o place
@@ -76,7 +76,7 @@ chosen_free c {o = o} releasing w {place = place} st is sized fit = record {
   cells = st.cells;
 }
 
--- `head` (b), where the place is chosen
+-- `head` (b), if the place is chosen
 carved_on : (c : Config) (o : Object) (w : World) (place : Place) {p n : ℕ}
     → Laid c o false w (record (ground_of w) { placing = Chosen place })
     → IsNextHeader w.now.words place.page (pages_made o) (header_made o) p n

@@ -1,4 +1,4 @@
--- What a laid out world says of its allocations; where nothing is on its way, its pages stand for the unreleased
+-- What a laid out world says of its allocations; while nothing is on its way, its pages stand for the unreleased
 -- storage.
 use Rattle.mk_laws.proofs.Vocabulary.{Cell, Claim, Config, Granted, IsSettled, IsWithinLimits, LayoutStands, None}
 use Rattle.mk_laws.proofs.Vocabulary.{NoPlot, Option, Placing, RunPages, Some, Unplaced, Words, World, and_parts, ap}

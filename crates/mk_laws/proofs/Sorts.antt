@@ -77,7 +77,7 @@ pub quarantines : (pages : ℕ) (w : Words) (f : Flight) (h : Holding) (p v : �
     (cell_freed pages w f p v)).flight (record h { freed = or_else (run_of_cell w (cell_freed pages w f p v)) h.freed })
 quarantines pages w f h p v = grind (arith, freed_cell, Frees, Goes)
 
--- `full` comes where there is no place
+-- `full` comes if there is no place
 pub full_unplaced : (resident : ℕ) (pages : List Page) (o : Object) (placing : Placing) (cycle : OwnCycle)
     → may_answer_full resident pages o placing cycle ≡ true → placing ≡ Unplaced
 full_unplaced resident pages o Unplaced cycle h = refl

@@ -21,7 +21,7 @@ is_reg_stage s =
 abbrev pub goes_on : Stage → Bool
 goes_on s = not (list_any (is_same_stage s) (Stage.Leave ∷ Stage.Put ∷ []))
 
--- what a stage says of the standing, where the call isn't astray
+-- what a stage says of the standing, if the call isn't astray
 
 pub calls_stand : (s : Stage) (o : Op) → is_call_stage s ≡ true → is_astray (standing_at s o) ≡ false
     → standing_at s o ≡ InCall
@@ -61,7 +61,7 @@ pub read_stands : (f : Flight) (o : Op) (x : ℕ)
     → standing (progress_read f o x).flight ≡ standing_at (stage_behind f.stage (steps_of f.op)) f.op
 read_stands f o x = grind arith
 
--- `reg` leaves a call where it stands
+-- `reg` leaves the standing of a call
 
 pub either_stands : (b : Bool) (p q : Progress) (t : Standing) → standing p.flight ≡ t → standing q.flight ≡ t
     → standing ((if b then p else q).flight) ≡ t
@@ -81,6 +81,6 @@ pub reg_no_new : (s : Stage) (o : Op) (q p r l x : ℕ) → is_reg_stage s ≡ t
     → is_undecided_new (behind_reg s o q p r l x) ≡ false
 reg_no_new s o q p r l x c h = grind arith
 
--- where a New stands
+-- the standing of a New
 pub new_stands : (s : Stage) (o : Op) → is_new_at s o ≡ true → standing_at s o ≡ UnderTurn
 new_stands s o h = grind arith

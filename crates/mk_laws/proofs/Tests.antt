@@ -1,4 +1,4 @@
--- Tests that still hold where their parts do.
+-- Tests that still hold if their parts do.
 use Rattle.mk_laws.proofs.Vocabulary.{Bool, List, MarkerState as Marker, Option, ℕ, all_below, all_below-at, and_from}
 use Rattle.mk_laws.proofs.Vocabulary.{and_parts, ap, arith, eq-eqb, eqb-true, false, has_bit, has_bit_without}
 use Rattle.mk_laws.proofs.Vocabulary.{if◌then◌else◌, is_attending, is_some_and, no_bit, none_attends, not, outside}

@@ -14,7 +14,7 @@ use Rattle.mk_laws.proofs.OwnCycles.{HasCycle, cycle_more, cycle_step}
 use Rattle.mk_laws.proofs.Undecided.{HasNew, IsTaken, NewCame, WasNew, new_came, new_holds_turn, new_object}
 use Rattle.mk_laws.proofs.{InvariantHistories.first_fit_finds_the_place, Placings.PlacingStep, Placings.places_at}
 
--- A step of the turn has served its New first, where the place was this one.
+-- A step of the turn has served its New first, if the place was this one.
 pub record ServedFirst (c : Config) (s : Seat) {es : List Event} (t : TurnOf c s es) (o : Object) (place : Place)
     : Type 0 where
   pub first : FirstServed c t
@@ -47,7 +47,7 @@ gives_off {c} w (Caller j) x k known lt new = false_from_ne_true _
     by j _ own is new = cc
 gives_off w _ x k known lt new = refl
 
--- Where nothing is placed yet, nothing is on its way,
+-- While nothing is placed yet, nothing is on its way,
 pub unplaced_settles : (c : Config) (es : List Event) (k : ℕ) → IsHistory c es → k < c.callers → HasNew (left c es) k
     → is_phase (left c es).now.words 4 ≡ false → (left c es).now.seats.holding.placing ≡ Unplaced
     → IsSettled (left c es)

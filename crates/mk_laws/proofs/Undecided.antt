@@ -18,7 +18,7 @@ new_holds_turn c w k lt new = (lt, new_stands _ _ new)
 abbrev pub new_object : Config → World → ℕ → Object
 new_object c w k = object_made c (flight_of w.now (Caller k)).op
 
--- a free turn is taken by a `take` alone
+-- only a `take` takes a free turn
 
 record IsTake (x : Step) : Type 0 where
   op : Option Op

@@ -175,7 +175,7 @@ module _ (s : LayoutScene) (x : Claim) (d : ℕ) (laid : IsLaidOn s) (ix : Among
     ];
   }
 
--- Claims that change how far they are unmapped, where the headers stand for that.
+-- Claims that change how far they are unmapped, if the headers stand for that.
 pub record Changes (s : LayoutScene) (claims : List Claim) : Type 0 where
   pub from : (y : Claim) → Among y claims → (m : Mode) × Among (record y { mode = m }) s.claims
   pub to : (x : Claim) → Among x s.claims → (m : Mode) × Among (record x { mode = m }) claims

@@ -19,7 +19,7 @@ no_caller {w} {n} known all k r past =
 pub registers_of_no_caller_are_zero : OfHistories (Leaves RegistersOfNoCallerAreZero)
 registers_of_no_caller_are_zero = of_worlds (λ c w n known all. no_caller known all)
 
--- A `setg` alone stores to globals.
+-- Only a `setg` stores to globals.
 
 abbrev is_setg : Step → Bool
 is_setg Step.Setg = true

@@ -26,7 +26,7 @@ zero_well c w x is = cc
 pub bare_word_well : (c : Config) (w : Words) (value : ℕ) → value ≡ 0 → IsWell c w value
 bare_word_well c w value z = rw z (zero_well c w)
 
--- What points well goes on doing so where headers are the same and no mark is cleared.
+-- What points well goes on doing so if headers stay and no mark is cleared.
 pub wells_from : (c : Config) (w v : Words) → ((p : ℕ) → header_at v p ≡ header_at w p) → OnlyGrow w.marks v.marks
     → (value : ℕ) → IsWell c w value → IsWell c v value
 wells_from c w v same grow value h x is = grow x.page x.index (h x (rw (same _) at is))

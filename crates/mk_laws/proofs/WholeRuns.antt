@@ -15,7 +15,7 @@ use Rattle.mk_laws.proofs.{Releasing.{headed_here, headed_used}, Behind.phase_ki
 use Rattle.mk_core.proofs.ObjectHeaders.{later_part}
 use Rattle.mk_laws.specs.WholeRuns.{HasLaterPage, HaveWholeRuns, RunIsWhole, RunsAreWhole}
 
--- Where nothing is on its way, each page with a header is one of a claim's.
+-- While nothing is on its way, each page with a header is one of a claim's.
 
 -- a bit below a bound, or none
 pub find_bit : (n bound : ℕ) → ((k : ℕ) × (has_bit n k ≡ true)) ⊎ ((k : ℕ) → k < bound → has_bit n k ≡ false)
@@ -59,7 +59,7 @@ on_claim {sc} p laid none off some =
       ]
     ]
   where
-    -- from its head, where the page is a later one
+    -- from its head, if the page is a later one
     later : (x : Claim) → Among x sc.claims → x.page ≡ head_on sc.pages p → (d : ℕ) (m : Bool)
         → shows_on sc.pages p ≡ Some (Later d m) → IsOn sc p
     later x ix page d m is =
@@ -230,7 +230,7 @@ used_whole : (c : Config) (w : World) (f : Flight) (plot : Plot) (p n : ℕ) →
 used_whole c w f plot p n lt four (ItTakes off once x) whole = absurd (true≢false (sym four ∙ off))
 used_whole c w f plot p n lt four (ItGivesBack on x) whole = given_back plot lt x whole
 
--- what each kind does while the phase is releasing, and where it becomes so
+-- what each kind does while the phase is releasing, and as it becomes so
 whole_by_kind : {c : Config} {w : World} (seat : Seat) (x : Step) (plot : Plot) → Before c w → Meets c w.now seat x
     → is_releasing_behind x (is_phase w.now.words 4) ≡ true
     → HaveWholeRuns w.now.words.pages true plot → HaveWholeRuns (WorldBehind c w seat x).now.words.pages true plot

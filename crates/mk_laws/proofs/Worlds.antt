@@ -92,7 +92,7 @@ module _ (c : Config) (w : World) (n : NeverState) (t : Told c w n) where
           ]
       by _ shown head = on_first head
 
-  -- Where its page's header is scanned, an allocation isn't leaf.
+  -- If its page's header is scanned, an allocation isn't leaf.
   pub not_leaf : (a : ℕ) → (placed a).released ≡ false
       → has_no_pointers (header_in w.now.words ((placed a).base / 64)) ≡ false → (storage_of c (placed a)).leaf ≡ false
   not_leaf a u scanned =

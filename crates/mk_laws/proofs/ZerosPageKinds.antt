@@ -25,7 +25,7 @@ use Rattle.mk_core.proofs.WordBits.{rest_bits}
 
 -- Words of released cells, after the steps of releasing.
 
--- Where the pages keep the header of the word's page and that of the cell's, and the cell its used bit, it stays one.
+-- If the pages keep the header of the word's page and that of the cell's, and the cell its used bit, it stays one.
 kept_word : {c : Config} {old : List Page} (new : List Page) {is_gone : Cell → Bool} {n : ℕ}
     (r : IsReleasedWord c old is_gone n)
     → header_on new (page_at_address (address_of n)) ≡ header_on old (page_at_address (address_of n))
@@ -135,12 +135,12 @@ gone_word w {n = n} gone f =
     (all_below-at (64 * run.count) (n - 64 * run.page) (λ i. slice_index w.heap (64 * run.page + i) == 0) zero
     (omega arith))
 
--- `quar` (a), where no cell is freed
+-- `quar` (a), if no cell is freed
 pub word_where_none_is_freed : {c : Config} (w : World) {n : ℕ} → IsWordOfMapped c w.allocations n
     → IsWordOfMapped c (map (freed_where_it_stands w.now.words None) w.allocations) n
 word_where_none_is_freed {c} w {n = n} m = word_of_changed (freed_leaves w.now.words None) m m.mapped
 
--- and where one is
+-- and if one is
 pub word_of_freed : {c : Config} (w : World) (cell : Cell) {n : ℕ} → IsWithinLimits c
     → (m : IsWordOfMapped c w.allocations n) → IsStanding c w.now.words (placed_at w.allocations m.number)
     → (stands_in w.now.words cell (placed_at w.allocations m.number) ≡ true

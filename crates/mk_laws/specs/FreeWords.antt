@@ -21,7 +21,7 @@ abbrev pub WordsOfNoneAreZero : Config → World → Type 0
 WordsOfNoneAreZero c w =
     phase_of w.now.words ≢ 4 → (n : ℕ) → IsOfNone c w.allocations n → slice_index w.now.words.heap n ≡ 0
 
--- and, where no Free is unmapping or wiping its run, so is each word of no mapped allocation.
+-- and, if no Free is unmapping or wiping its run, so is each word of no mapped allocation.
 abbrev pub UnmappedWordsAreZero : Config → World → Type 0
 UnmappedWordsAreZero c w =
     phase_of w.now.words ≢ 4 → is_run_gone w.now.words w.now.seats.holding.freed ≡ true

@@ -19,7 +19,7 @@ pub record HeaderGoesOn (pages before after : ℕ) : Type 0 where
 abbrev pub cell_scanned : Scan → Cell
 cell_scanned x = record { page = x.page; index = x.index }
 
--- the scan's cell is there, and the scan ends after its last word, or at its first where it isn't scanned
+-- the scan's cell is there, and the scan ends after its last word, or at its first if the cell isn't scanned
 abbrev pub EndsItsCell : Words → Scan → Type 0
 EndsItsCell w x =
     (x.end ≡ first_word w (cell_scanned x) + cell_words w (cell_scanned x))

@@ -15,8 +15,8 @@ use Rattle.mk_core.specs.{StandingAllocations.{object_placed, StandsOnHeap, HasI
 abbrev pub run_of_allocation : Config → PlacedAllocation → RunPages
 run_of_allocation c a = record { page = a.base / 64; count = pages_made (object_placed c a) }
 
--- An allocation stands on the heap. Its pages are mapped, but where it is large and freed: then they are unmapped,
--- except while a Free is unmapping them.
+-- An allocation is on the heap. Its pages are mapped, unless it is large and freed: then they are unmapped, except
+-- while a Free is unmapping them.
 pub record IsLaidOut (c : Config) (w : Words) (freed : Option RunPages) (a : PlacedAllocation) : Type 0 where
   pub stands : StandsOnHeap c a
   pub headers : HasItsHeaders c w a

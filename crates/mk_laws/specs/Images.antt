@@ -103,7 +103,7 @@ abbrev pub CarriesOwn : List ℕ → NeverState → ℕ → Flight → Type 0
 CarriesOwn bases n k f = Carries bases f (register_at n k (q_of f.op)) (register_at n k (p_of f.op))
     (register_at n k (r_of f.op))
 
--- An access through the value, where it is inside its allocation, meets a mapped one.
+-- An access through the value, if it is inside its allocation, meets a mapped one.
 abbrev pub IsMet : NeverState → Value → ℕ → Type 0
 IsMet n Null i = Unit {0}
 IsMet n (Num m) i = Unit {0}

@@ -1,4 +1,4 @@
--- What holds of all histories, where the rest of the invariant holds after each front of them.
+-- What holds of all histories, if the rest of the invariant holds after each front of them.
 use Rattle.std.specs.Prelude.{◌≡◌, ℕ, false, List, ◌++◌}
 use Rattle.mk_never.specs.Reach.{IsReachable}
 use Rattle.mk_core.specs.{declared.config.Config.Config, declared.events.Event.Event, Allocations.placed_at}

@@ -8,7 +8,7 @@ use Rattle.mk_core.specs.declared.seats.RunPages.{RunPages}
 use Rattle.mk_laws.specs.{Quarantine.{FreedCellsAreKnown, IsQuarantined, KeepsSnapshot}, Room.{HasHeaderWords, HasRoom}}
 use Rattle.mk_laws.specs.{Terrain.{IsCellOf, LayoutStands}, WholeRuns.RunsAreWhole}
 
--- what other groups say of a world, where a step asks for it
+-- what other groups say of a world, as far as a step asks for it
 pub record LayoutPremises (c : Config) (w : World) : Type 0 where
   -- The target of an admitted Free is the cell of an unreleased allocation.
   pub target : (seat : Seat) (cell : Cell) → target c.pages w.now.words (flight_of w.now seat) ≡ Some cell

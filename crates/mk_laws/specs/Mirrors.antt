@@ -27,7 +27,7 @@ pub record Mirrors (c : Config) (w : World) (n : NeverState) : Type 0 where
   pub register_count : length n.registers ≡ 8 * c.callers
   pub global_count : length n.globals ≡ 64
   pub typed : IsTyped c.globals n
-  -- It has the same allocations,
+  -- Its allocations are those of the world,
   pub twins : AreTwins w.allocations n
   -- whose words are the images of its values.
   pub images : AreImages (image_scene_of w) n

@@ -33,7 +33,7 @@ ReleasesTheUntouched c es = (k : Releasing es) → NoneSweeps c k.marking → Re
 pub record CountsAsFree (storages : List Storage) (s : Storage) : Type 0 where
   -- None of them has a word of it.
   pub apart : (t : Storage) → Contains storages t → (n : ℕ) → IsWordOf s n → IsWordOf t n → ⊥
-  -- So place and fits, which read these storages alone, find that no cell that begins where it does is taken,
+  -- So place and fits, which read only these storages, find that no cell that begins where it does is taken,
   pub cell : (page words k : ℕ) → s.first ≡ 64 * page + k * words → is_cell_taken storages page words k ≡ false
   -- and that nothing stands on the pages of a large one.
   pub pages : is_small s ≡ false → (page : ℕ) → stands_on page s ≡ true → use_of_storages storages page ≡ Nothing

@@ -45,7 +45,7 @@ pub record KeepsAllPromises (c : Config) (es : List Event) : Type 0 where
   -- Reserved only: the pages of a freed large allocation aren't resident from its last `head` on, until they are made a
   -- block or a run again.
   pub reserved : AtEachMoment UnmappedRunsTakeNoMemory c es
-  -- Exact placement: each object is granted at its place, and a Full stands where nothing fits, after a cycle that was
+  -- Exact placement: each object is granted at its place, and a Full comes only if nothing fits, after a cycle that was
   -- begun and ended in its call.
   pub placed : GrantsStandAtTheirPlaces c es
   pub full : FullsFitNowhere c es

@@ -70,7 +70,7 @@ pub record Protocol (c : Config) (m : Moment) : Type 0 where
       → (slice_index m.words.gates k ≡ 1) ↔ (is_in_call (flight_of m (Caller k)) ≡ true)
   -- A gate is held only while another seat than its caller has the turn.
   pub held : (k : ℕ) → k < c.callers → slice_index m.words.gates k ≡ 2 → (m.words.turn ≢ 0) × (m.words.turn ≢ 1 + k)
-  -- The turn word names a caller exactly where it is in a New or a Free.
+  -- The turn word names a caller exactly if it is in a New or a Free.
   pub holder : (k : ℕ) → k < c.callers → (m.words.turn ≡ 1 + k) ↔ (is_in_turn (flight_of m (Caller k)) ≡ true)
   -- A call is at a stage that its operation has.
   pub stage : (k : ℕ) → k < c.callers → has_stage (flight_of m (Caller k)).op (flight_of m (Caller k)).stage ≡ true
@@ -84,7 +84,7 @@ pub record Protocol (c : Config) (m : Moment) : Type 0 where
   pub attends : (k : ℕ) → is_attending (marker_of m k).presence ≡ true → (phase_of m.words ≡ 1) ⊎ (phase_of m.words ≡ 2)
   -- One that doesn't attend is in the middle of nothing.
   pub idle : (k : ℕ) → is_attending (marker_of m k).presence ≡ false → IsIdle (marker_of m k)
-  -- Where nobody has the turn, nothing is done under it.
+  -- While nobody has the turn, nothing is done under it.
   pub free : m.words.turn ≡ 0 → m.seats.holding ≡ nothing_done
   -- Only an undecided New has a place, and only one that is decided has got its object.
   pub placed : has_place m.seats.holding.placing ≡ true → SomeCaller c m is_undecided_new

@@ -53,7 +53,7 @@ pub record HasSnapshot (c : Config) (cycling : Bool) (snapshot : List ℕ) (xs :
   -- A fresh allocation is freed, and not released.
   pub fresh : (i : ℕ) → (placed_at xs i).fresh ≡ true
       → ((placed_at xs i).freed ≡ true) × ((placed_at xs i).released ≡ false)
-  -- In a cycle, an unreleased allocation's cell is in the snapshot exactly where it is freed and not fresh.
+  -- In a cycle, an unreleased allocation's cell is in the snapshot exactly if it is freed and not fresh.
   pub quarantined : cycling ≡ true → (i : ℕ) → (placed_at xs i).released ≡ false
       → has_bit_of c snapshot (placed_at xs i) ≡ ((placed_at xs i).freed && not (placed_at xs i).fresh)
 

@@ -1,4 +1,4 @@
--- What a laid out world says of its allocations, and of its pages where nothing is on its way.
+-- What a laid out world says of its allocations, and of its pages while nothing is on its way.
 use Rattle.std.specs.Prelude.{◌≡◌, ℕ, Bool, true, false, List, Option}
 use Rattle.mk_geom.specs.Storages.{PagesStandFor}
 use Rattle.mk_core.specs.{declared.config.Config.Config, declared.events.Event.Event, declared.seats.Object.Object}

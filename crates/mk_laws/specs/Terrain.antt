@@ -48,7 +48,7 @@ abbrev pub plot_of : Object → Placing → Plot
 plot_of o (Chosen place) = Plotted place.page o
 plot_of o _ = NoPlot
 
--- the claims of a ground, where the object of the turn's holder is this one
+-- the claims of a ground, if the object of the turn's holder is this one
 abbrev pub claims_on : Config → Object → Ground → List Claim
 claims_on c o t = claims_of c t.run t.allocations ++ claims_placed o t.placing
 

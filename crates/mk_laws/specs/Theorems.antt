@@ -48,7 +48,7 @@ AllocationsAreDisjoint c es =
     → IsWordOf (storage_of c (placed_at (left c es).allocations i)) n
     → IsWordOf (storage_of c (placed_at (left c es).allocations j)) n → i ≡ j
 
--- Where nothing is on its way, headers and used words are those of the unreleased storage,
+-- While nothing is on its way, headers and used words are those of the unreleased storage,
 abbrev pub PagesShowTheStorage : Config → List Event → Type 0
 PagesShowTheStorage c es =
     IsSettled (left c es) → PagesStandFor (left c es).now.words.pages (unreleased_storage c (left c es).allocations)

@@ -10,7 +10,7 @@ use Rattle.mk_core.specs.declared.events.Step.TheVariants as step
 abbrev pub is_resident_in : World → ℕ → Bool
 is_resident_in w p = is_resident_page (use_of_page (page_of w.now.words p))
 
--- The page is one of a freed large allocation that is unreleased. Where the call under way freed it, all its pages are
+-- The page is one of a freed large allocation that is unreleased. If the call under way freed it, all its pages are
 -- unmapped.
 pub record IsOfUnmappedRun (c : Config) (w : World) (p : ℕ) : Type 0 where
   pub number : ℕ

@@ -5,8 +5,8 @@ use Rattle.mk_core.specs.{declared.config.Config.Config, Cells.heads_run, Moment
 use Rattle.mk_laws.specs.LayoutScene.{Plot, InPlot, header_on, used_on, shows_on, run_count}
 use Rattle.mk_laws.specs.Terrain.{plot_of, object_now}
 
--- The page so far after the head is a later one of the run. Before a New has used it, and while the phase is
--- releasing, it may be free, where no cell of the run is used.
+-- The page so far after the head is a later one of the run. Before a New has used it, and while the phase is releasing,
+-- it may be free, if no cell of the run is used.
 abbrev pub HasLaterPage : List Page → Bool → Plot → ℕ → ℕ → Type 0
 HasLaterPage pages releasing plot p distance =
     ((mapped : Bool) × (shows_on pages (p + distance) ≡ Some (Later distance mapped)))

@@ -1,5 +1,5 @@
-//! What the steps of others leave of each seat's own, and what may come next after longer lists: facts
-//! alone, with no code.
+//! What the steps of others leave of each seat's own, and what may come next after longer lists: facts only, with no
+//! code.
 
 ghost use Rattle.mk_core.specs.{Frames.AdmittedOthersLeave, LongerLists.LongerListsGoOn};
 
@@ -9,8 +9,8 @@ pub fn others_leave_what_is_admitted()
     ensures { AdmittedOthersLeave }
 {}
 
-/// An event that may come after a list may come after what others did since, reaches the same word in
-/// the same way, and keeps a tidy list tidy.
+/// An event that may come after a list may still come after what others did since. It reaches the same word in the same
+/// way, and keeps a tidy list tidy.
 pub fn longer_lists_go_on()
     ensures { LongerListsGoOn }
 {}

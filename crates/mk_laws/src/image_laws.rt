@@ -1,5 +1,5 @@
-//! Callers see the heap that never reuses storage, where the layout, the quarantine, the zero words and the marks are
-//! as they should be: facts alone, with no code.
+//! Callers see the heap that never reuses storage, if the layout, the quarantine, the zero words and the marks are as
+//! they should be: facts only, with no code.
 
 ghost use Rattle.mk_laws.specs.Laws.{HistoriesRefineNever, HistoriesMirrorNever, ReachedIsUnreleased};
 ghost use Rattle.mk_laws.specs.Laws.{HistoriesCompareValues, HistoriesTellOthers};
@@ -28,7 +28,7 @@ pub fn exchanges_compare_values()
     ensures { HistoriesCompareValues }
 {}
 
-/// What the images tell the other groups: what Frees point to, which run is marked, and where callers store.
+/// What the images tell the other groups: what a `Free` points to, which run is marked, and where callers store.
 #[tactic(auto, using(crate::proofs::ImagesHistories::histories_tell))]
 pub fn images_tell_the_others()
     ensures { HistoriesTellOthers }

@@ -1,4 +1,4 @@
-//! The theorems over all histories, joined from the groups: facts alone, with no code.
+//! The theorems over all histories, joined from the groups: facts only, with no code.
 
 ghost use Rattle.mk_core.specs.{Exchanges.ExchangesCompareValues, History.RefinesNever};
 ghost use Rattle.mk_laws.specs.Theorems.{AllocationsAreDisjoint, AllocationsStand, ClosesFindMarksClosed};
@@ -7,7 +7,7 @@ ghost use Rattle.mk_laws.specs.Theorems.{PagesHaveHeaderWords, SnapshotIsTheCycl
 ghost use Rattle.mk_laws.specs.Theorems.{KeepsTheInvariant, KeepsTheReach, MarksStayClosed, OfHistories};
 ghost use Rattle.mk_laws.specs.Theorems.{PagesShowTheStorage};
 
-/// The invariant holds at first, one event of a history keeps it, and so it holds after each history.
+/// The invariant holds at first, and each event of a history keeps it. So it holds after each history.
 pub fn histories_keep_the_invariant()
     ensures at_first { InvariantAtFirst }
     ensures one_event { EventsKeepTheInvariant }
@@ -32,14 +32,15 @@ pub fn exchanges_compare_values()
     ensures { OfHistories ExchangesCompareValues }
 {}
 
-/// Unreleased allocations stand on the heap, and no two have a word in common.
+/// Unreleased allocations are on the heap, and no two have a word in common.
 #[tactic(auto, using(crate::proofs::InvariantHistories::allocations_stand))]
 pub fn allocations_stand_apart()
     ensures stand { OfHistories AllocationsStand }
     ensures disjoint { OfHistories AllocationsAreDisjoint }
 {}
 
-/// Where nothing is on its way, the pages show the unreleased storage, and first fit over them finds the place.
+/// While nothing is being placed, unmapped or released (`IsSettled`), the pages show the unreleased storage, and first
+/// fit over them finds the place.
 #[tactic(auto, using(crate::proofs::InvariantHistories::pages_show_the_storage_facts))]
 pub fn pages_show_the_storage()
     ensures shown { OfHistories PagesShowTheStorage }
@@ -58,7 +59,7 @@ pub fn marks_are_closed()
     ensures stopped { OfHistories MarksStayClosed }
 {}
 
-/// Each page has a header word, and at most as many pages are resident as the configuration allows.
+/// Each page has a header word, and no more pages are resident than the configuration allows.
 #[tactic(auto, using(crate::proofs::Quarantines::pages_are_in_order_facts))]
 pub fn pages_are_in_order()
     ensures words { OfHistories PagesHaveHeaderWords }

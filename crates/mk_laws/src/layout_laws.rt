@@ -1,11 +1,10 @@
-//! What stands on the pages, and the quarantine, at every moment: facts alone, with no code.
+//! What is on the pages, and what is in quarantine, at every moment: facts only, with no code.
 
 ghost use Rattle.mk_laws.specs.LayoutLaws.{EventsKeepTheLayout, LayoutHasFewResidentPages, HistoriesAreLaidOut};
 ghost use Rattle.mk_laws.specs.{LayoutLaws.LayoutHasHeaderWords, SettledPages.{FirstFitIsThePlace, HeadersStand}};
 ghost use Rattle.mk_laws.specs.{SettledPages.{UnreleasedAreApart, UnreleasedStand}, Snapshots.SnapshotsAreOfCycles};
 
-/// Whatever the event, what stands on the pages stays laid out, and the quarantine in order, where the other
-/// groups say what it asks.
+/// Whatever the event, the pages stay laid out and the quarantine in order, if the other groups say what that asks.
 #[tactic(auto, using(crate::proofs::LayoutHistories::events_keep_the_layout))]
 pub fn events_keep_the_layout()
     ensures { EventsKeepTheLayout }
@@ -16,7 +15,7 @@ pub fn histories_are_laid_out()
     ensures { HistoriesAreLaidOut }
 {}
 
-/// Each page then has a header word, and at most as many pages are resident as may be.
+/// Then each page has a header word, and no more pages are resident than may be.
 #[tactic(auto, using(crate::proofs::LayoutHistories::pages_are_in_order_facts))]
 pub fn pages_are_in_order()
     ensures words { LayoutHasHeaderWords }
@@ -29,20 +28,21 @@ pub fn snapshots_are_of_cycles()
     ensures { SnapshotsAreOfCycles }
 {}
 
-/// In a laid out world each unreleased allocation stands on the heap, in a cell of its own.
+/// In a laid out world each unreleased allocation is on the heap, in a cell of its own.
 #[tactic(auto, using(crate::proofs::Settled::unreleased_stand, crate::proofs::Settled::unreleased_are_apart))]
 pub fn unreleased_allocations_stand()
     ensures stand { UnreleasedStand }
     ensures apart { UnreleasedAreApart }
 {}
 
-/// While nothing is on its way, the headers and used bits are those of the unreleased storage.
+/// While nothing is being placed, unmapped or released (`IsSettled`), the headers and used bits are those of the
+/// unreleased storage.
 #[tactic(auto, using(crate::proofs::Settled::headers_stand))]
 pub fn headers_stand()
     ensures { HeadersStand }
 {}
 
-/// And first fit over the words finds the place among the allocations.
+/// While nothing is being placed, unmapped or released, first fit over the words finds the place among the allocations.
 #[tactic(auto, using(crate::proofs::Settled::first_fit_is_the_place))]
 pub fn first_fit_is_the_place()
     ensures { FirstFitIsThePlace }

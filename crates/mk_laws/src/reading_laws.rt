@@ -1,5 +1,5 @@
-//! What looks at the table's words say, what a cycle releases, and which words are 0, in all histories: facts
-//! alone, with no code.
+//! What looks at the table's words say, what a cycle releases, and which words are 0, in all histories: facts only,
+//! with no code.
 
 ghost use Rattle.mk_core.specs.Readings.{SnapshotsTell};
 ghost use Rattle.mk_laws.specs.{Theorems.OfHistories, FreeWords.{FreeCellsAreZero, Leaves, UnmappedWordsAreZero}};
@@ -32,8 +32,8 @@ pub fn releases_are_exact()
     ensures of_cycles { OfHistories ReleasesAreOfCycles }
 {}
 
-/// While the phase isn't releasing, words are 0 in cells without an allocation, after the cells of a page, and on
-/// free pages.
+/// Unless the phase is releasing, words are 0 in cells without an allocation, after the cells of a page, and on free
+/// pages.
 #[tactic(auto, using(crate::proofs::FreeWords::free_cells_are_zero_facts))]
 pub fn free_cells_are_zero()
     ensures of_none { OfHistories (Leaves WordsOfNoneAreZero) }
@@ -42,8 +42,8 @@ pub fn free_cells_are_zero()
     ensures behind_cells { OfHistories (Leaves WordsBehindCellsAreZero) }
 {}
 
-/// A page without a header has its used word, its quarantine word and its dirty word 0: on each dirty page an
-/// unreleased allocation stands.
+/// The used word, the quarantine word and the dirty word of a page without a header are 0. So each dirty page has an
+/// unreleased allocation.
 #[tactic(auto, using(crate::proofs::FreePages::free_pages_have_nothing_facts))]
 pub fn free_pages_have_nothing()
     ensures free { OfHistories (Leaves FreePagesHaveNothing) }
@@ -57,8 +57,8 @@ pub fn unset_words_are_zero()
     ensures globals { OfHistories UnsetGlobalsAreZero }
 {}
 
-/// The pages of a freed large allocation aren't resident from its last `head` on, until they are made a block or a
-/// run again.
+/// The pages of a freed large allocation aren't resident from its last `head` on, until they become a block or a run
+/// again.
 #[tactic(auto, using(crate::proofs::UnmappedRuns::unmapped_runs_take_no_memory))]
 pub fn unmapped_runs_take_no_memory()
     ensures { OfHistories UnmappedRunsTakeNoMemory }

@@ -1,16 +1,16 @@
-//! Words of the heap that hold no value are 0, at every moment: facts alone, with no code.
+//! Words of the heap that hold no value are 0, at every moment: facts only, with no code.
 
 ghost use Rattle.mk_laws.specs.ZeroLaws.{EventsKeepTheZeros, ZerosStandBehindLists};
 ghost use Rattle.mk_laws.specs.ZerosTell.{ImagesTellTheZeros, ZerosTellTheGuard, ZerosTellTheImages};
 
-/// Whatever the event, only words of mapped allocations, of released cells that are still used and of the run that a
-/// call is unmapping aren't 0, where the other groups say what it asks.
+/// Whatever the event, all words are 0 except those of mapped allocations, of released cells that are still used, and
+/// of the run that a call is unmapping, if the other groups say what that asks.
 #[tactic(auto, using(crate::proofs::ZerosHistories::events_keep_the_zeros))]
 pub fn events_keep_the_zeros()
     ensures { EventsKeepTheZeros }
 {}
 
-/// So it is after every list of enabled events along which the other groups say so.
+/// So it is after every list of enabled events along which the other groups say what it asks.
 #[tactic(auto, using(crate::proofs::ZerosHistories::zeros_stand_behind_lists))]
 pub fn zeros_stand_behind_lists()
     ensures { ZerosStandBehindLists }

@@ -4,7 +4,7 @@ use Rattle.std.proofs.{Common.{zero, [], ◌++◌, ◌<◌, ◌∷◌, ◌≡◌
 use Rattle.mk_never.specs.NeverHeap.{Allocation, NeverState, allocation_at, left_at, no_allocation, words_of}
 use Rattle.mk_never.specs.{declared.values.Target.Target, declared.values.Target.TheVariants.WordOf}
 
--- what holds where the access is refused and at each word that it reaches holds of what is left
+-- what holds if the access is refused, and at each word that it reaches, holds of what is left
 pub left_at_by : (P : NeverState → Type 0) (t : Target) (refused : NeverState) (at : ℕ → ℕ → NeverState)
     → P refused → ((number place : ℕ) → t ≡ WordOf number place → P (at number place)) → P (left_at t refused at)
 left_at_by x0 x1 refused at kept reached = grind arith

@@ -10,7 +10,7 @@ use Rattle.mk_never.specs.declared.operations.Op.TheVariants.{GetPtr, Lea, Move,
 use Rattle.mk_never.specs.{declared.values.Value.TheVariants.{Null, Num, Ptr}, declared.operations.Op.Op}
 use Rattle.mk_never.specs.{declared.values.Target.Target, declared.values.Value.Value}
 
--- the same allocations, with other registers or globals
+-- a state with these allocations, and with other registers or globals
 same_allocations : (n m : NeverState) → m.types ≡ n.types → m.allocations ≡ n.allocations
     → length m.registers ≡ length n.registers → length m.globals ≡ length n.globals → Continues n m
 same_allocations n m types allocations registers globals = grind arith
@@ -70,7 +70,7 @@ free_stays n Null = same n
 free_stays n (Num m) = same n
 free_stays n (Ptr number ty offset) = freed_stays n number
 
--- an access leaves the allocations where what it leaves at each word does
+-- an access leaves the allocations if what it leaves at each word does
 access_stays : {n : NeverState} (t : Target) {refused : NeverState} (at : ℕ → ℕ → NeverState)
     → Continues n refused → ((number place : ℕ) → Continues n (at number place)) → Continues n (left_at t refused at)
 access_stays t at kept reached = grind (arith, left_at_by)

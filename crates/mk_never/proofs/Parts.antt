@@ -1,4 +1,4 @@
--- Calls in two parts: what they leave, what they are replied, and where they are admitted.
+-- Calls in two parts: what they leave, what they are replied, and when they are admitted.
 use Rattle.std.proofs.Common.{List, ℕ, ap, refl, [], ◌++◌, ◌∷◌}
 use Rattle.mk_never.specs.Laws.{AdmittedInParts, LeavesInParts, RepliesInParts}
 use Rattle.mk_never.specs.NeverHeap.{Call, NeverState, after_calls, after_op, reply_of}

@@ -1,4 +1,4 @@
--- Words change by stores alone, and a load gives what was last stored.
+-- Only stores change words, and a load gives what was last stored.
 use Rattle.std.proofs.Common.{List, ℕ, ap, arith, get_or, get_or-set_other, get_or-set_same, length, refl, sym, [], ◌*◌}
 use Rattle.std.proofs.{Common.{◌+◌, ◌<◌, ◌∙◌, ◌∷◌, ◌≡◌, ◌≢◌}, lemmas.List.get_or_append_left}
 use Rattle.mk_never.proofs.{Edits.{exists, if_by, left_at_by, set_by}, Later.op_stays}
@@ -54,7 +54,7 @@ calls_keep n (x ∷ xs) number place there none =
     calls_keep (after_op n x.caller x.op) xs number place there' none.1
     ∙ op_keeps n x.caller x.op number place there none.0
 
--- what an access leaves and replies where it reaches a word
+-- what an access leaves and replies if it reaches a word
 left_reached : (t : Target) (refused : NeverState) (at : ℕ → ℕ → NeverState) (number place : ℕ)
     → t ≡ WordOf number place → left_at t refused at ≡ at number place
 left_reached t refused at number place e = ap (λ t. left_at t refused at) e

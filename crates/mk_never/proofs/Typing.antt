@@ -81,7 +81,7 @@ module _ {listed : List ℕ} {n : NeverState} (typed : IsTyped listed n) where
   typed_free (Num m) sound = typed
   typed_free (Ptr number ty offset) sound = grind (arith, typed_edit, freed_stays)
 
-  -- an access leaves a typed state where it does so at the word that it reaches
+  -- an access leaves a typed state if it does so at the word that it reaches
   pub typed_access : (v : Value) (i : ℕ) (Q : Kind → Type 0) {refused : NeverState} (at : ℕ → ℕ → NeverState)
       → Meets n v i Q → IsTyped listed refused → ((number place : ℕ) → number < length n.allocations
       → place < length (words_of n number) → Q (kind_in n (allocation_at n number) place)

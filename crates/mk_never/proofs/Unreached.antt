@@ -1,4 +1,4 @@
--- What isn't reached stays so: operations get their pointers from where reached ones stand.
+-- What isn't reached stays so: operations get their pointers from places that are reached.
 use Rattle.std.proofs.Common.{Bool, IsTrue, List, ℕ, arith, false, get_or, inl, inr, length, length-set, map, nat_lt}
 use Rattle.std.proofs.Common.{set, subst, suc, sym, true, zero, [], ◌&&◌, ◌*◌, ◌++◌, ◌+◌, ◌<◌, ◌∷◌, ◌≡◌, ◌⊎◌}
 use Rattle.std.proofs.lemmas.List.{get_or_past}
@@ -15,7 +15,7 @@ use Rattle.mk_never.specs.{declared.values.Value.TheVariants.Ptr, Laws.{Continue
 use Rattle.mk_never.specs.{declared.values.Target.Target, declared.values.Target.TheVariants.WordOf}
 use Rattle.mk_never.specs.declared.types.Kind.TheVariants.{Num as Number, To}
 
--- The value leads to what is reached alone.
+-- The value leads only to what is reached.
 abbrev LeadsToReached : NeverState → Value → Type 0
 LeadsToReached n v = (number : ℕ) → LeadsTo v number → IsReachable n number
 
@@ -76,7 +76,7 @@ module _ (n : NeverState) where
         words = by_word;
       }
 
-  -- where the words of the allocation that a pointer leads to lead to what is reached alone
+  -- if the words of the allocation that a pointer leads to lead only to what is reached
   allocation_adds_none : (a : ℕ) (b : Allocation)
       → ((place number : ℕ) → IsReachable n a → is_unmapped b ≡ false → LeadsTo (get_or b.words place Null) number
       → IsReachable n number) → ReachesNoMore n (record n { allocations = set n.allocations a b })
@@ -131,7 +131,7 @@ module _ (n : NeverState) where
         old_word from place number (inl reached) leads = inl (by_word from place number reached leads)
         old_word from place number (inr new) leads = grind (arith, get_or_past)
 
--- an access reaches no more where what it leaves at the word that it gets to doesn't
+-- an access reaches no more if what it leaves at the word that it gets to doesn't
 access_adds_none : (n : NeverState) (t : Target) (refused : NeverState) (at : ℕ → ℕ → NeverState)
     → ReachesNoMore n refused → ((number place : ℕ) → t ≡ WordOf number place → ReachesNoMore n (at number place))
     → ReachesNoMore n (left_at t refused at)

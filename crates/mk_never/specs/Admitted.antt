@@ -30,7 +30,7 @@ OperandsAreInRange n (IsNull p) = p < 8
 abbrev pub IsCaller : NeverState → ℕ → Type 0
 IsCaller n caller = 8 * caller + 7 < length n.registers
 
--- Where the value is a pointer, the word i words on is inside its allocation, and P holds of the word's kind.
+-- If the value is a pointer, the word i words on is inside its allocation, and P holds of the word's kind.
 abbrev pub Meets : NeverState → Value → ℕ → (Kind → Type 0) → Type 0
 Meets n Null i P = Unit {0}
 Meets n (Num m) i P = Unit {0}
@@ -44,7 +44,7 @@ IsNumber kind = IsTrue (is_number kind)
 abbrev pub IsPointer : Kind → Type 0
 IsPointer kind = is_number kind ≡ false
 
--- The access is admitted by the type and the offset of the pointer in its register, where that isn't null.
+-- The access is admitted by the type and the offset of the pointer in its register, if that isn't null.
 abbrev pub AccessIsAdmitted : NeverState → ℕ → Op → Type 0
 AccessIsAdmitted n c (New d ty full) = Unit {0}
 AccessIsAdmitted n c (Free p) = Unit {0}

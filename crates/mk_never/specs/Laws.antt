@@ -9,8 +9,8 @@ use Rattle.mk_never.specs.NeverHeap.{words_of, word_at, target_of, number_of, re
 use Rattle.mk_never.specs.{NeverHeap.replies_of, Admitted.{IsCaller, AccessIsAdmitted, AreAdmitted}}
 use Rattle.mk_never.specs.declared.operations.Reply.TheVariants.{Num as Number, Val}
 
--- Each allocation of n is in m, of the same type and as many words, and what is freed in n is freed in m.
--- m has the types of n, as many registers and as many globals.
+-- Each allocation of n is in m, with its type and its number of words, and what is freed in n is freed in m. m has the
+-- types of n, as many registers and as many globals.
 pub record Continues (n m : NeverState) : Type 0 where
   pub types : m.types ≡ n.types
   pub registers : length m.registers ≡ length n.registers
@@ -63,7 +63,7 @@ DestinationIsInRange (SetGlobal g p) = Unit {0}
 DestinationIsInRange (Same p q) = Unit {0}
 DestinationIsInRange (IsNull p) = Unit {0}
 
--- No call is the caller's, and each sets registers of its own caller alone.
+-- No call is the caller's, and each sets registers only of its own caller.
 abbrev pub AreByOthers : ℕ → List Call → Type 0
 AreByOthers caller [] = Unit {0}
 AreByOthers caller (x ∷ xs) = (x.caller ≢ caller) × DestinationIsInRange x.op × AreByOthers caller xs
@@ -81,7 +81,7 @@ KeepsRegisters caller n m = (r : ℕ) → r < 8 → register_at m caller r ≡ r
 abbrev pub Reaches : NeverState → Value → ℕ → ℕ → ℕ → Type 0
 Reaches n value i number place = target_of n value i ≡ WordOf number place
 
--- The operation stores to this word: a compare and exchange only where it exchanges.
+-- The operation stores to this word: a compare and exchange only if it exchanges.
 abbrev pub StoresTo : NeverState → ℕ → Op → ℕ → ℕ → Type 0
 StoresTo n c (New d ty full) number place = ⊥
 StoresTo n c (Free p) number place = ⊥
@@ -164,7 +164,7 @@ abbrev pub RepliesInParts : NeverState → List Call → List Call → Type 0
 RepliesInParts n earlier later = replies_of n (earlier ++ later)
     ≡ replies_of n earlier ++ replies_of (after_calls n earlier) later
 
--- Calls are admitted where the earlier ones are, and the later ones after them.
+-- Calls are admitted if the earlier ones are, and the later ones after them.
 abbrev pub AdmittedInParts : List ℕ → NeverState → List Call → List Call → Type 0
 AdmittedInParts globals n earlier later =
     AreAdmitted globals n (earlier ++ later)

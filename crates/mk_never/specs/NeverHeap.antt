@@ -110,7 +110,7 @@ reply_at Nothing at = WasNull
 reply_at Unmapped at = Fault
 reply_at (WordOf number place) at = at number place
 
--- what an access leaves, given what it leaves where it is refused and at the word that it reaches
+-- what an access leaves, given what it leaves if it is refused, and what at the word that it reaches
 abbrev pub left_at : Target → NeverState → (ℕ → ℕ → NeverState) → NeverState
 left_at Nothing refused at = refused
 left_at Unmapped refused at = refused

@@ -33,7 +33,7 @@ abbrev pub ReachIsLeast : NeverState → (ℕ → Bool) → Type 0
 ReachIsLeast n S = IsClosedUnderPointers n (λ number. IsTrue (S number)) → (number : ℕ) → IsReachable n number
     → IsTrue (S number)
 
--- An access gets to words of reached allocations alone.
+-- An access gets only to words of reached allocations.
 abbrev pub AccessIsToReached : NeverState → ℕ → ℕ → ℕ → ℕ → ℕ → Type 0
 AccessIsToReached n caller q i number place = Reaches n (register_at n caller q) i number place → IsReachable n number
 

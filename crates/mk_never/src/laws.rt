@@ -10,9 +10,8 @@ ghost use Rattle.mk_never.specs.Reach.{AccessIsToReached, ReachGrowsByGrants, Un
 
 use crate::{Kind, Op, Value};
 
-/// Words, registers and globals hold what their types say, along admitted calls. A pointer that they hold
-/// names an allocation that exists, of the pointer's type, and a word of it; where a type has no words, its
-/// place 0.
+/// After admitted calls words, registers and globals hold what their types say. A pointer in them names an allocation
+/// that exists, of the pointer's type, and a word of it, or place 0 if the type has no words.
 #[tactic(auto, using(crate::proofs::TypedCalls::the_state_stays_typed_facts))]
 pub fn the_state_stays_typed()
     ensures start { (globals : List ℕ) (types : List (List Kind)) (callers : ℕ)
@@ -22,7 +21,7 @@ pub fn the_state_stays_typed()
         → StaysTyped globals types callers calls }
 {}
 
-/// What was granted stays, whatever is called.
+/// An allocation stays, whatever is called after its grant.
 #[tactic(auto, using(crate::proofs::Later::calls_stay))]
 pub fn allocations_stay()
     ensures { (n : NeverState) (calls : List Call) → Continues n (after_calls n calls) }
@@ -41,7 +40,7 @@ pub fn freed_stays_freed()
     ensures { (n : NeverState) (calls : List Call) (number : ℕ) → FreedStays n (after_calls n calls) number }
 {}
 
-/// What a `New` gives has the next number, which no allocation had in any state before.
+/// What a `New` gives has the next number. No allocation had it in any state before.
 #[tactic(auto, using(crate::proofs::Fresh::new_adds, crate::proofs::Fresh::count_never_falls))]
 pub fn a_new_is_new()
     ensures next { (n : NeverState) (caller d ty : ℕ) → NewAdds n caller d ty }
@@ -49,8 +48,8 @@ pub fn a_new_is_new()
         → length n.allocations ≤ length (after_calls n calls).allocations }
 {}
 
-/// The calls of others leave a caller's registers. They need no more than that each sets one of its own
-/// caller's eight, as admitted calls do.
+/// The calls of others leave a caller's registers as they are. All that is asked of them is that each sets one of its
+/// own caller's eight registers, as admitted calls do.
 #[tactic(auto, using(crate::proofs::Registers::calls_keep, crate::proofs::Registers::admitted_keep))]
 pub fn others_leave_registers()
     ensures in_range { (n : NeverState) (caller : ℕ) (calls : List Call) → AreByOthers caller calls
@@ -69,7 +68,7 @@ pub fn same_compares_values()
     ensures reply { (n : NeverState) (caller p q : ℕ) → SameTells n caller p q }
 {}
 
-/// A word changes by stores to it alone, and a load from it gives what was last stored.
+/// Only stores to a word change it, and a load from it gives what was last stored.
 #[tactic(auto, using(crate::proofs::Stores::a_load_gives_what_was_last_stored_facts))]
 pub fn a_load_gives_what_was_last_stored()
     ensures unstored { (n : NeverState) (calls : List Call) (number place : ℕ) → UnstoredStays n calls number place }
@@ -80,16 +79,16 @@ pub fn a_load_gives_what_was_last_stored()
         → LoadGivesStored n caller op calls number place }
 {}
 
-/// What pointers lead to, from registers and globals along words, is reached, and nothing else is. No word of a
-/// freed large allocation leads on.
+/// What pointers in registers and globals lead to, directly or along words, is reached, and nothing else is. The words
+/// of a freed large allocation lead nowhere.
 #[tactic(auto, using(crate::proofs::Reached::reach_is_closed, crate::proofs::Reached::reach_is_least))]
 pub fn what_is_reached()
     ensures closed { (n : NeverState) → IsClosedUnderPointers n (IsReachable n) }
     ensures least { (n : NeverState) (S : ℕ → Bool) → ReachIsLeast n S }
 {}
 
-/// What isn't reached never is again: accesses get to reached allocations alone, and an operation adds no more
-/// to what is reached than the allocation that it grants.
+/// What isn't reached never is again. Accesses get to reached allocations only, and all that an operation adds to them
+/// is the allocation that it grants.
 #[tactic(auto, using(crate::proofs::Unreached::the_unreached_stays_so_facts))]
 pub fn the_unreached_stays_so()
     ensures accessed { (n : NeverState) (caller q i number place : ℕ) → AccessIsToReached n caller q i number place }
@@ -97,7 +96,7 @@ pub fn the_unreached_stays_so()
     ensures stays { (n : NeverState) (calls : List Call) (number : ℕ) → UnreachedStays n calls number }
 {}
 
-/// Calls in two parts leave, reply and are admitted as the earlier ones and then, after these, the later ones.
+/// A list of calls leaves, replies and is admitted as its first part is, and then its second part after that.
 #[tactic(auto, using(crate::proofs::Parts::calls_in_two_parts_facts))]
 pub fn calls_in_two_parts()
     ensures left { (n : NeverState) (earlier later : List Call) → LeavesInParts n earlier later }

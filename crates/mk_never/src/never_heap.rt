@@ -119,7 +119,8 @@ fn zeros(alloc: Global, kinds: &[Kind]) -> Result<Vec<Value>, NoMemory>
 }
 
 impl NeverHeap {
-    /// No allocation, and all registers and globals null, for callers numbered from 0.
+    /// A heap without allocations, for this many callers, numbered from 0. All their registers and all globals are
+    /// null.
     pub fn start(alloc: Global, types: &TypeTable, callers: u64) -> Result<NeverHeap, NoMemory>
         ensures { IfOk result (λ heap. heap ≡ start_of types.now callers) }
     {
@@ -179,7 +180,7 @@ impl NeverHeap {
         offset + i
     }
 
-    /// Marks an object as freed, where there is one.
+    /// Marks an object as freed, if there is one of this number.
     fn set_freed(&mut self, number: u64) -> Reply
         ensures reply { result ≡ (if (allocation_at self.old number).freed then Reply.Double else Reply.Done) }
         ensures left { self.new ≡ with_freed self.old number }
@@ -196,7 +197,7 @@ impl NeverHeap {
         Reply::Done
     }
 
-    /// What the access through the value reaches, `i` words on.
+    /// What an access through the value reaches, `i` words after the one that it points to.
     fn target(&self, value: Value, i: u64) -> Target
         requires { Meets self.now value i (λ kind. Unit {0}) }
         ensures { result ≡ target_of self.now value i }

@@ -6,14 +6,14 @@ use crate::Value;
 /// 0 to 63; `i` counts words from the one that the register points to.
 #[derive(Clone, Copy, Debug, PartialEq, Eq)]
 pub enum Op {
-    /// Sets `d` to a new object of zero words, or is refused where the heap is full.
+    /// Sets `d` to a new object whose words are all 0, or is refused if the heap is full.
     New { d: u8, ty: u64, full: bool },
     Free { p: u8 },
     GetNum { q: u8, i: u64 },
     SetNum { q: u8, i: u64, n: u64 },
     GetPtr { d: u8, q: u8, i: u64 },
     SetPtr { q: u8, i: u64, p: u8 },
-    /// Sets the word to the value in `r` where it is the value in `p`.
+    /// Sets the word to the value in `r` if it is the value in `p`.
     CasPtr { q: u8, i: u64, p: u8, r: u8 },
     /// Sets `d` to a pointer `i` words after that in `q`.
     Lea { d: u8, q: u8, i: u64 },
@@ -32,7 +32,7 @@ pub enum Reply {
     Done,
     Num(u64),
     Val(Value),
-    /// Nothing fits.
+    /// The new object fits nowhere.
     Full,
     /// An access to a freed large allocation.
     Fault,

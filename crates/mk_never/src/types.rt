@@ -61,7 +61,7 @@ impl Model for TypeTable {
 }
 
 impl TypeTable {
-    /// No types. The allocator is kept for `add`; no memory is taken.
+    /// A table without types. The allocator is kept for `add`; no memory is taken.
     pub fn new(alloc: Global) -> TypeTable
         ensures { result ≡ [] }
     {
@@ -79,7 +79,7 @@ impl TypeTable {
         Ok(self.types.push(TypeWords { kinds, leaf })?)
     }
 
-    /// The kinds of a type.
+    /// The kinds of a type, one for each of its words.
     pub fn kinds(&self, ty: u64) -> &[Kind]
         requires { ty < length self.now }
         ensures { result.now ≡ kinds_of self.now ty }
@@ -102,7 +102,7 @@ impl TypeTable {
         self.types.len() as u64
     }
 
-    /// The same types, in memory of their own.
+    /// A copy of the table, in memory of its own.
     pub fn try_clone(&self, alloc: Global) -> Result<TypeTable, NoMemory>
         ensures { IfOk result (λ copy. copy ≡ self.now) }
     {

@@ -1,7 +1,10 @@
 //! First fit, the counts and what is given back, on pages that are worked out by hand.
 
+use super::geometry::{asked, numbers};
 use mk_books::{Census, Page, Place, census, due, first_fit, free_pages, freeable, held_by_pages};
 use mk_geom::FREE_PAGE;
+use std::alloc::{AllocError, Global};
+use std::test::Fail;
 
 /// A full block of cells of 32 words, a leaf block with its cell 1 free, a block with its cell 0 free, a
 /// free page, a mapped run of a page, and a free page.
@@ -36,41 +39,43 @@ const AFTER_UNMAPPED: [Page; 3] = [
     FREE_PAGE,
 ];
 
-fn cell(page: u64, index: u64) -> Option<Place> {
-    Some(Place {
-        page,
-        index,
-        carve: false,
-    })
-}
+/// How many pages may be resident, how many words an object has, and 1 if it is leaf; and the place that it gets on
+/// `FRAGMENTED`, of which four pages are resident.
+const PLACES: &str = "\
+a free cell of a block | 6 32 0 | cell 0 of page 2
+a free cell of a leaf block | 6 32 1 | cell 1 of page 1
+a class without a block | 6 2 0 | cell 0 of page 3, new
+a class without a block, and room for one page more | 5 2 0 | cell 0 of page 3, new
+a class without a block, and no room for a page more | 4 2 0 | none
+a run of a page | 5 33 0 | cell 0 of page 3, new
+a run of a page, and no room for a page more | 4 33 0 | none
+a run of two pages, where no two free pages are neighbours | 6 65 0 | none
+";
 
-fn carved(page: u64) -> Option<Place> {
-    Some(Place {
-        page,
-        index: 0,
-        carve: true,
-    })
+/// A place in words; `none` for none.
+fn told_place(alloc: Global, place: Option<Place>) -> Result<String, AllocError> {
+    let Some(Place { page, index, carve }) = place else {
+        return String::from_str(alloc, "none");
+    };
+    let sort = if carve { ", new" } else { "" };
+    format!(in alloc; "cell {index} of page {page}{sort}")
 }
 
 #[test]
-fn the_first_place_that_fits_is_found(rt: HostRuntime) {
-    for (limit, words, leaf, expected) in [
-        (6, 32, false, cell(2, 0)),
-        (6, 32, true, cell(1, 1)),
-        (6, 2, false, carved(3)),
-        (5, 2, false, carved(3)),
-        (4, 2, false, None),
-        (5, 33, false, carved(3)),
-        (4, 33, false, None),
-        (6, 65, false, None),
-    ] {
-        assert_eq!(rt;
-            first_fit(&FRAGMENTED, limit, words, leaf),
-            expected,
-            "{words} words, limit {limit}"
-        );
+fn the_first_place_that_fits_is_found(rt: HostRuntime) -> Result<(), Fail> {
+    for row in PLACES.lines() {
+        let (of, place) = asked(row).expect(&rt, "a row of three");
+        let given = numbers(rt.alloc(), of)?;
+        let found = match given.as_slice() {
+            [limit, words, leaf] => first_fit(&FRAGMENTED, *limit, *words, *leaf == 1),
+            _ => None,
+        };
+        let found = told_place(rt.alloc(), found)?;
+        assert_eq!(rt; found.as_str(), place, "{row}");
     }
-    assert_eq!(rt; first_fit(&AFTER_UNMAPPED, 2, 65, true), carved(1));
+    let found = told_place(rt.alloc(), first_fit(&AFTER_UNMAPPED, 2, 65, true))?;
+    assert_eq!(rt; found.as_str(), "cell 0 of page 1, new");
+    Ok(())
 }
 
 #[test]
@@ -92,16 +97,26 @@ fn books_are_those_of_the_pages(rt: HostRuntime) {
     assert_eq!(rt; held_by_pages(&AFTER_UNMAPPED), 0);
 }
 
+/// The words that were freed since the last cycle, and those that are held.
+const DUE: &str = "\
+a quarter of what is held | 16 64 | no
+more than a quarter | 18 64 | yes
+the greatest numbers | 18446744073709551615 18446744073709551615 | yes
+nothing | 0 0 | no
+";
+
 #[test]
-fn a_cycle_is_due_by_what_is_fresh_and_held(rt: HostRuntime) {
-    for (fresh, held, expected) in [
-        (16, 64, false),
-        (18, 64, true),
-        (u64::MAX, u64::MAX, true),
-        (0, 0, false),
-    ] {
-        assert_eq!(rt; due(fresh, held), expected, "{fresh} of {held}");
+fn a_cycle_is_due_by_what_is_fresh_and_held(rt: HostRuntime) -> Result<(), Fail> {
+    for row in DUE.lines() {
+        let (of, answer) = asked(row).expect(&rt, "a row of three");
+        let given = numbers(rt.alloc(), of)?;
+        let found = match given.as_slice() {
+            [fresh, held] => due(*fresh, *held),
+            _ => false,
+        };
+        assert_eq!(rt; if found { "yes" } else { "no" }, answer, "{row}");
     }
+    Ok(())
 }
 
 #[test]

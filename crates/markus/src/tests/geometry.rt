@@ -1,182 +1,176 @@
-//! Classes, headers and addresses, worked out by hand.
+//! Classes, headers and addresses, worked out by hand. A row of a table is its name, what is asked, and the answer,
+//! with ` | ` between them.
 
 use mk_geom::{Cell, Header, cells, class_of, class_words, decode, encode, lookup, run_pages};
+use mk_script::parse_number;
+use std::alloc::{AllocError, Global};
+use std::test::Fail;
 
-const FREE: u64 = 0;
+/// A size in words, and the class of an object of that size.
+const CLASSES: &str = "\
+no words | 0 | none
+the smallest object | 1 | 0
+the largest of class 0 | 2 | 0
+the smallest of class 1 | 3 | 1
+the largest of class 1 | 4 | 1
+the smallest of class 2 | 5 | 2
+the largest of class 2 | 6 | 2
+the smallest of class 3 | 7 | 3
+the largest of class 3 | 8 | 3
+the smallest of class 4 | 9 | 4
+the largest of class 4 | 12 | 4
+the smallest of class 5 | 13 | 5
+the largest of class 5 | 16 | 5
+the smallest of class 6 | 17 | 6
+the largest of class 6 | 24 | 6
+the smallest of class 7 | 25 | 7
+the largest of class 7 | 32 | 7
+the smallest large object | 33 | none
+the greatest number | 18446744073709551615 | none
+";
 
-const BLOCK_OF_6_WORDS: u64 = 3;
+/// A size in words, and the pages of a run for it.
+const RUNS: &str = "\
+no words | 0 | 0
+the smallest large object | 33 | 1
+a whole page | 64 | 1
+a word more than a page | 65 | 2
+two whole pages | 128 | 2
+the greatest number | 18446744073709551615 | 288230376151711744
+";
 
-const BLOCK_OF_32_WORDS: u64 = 8;
+/// A header word, and what it says.
+const HEADERS: &str = "\
+a free page | 0 | free
+a free page with a count | 16 | none
+the first class | 1 | block 0
+the last class | 8 | block 7
+the first class with a count | 17 | none
+the last class with a count | 24 | none
+a run of no pages | 9 | none
+a run of a page | 25 | run 1
+the longest run | 1033 | run 64
+a longer run | 1049 | none
+a later page at no distance | 10 | none
+the nearest later page | 26 | later 1
+the farthest later page | 1018 | later 63
+a farther later page | 1034 | none
+an unmapped run of no pages | 11 | none
+an unmapped run of a page | 27 | unmapped run 1
+the longest unmapped run | 1035 | unmapped run 64
+a longer unmapped run | 1051 | none
+an unmapped later page at no distance | 12 | none
+the nearest unmapped later page | 28 | unmapped later 1
+the farthest unmapped later page | 1020 | unmapped later 63
+a farther unmapped later page | 1036 | none
+the first leaf class | 13 | leaf block 0
+the last leaf class | 125 | leaf block 7
+a leaf class too many | 141 | none
+a leaf run of no pages | 14 | none
+a leaf run of a page | 30 | leaf run 1
+the longest leaf run | 1038 | leaf run 64
+a longer leaf run | 1054 | none
+the kind that there isn't | 15 | none
+the kind that there isn't, with a count | 31 | none
+the greatest number | 18446744073709551615 | none
+";
 
-const LEAF_BLOCK_OF_6_WORDS: u64 = 13 + 16 * 2;
+/// The pages of a heap, the header word of the address's page, and the address; and the page and index of the cell
+/// that this points into. The heap's first address is 65536, and a page has 512 bytes.
+const ADDRESSES: &str = "\
+null | 4 8 0 | none
+the last address before the heap | 4 8 65535 | none
+the first byte of the heap | 4 8 65536 | cell 0 of page 0
+the last byte of a cell of 32 words | 4 8 65791 | cell 0 of page 0
+the first byte of the next cell | 4 8 65792 | cell 1 of page 0
+the last byte of a page | 4 8 66047 | cell 1 of page 0
+the first byte of the next page | 4 8 66048 | cell 0 of page 1
+the last byte of the heap | 4 8 67583 | cell 1 of page 3
+the first address behind the heap | 4 8 67584 | none
+a heap of no pages | 0 8 65536 | none
+the greatest numbers | 18446744073709551615 8 18446744073709551615 | cell 1 of page 36028797018963839
+the last byte of a block's last cell of 6 words | 4 3 66015 | cell 9 of page 0
+the first byte of a block's tail | 4 3 66016 | none
+the last byte of a block's tail | 4 3 66047 | none
+a cell of a leaf block | 4 45 65584 | cell 1 of page 0
+the tail of a leaf block | 4 45 66016 | none
+a free page | 4 0 65536 | none
+the first page of a run | 4 57 66559 | cell 0 of page 1
+a later page, two behind the first | 4 42 67072 | cell 0 of page 1
+a later page, whose run begins with the heap | 4 42 66560 | cell 0 of page 0
+a later page, whose run would begin before the heap | 4 42 66048 | none
+the first page of an unmapped run | 4 59 66048 | cell 0 of page 1
+a later page of an unmapped run | 4 44 67072 | cell 0 of page 1
+the first page of a leaf run | 4 62 66048 | cell 0 of page 1
+no header word | 4 9 65536 | none
+";
 
-const RUN: u64 = 9 + 16 * 3;
+/// What a row asks, and the answer; its name is the first of the three.
+pub fn asked(row: &str) -> Option<(&str, &str)> {
+    let (_name, rest) = row.split_once(" | ")?;
+    rest.split_once(" | ")
+}
 
-const SECOND_BEHIND_THE_HEAD: u64 = 10 + 16 * 2;
+/// The numbers of a text, between which there is a space. Words that are no numbers are left out.
+pub fn numbers(alloc: Global, text: &str) -> Result<Vec<u64>, AllocError> {
+    let mut found = Vec::new(alloc);
+    for word in text.split(' ') {
+        if let Some(number) = parse_number(word.as_bytes()) {
+            found.push(number)?;
+        }
+    }
+    Ok(found)
+}
 
-const UNMAPPED_RUN: u64 = 11 + 16 * 3;
-
-const SECOND_BEHIND_AN_UNMAPPED_HEAD: u64 = 12 + 16 * 2;
-
-const LEAF_RUN: u64 = 14 + 16 * 3;
-
-const NO_HEADER: u64 = 9;
-
-/// A number of words, and the least class that holds them.
-const CLASSES: [(u64, Option<u64>); 19] = [
-    (0, None),
-    (1, Some(0)),
-    (2, Some(0)),
-    (3, Some(1)),
-    (4, Some(1)),
-    (5, Some(2)),
-    (6, Some(2)),
-    (7, Some(3)),
-    (8, Some(3)),
-    (9, Some(4)),
-    (12, Some(4)),
-    (13, Some(5)),
-    (16, Some(5)),
-    (17, Some(6)),
-    (24, Some(6)),
-    (25, Some(7)),
-    (32, Some(7)),
-    (33, None),
-    (u64::MAX, None),
-];
-
-/// A word, and the header that it is.
-const HEADERS: [(u64, Option<Header>); 32] = [
-    (0, Some(Header::Free)),
-    (16, None),
-    (1, Some(Header::Block(0))),
-    (8, Some(Header::Block(7))),
-    (17, None),
-    (24, None),
-    (9, None),
-    (
-        25,
-        Some(Header::Run {
-            pages: 1,
-            mapped: true,
-        }),
-    ),
-    (
-        9 + 16 * 64,
-        Some(Header::Run {
-            pages: 64,
-            mapped: true,
-        }),
-    ),
-    (9 + 16 * 65, None),
-    (10, None),
-    (
-        26,
-        Some(Header::Later {
-            distance: 1,
-            mapped: true,
-        }),
-    ),
-    (
-        10 + 16 * 63,
-        Some(Header::Later {
-            distance: 63,
-            mapped: true,
-        }),
-    ),
-    (10 + 16 * 64, None),
-    (11, None),
-    (
-        27,
-        Some(Header::Run {
-            pages: 1,
-            mapped: false,
-        }),
-    ),
-    (
-        11 + 16 * 64,
-        Some(Header::Run {
-            pages: 64,
-            mapped: false,
-        }),
-    ),
-    (11 + 16 * 65, None),
-    (12, None),
-    (
-        28,
-        Some(Header::Later {
-            distance: 1,
-            mapped: false,
-        }),
-    ),
-    (
-        12 + 16 * 63,
-        Some(Header::Later {
-            distance: 63,
-            mapped: false,
-        }),
-    ),
-    (12 + 16 * 64, None),
-    (13, Some(Header::LeafBlock(0))),
-    (13 + 16 * 7, Some(Header::LeafBlock(7))),
-    (13 + 16 * 8, None),
-    (14, None),
-    (30, Some(Header::LeafRun { pages: 1 })),
-    (14 + 16 * 64, Some(Header::LeafRun { pages: 64 })),
-    (14 + 16 * 65, None),
-    (15, None),
-    (31, None),
-    (u64::MAX, None),
-];
-
-/// The heap's pages, a header word, an address, and the page and index of the cell that it points into.
-const ADDRESSES: [(u64, u64, u64, Option<(u64, u64)>); 25] = [
-    (4, BLOCK_OF_32_WORDS, 0, None),
-    (4, BLOCK_OF_32_WORDS, 65535, None),
-    (4, BLOCK_OF_32_WORDS, 65536, Some((0, 0))),
-    (4, BLOCK_OF_32_WORDS, 65791, Some((0, 0))),
-    (4, BLOCK_OF_32_WORDS, 65792, Some((0, 1))),
-    (4, BLOCK_OF_32_WORDS, 65536 + 511, Some((0, 1))),
-    (4, BLOCK_OF_32_WORDS, 65536 + 512, Some((1, 0))),
-    (4, BLOCK_OF_32_WORDS, 65536 + 512 * 4 - 1, Some((3, 1))),
-    (4, BLOCK_OF_32_WORDS, 65536 + 512 * 4, None),
-    (0, BLOCK_OF_32_WORDS, 65536, None),
-    (
-        u64::MAX,
-        BLOCK_OF_32_WORDS,
-        u64::MAX,
-        Some((36028797018963839, 1)),
-    ),
-    (4, BLOCK_OF_6_WORDS, 65536 + 479, Some((0, 9))),
-    (4, BLOCK_OF_6_WORDS, 65536 + 480, None),
-    (4, BLOCK_OF_6_WORDS, 65536 + 511, None),
-    (4, LEAF_BLOCK_OF_6_WORDS, 65536 + 48, Some((0, 1))),
-    (4, LEAF_BLOCK_OF_6_WORDS, 65536 + 480, None),
-    (4, FREE, 65536, None),
-    (4, RUN, 65536 + 512 * 2 - 1, Some((1, 0))),
-    (4, SECOND_BEHIND_THE_HEAD, 65536 + 512 * 3, Some((1, 0))),
-    (4, SECOND_BEHIND_THE_HEAD, 65536 + 512 * 2, Some((0, 0))),
-    (4, SECOND_BEHIND_THE_HEAD, 65536 + 512, None),
-    (4, UNMAPPED_RUN, 65536 + 512, Some((1, 0))),
-    (
-        4,
-        SECOND_BEHIND_AN_UNMAPPED_HEAD,
-        65536 + 512 * 3,
-        Some((1, 0)),
-    ),
-    (4, LEAF_RUN, 65536 + 512, Some((1, 0))),
-    (4, NO_HEADER, 65536, None),
-];
-
-/// Small objects have the least class that holds them.
-#[test]
-fn small_objects_have_the_least_class(rt: HostRuntime) {
-    for (words, expected) in CLASSES {
-        assert_eq!(rt; class_of(words), expected, "{words} words");
+/// A number in words; `none` for none.
+fn told_number(alloc: Global, number: Option<u64>) -> Result<String, AllocError> {
+    match number {
+        Some(number) => format!(in alloc; "{number}"),
+        None => String::from_str(alloc, "none"),
     }
 }
 
-/// Blocks have no cut cells.
+/// A header in words; `none` for none.
+fn told_header(alloc: Global, header: Option<Header>) -> Result<String, AllocError> {
+    let Some(header) = header else {
+        return String::from_str(alloc, "none");
+    };
+    match header {
+        Header::Free => String::from_str(alloc, "free"),
+        Header::Block(class) => format!(in alloc; "block {class}"),
+        Header::LeafBlock(class) => format!(in alloc; "leaf block {class}"),
+        Header::LeafRun { pages } => format!(in alloc; "leaf run {pages}"),
+        Header::Run { pages, mapped } => {
+            let sort = if mapped { "" } else { "unmapped " };
+            format!(in alloc; "{sort}run {pages}")
+        }
+        Header::Later { distance, mapped } => {
+            let sort = if mapped { "" } else { "unmapped " };
+            format!(in alloc; "{sort}later {distance}")
+        }
+    }
+}
+
+/// A cell in words; `none` for none.
+fn told_cell(alloc: Global, cell: Option<Cell>) -> Result<String, AllocError> {
+    match cell {
+        Some(Cell { page, index }) => format!(in alloc; "cell {index} of page {page}"),
+        None => String::from_str(alloc, "none"),
+    }
+}
+
+#[test]
+fn small_objects_have_the_least_class(rt: HostRuntime) -> Result<(), Fail> {
+    for row in CLASSES.lines() {
+        let (words, class) = asked(row).expect(&rt, "a row of three");
+        let words = parse_number(words.as_bytes()).expect(&rt, "a number");
+        let found = told_number(rt.alloc(), class_of(words))?;
+        assert_eq!(rt; found.as_str(), class, "{row}");
+    }
+    Ok(())
+}
+
+/// A block's tail, which is less than a cell, has no cell.
 #[test]
 fn blocks_have_whole_cells(rt: HostRuntime) {
     let table = [
@@ -196,40 +190,43 @@ fn blocks_have_whole_cells(rt: HostRuntime) {
     }
 }
 
-/// Runs have whole pages.
 #[test]
-fn runs_have_whole_pages(rt: HostRuntime) {
-    for (words, expected) in [
-        (0, 0),
-        (33, 1),
-        (64, 1),
-        (65, 2),
-        (128, 2),
-        (u64::MAX, 1 << 58),
-    ] {
-        assert_eq!(rt; run_pages(words), expected, "{words} words");
+fn runs_have_whole_pages(rt: HostRuntime) -> Result<(), Fail> {
+    for row in RUNS.lines() {
+        let (words, pages) = asked(row).expect(&rt, "a row of three");
+        let words = parse_number(words.as_bytes()).expect(&rt, "a number");
+        let found = told_number(rt.alloc(), Some(run_pages(words)))?;
+        assert_eq!(rt; found.as_str(), pages, "{row}");
     }
+    Ok(())
 }
 
 #[test]
-fn words_of_each_kind_within_and_outside_their_limits(rt: HostRuntime) {
-    for (word, expected) in HEADERS {
+fn words_of_each_kind_within_and_outside_their_limits(rt: HostRuntime) -> Result<(), Fail> {
+    for row in HEADERS.lines() {
+        let (word, says) = asked(row).expect(&rt, "a row of three");
+        let word = parse_number(word.as_bytes()).expect(&rt, "a number");
         let header = decode(word);
-        assert_eq!(rt; header, expected, "{word}");
+        let found = told_header(rt.alloc(), header)?;
+        assert_eq!(rt; found.as_str(), says, "{row}");
         if let Some(header) = header {
-            assert_eq!(rt; encode(header), word, "{header:?}");
+            assert_eq!(rt; encode(header), word, "{row}");
         }
     }
+    Ok(())
 }
 
 #[test]
-fn addresses_point_into_cells_and_runs(rt: HostRuntime) {
-    for (pages, header, address, expected) in ADDRESSES {
-        let expected = expected.map(|(page, index)| Cell { page, index });
-        assert_eq!(rt;
-            lookup(pages, header, address),
-            expected,
-            "{pages} {header} {address}"
-        );
+fn addresses_point_into_cells_and_runs(rt: HostRuntime) -> Result<(), Fail> {
+    for row in ADDRESSES.lines() {
+        let (of, cell) = asked(row).expect(&rt, "a row of three");
+        let given = numbers(rt.alloc(), of)?;
+        let found = match given.as_slice() {
+            [pages, header, address] => lookup(*pages, *header, *address),
+            _ => None,
+        };
+        let found = told_cell(rt.alloc(), found)?;
+        assert_eq!(rt; found.as_str(), cell, "{row}");
     }
+    Ok(())
 }

@@ -11,7 +11,8 @@ use std::thread::Threads;
 struct Group {
     command: &'static str,
     front: &'static str,
-    /// A line for each: how it goes on, with `/` for a newline, and after ` -> ` the line that is reported.
+    /// A line for each: its name and ` | `, how it goes on, with `/` for a newline, and ` -> ` and the line that is
+    /// reported.
     texts: &'static str,
 }
 
@@ -19,21 +20,21 @@ const FIRST_LINES: Group = Group {
     command: "print",
     front: "",
     texts: "\
-/ -> line 1: header
- -> line 1: header
-heap 1 -> line 1: header
-heap\t1 1 -> line 1: header
-heap x 1 -> line 1: number
-heap 01 1 -> line 1: number
-heap 4097 0 -> line 1: limit pages 4097
-heap 0 1/script s -> line 1: limit pages 0
-heap 1 2 -> line 1: limit resident 2
-heap 4096 0 -> line 1: limit resident 0
-heap 2 3/script 1/ -> line 1: limit resident 3
-heap 1 1 -> line 1: limit scripts 0
-heap 1 1/script s -> fine
-  heap  1 1 /script s/ -> fine
-heap 1 1// -> line 2: word
+an empty line and nothing else | / -> line 1: header
+an empty text |  -> line 1: header
+a first line with a word too few | heap 1 -> line 1: header
+a tab between words | heap\t1 1 -> line 1: header
+a word in place of a number | heap x 1 -> line 1: number
+a number with a zero in front | heap 01 1 -> line 1: number
+too many pages | heap 4097 0 -> line 1: limit pages 4097
+no pages | heap 0 1/script s -> line 1: limit pages 0
+more resident pages than pages | heap 1 2 -> line 1: limit resident 2
+no resident pages | heap 4096 0 -> line 1: limit resident 0
+resident pages, before a later fault | heap 2 3/script 1/ -> line 1: limit resident 3
+no scripts | heap 1 1 -> line 1: limit scripts 0
+a last line without a newline | heap 1 1/script s -> fine
+more than one space between words, and spaces at both ends |   heap  1 1 /script s/ -> fine
+an empty line | heap 1 1// -> line 2: word
 ",
 };
 
@@ -41,21 +42,21 @@ const TYPES: Group = Group {
     command: "print",
     front: "heap 1 1\n",
     texts: "\
-type A n -> line 2: limit scripts 0
-type A n*4096 -> line 2: limit scripts 0
-type A n*4095 p:A+1 -> line 2: limit scripts 0
-type A n*4096 p:A+1 -> line 2: limit words 4097
-type A n*4097 -> line 2: limit words 4097
-type A n*18446744073709551615 n*5 -> line 2: limit words 18446744073709551615
-type A n*18446744073709551616 -> line 2: word
-type A n*0 -> line 2: word
-type A n*01 -> line 2: word
-type A p:A+01 -> line 2: word
-type A -> line 2: word
-type 1 n*0 -> line 2: word
-type 1 n -> line 2: name
-type A n/type A n*4097 -> line 3: twice
-type A n/global A A/script A -> fine
+a type, and no scripts | type A n -> line 2: limit scripts 0
+a type of the greatest size | type A n*4096 -> line 2: limit scripts 0
+a pointer as the last word of the greatest size | type A n*4095 p:A+1 -> line 2: limit scripts 0
+a pointer as a word too many | type A n*4096 p:A+1 -> line 2: limit words 4097
+a word too many | type A n*4097 -> line 2: limit words 4097
+more words than a number counts | type A n*18446744073709551615 n*5 -> line 2: limit words 18446744073709551615
+a count of more than 64 bits | type A n*18446744073709551616 -> line 2: word
+a count of 0 | type A n*0 -> line 2: word
+a count with a zero in front | type A n*01 -> line 2: word
+an offset with a zero in front | type A p:A+01 -> line 2: word
+a type without words | type A -> line 2: word
+a fault in a word before one in a name | type 1 n*0 -> line 2: word
+a name that begins with a digit | type 1 n -> line 2: name
+a name twice, before another fault of the line | type A n/type A n*4097 -> line 3: twice
+names of a type, a global and a script that are alike | type A n/global A A/script A -> fine
 ",
 };
 
@@ -63,35 +64,35 @@ const LINES: Group = Group {
     command: "print",
     front: "heap 1 1\nscript s\n",
     texts: "\
-ptr p A+1 -> fine
-ptr p A+x -> line 3: number
-ptr p A+1+1 -> line 3: number
-ptr p +1 -> line 3: name
-ptr a234567890123456 A -> fine
-ptr a2345678901234567 A -> line 3: name
-setn 1 01 n -> line 3: name
-setn q 01 1 -> line 3: number
-casp n q 0 p r -> fine
-show -> line 3: word
-show\tp -> line 3: word
-show  p -> fine
-wait 01 -> line 3: word
-heap 01 1 -> line 3: word
-global g A -> line 3: word
-ptr p A/num p -> line 4: twice
-num n/num n -> line 4: twice
-num n/script t/num n -> fine
-script s -> line 3: twice
-show p/ptr p A -> line 4: word
-show p/script t/ptr p A -> fine
-repeat 2/if n/else/end/end -> fine
-repeat 2/else/end -> line 4: end
-if n/else/else/end -> line 5: end
-else -> line 3: end
-end -> line 3: end
-if n/script t -> line 4: end
-if n/script s -> line 4: twice
-repeat 2/if n/end -> line 5: end
+a pointer with an offset | ptr p A+1 -> fine
+a word in place of an offset | ptr p A+x -> line 3: number
+two offsets | ptr p A+1+1 -> line 3: number
+an offset without a type | ptr p +1 -> line 3: name
+the longest name | ptr a234567890123456 A -> fine
+a name that is too long | ptr a2345678901234567 A -> line 3: name
+a fault in a name, before one in a number | setn 1 01 n -> line 3: name
+a fault in a number, before one in a name | setn q 01 1 -> line 3: number
+registers that are not declared | casp n q 0 p r -> fine
+an instruction without its operand | show -> line 3: word
+a tab between words | show\tp -> line 3: word
+two spaces between words | show  p -> fine
+a word that is no instruction | wait 01 -> line 3: word
+a second line of a heap | heap 01 1 -> line 3: word
+a global in a script | global g A -> line 3: word
+a name of a pointer and of a number | ptr p A/num p -> line 4: twice
+a name of two numbers | num n/num n -> line 4: twice
+a name of numbers in two scripts | num n/script t/num n -> fine
+a name of two scripts | script s -> line 3: twice
+a register behind an instruction | show p/ptr p A -> line 4: word
+a register in the next script | show p/script t/ptr p A -> fine
+an empty branch in a loop | repeat 2/if n/else/end/end -> fine
+a branch that ends a loop | repeat 2/else/end -> line 4: end
+a second `else` | if n/else/else/end -> line 5: end
+an `else` outside a branch | else -> line 3: end
+an `end` outside a block | end -> line 3: end
+a block that is open at the next script | if n/script t -> line 4: end
+a name of two scripts, in an open block | if n/script s -> line 4: twice
+a block that is open at the end | repeat 2/if n/end -> line 5: end
 ",
 };
 
@@ -99,15 +100,15 @@ const ILL_TYPED: Group = Group {
     command: "check",
     front: "heap 1 1\ntype A n p:A+1\nglobal g A\nscript s\nptr p A\nptr r A+1\nnum n\n",
     texts: "\
-new p B/free q -> line 8: no type
-new r A -> line 8: kind
-loadg p h -> line 8: no global
-getn n q 9 -> line 8: no register
-getn n p 2 -> line 8: offset
-getn n p 1 -> line 8: kind
-casp n p 1 p r -> line 8: kind
-free r -> line 8: interior free
-repeat 500000/print n/end -> line 4: too long 1000001
+a type that there isn't, before another fault | new p B/free q -> line 8: no type
+a new object for an interior pointer | new r A -> line 8: kind
+a global that there isn't | loadg p h -> line 8: no global
+a register that there isn't, before a wrong offset | getn n q 9 -> line 8: no register
+an offset past the type | getn n p 2 -> line 8: offset
+a number loaded from a pointer's word | getn n p 1 -> line 8: kind
+an exchange with a register of another type | casp n p 1 p r -> line 8: kind
+a free by an interior pointer | free r -> line 8: interior free
+an instruction too many | repeat 500000/print n/end -> line 4: too long 1000001
 ",
 };
 
@@ -116,17 +117,17 @@ const SCHEDULES: Group = Group {
     command: "replay",
     front: "",
     texts: "\
-schedule/h take/ -> line 1: header
-heap 1 1/schedule/ -> line 1: limit scripts 0
-heap 1 1/script s/show p/ -> line 3: end
-heap 1 1/script s//schedule/ -> line 3: word
-heap 1 1/script s/schedule now/ -> line 3: word
-heap 1 1/script s/x/schedule// -> line 3: word
-heap 1 1/script s/show p/schedule/h gave/ -> line 5: word
-heap 1 1/script s/show p/schedule/h give/ -> line 3: no register
-heap 1 1/script s/schedule -> fine
-heap 1 1/script s/  schedule / -> fine
-heap 1 1/script s/schedule/h take/schedule/ -> line 5: word
+a schedule without a program | schedule/h take/ -> line 1: header
+a schedule without scripts | heap 1 1/schedule/ -> line 1: limit scripts 0
+a program without a schedule | heap 1 1/script s/show p/ -> line 3: end
+an empty line in a program | heap 1 1/script s//schedule/ -> line 3: word
+words behind `schedule` | heap 1 1/script s/schedule now/ -> line 3: word
+a fault of the program, before one of the schedule | heap 1 1/script s/x/schedule// -> line 3: word
+a fault of the schedule, before one of types | heap 1 1/script s/show p/schedule/h gave/ -> line 5: word
+a fault of types, before an event that may not come | heap 1 1/script s/show p/schedule/h give/ -> line 3: no register
+an empty schedule | heap 1 1/script s/schedule -> fine
+spaces around `schedule` | heap 1 1/script s/  schedule / -> fine
+a second `schedule` | heap 1 1/script s/schedule/h take/schedule/ -> line 5: word
 ",
 };
 
@@ -134,24 +135,24 @@ const EVENTS: Group = Group {
     command: "replay",
     front: "heap 1 1\nscript s\nschedule\n",
     texts: "\
-h  take;  give -> fine
- h take  -> fine
-h take;give -> line 4: word
-h take; -> line 4: word
-h take;  -> line 4: word
-c0  -> line 4: word
-/ -> line 4: word
-h take// -> line 5: word
-x take -> line 4: word
-c take -> line 4: number
-c take; gave -> line 4: word
-h take 1 -> line 4: word
-h take; clear 18446744073709551616 -> line 4: number
-mx claim 0 01 -> line 4: number
-m0 claim 0 -> line 4: word
-h take/c1 enter -> line 5: event 1 not enabled, condition 1
-h take; give; give -> line 4: event 3 not enabled, condition 3
-m3 attend; claim 0 0 -> line 4: event 2 not enabled, condition 7
+two spaces between words, and between events | h  take;  give -> fine
+spaces at both ends |  h take  -> fine
+no space between events | h take;give -> line 4: word
+nothing behind a semicolon | h take; -> line 4: word
+nothing but a space behind a semicolon | h take;  -> line 4: word
+a seat alone | c0  -> line 4: word
+an empty line | / -> line 4: word
+an empty line behind events | h take// -> line 5: word
+a seat that there isn't | x take -> line 4: word
+a caller without a number | c take -> line 4: number
+a fault in a word before one in a number | c take; gave -> line 4: word
+a word too many | h take 1 -> line 4: word
+a number of more than 64 bits | h take; clear 18446744073709551616 -> line 4: number
+faults in two numbers | mx claim 0 01 -> line 4: number
+a word too few | m0 claim 0 -> line 4: word
+an event of a caller that there isn't, in a second line | h take/c1 enter -> line 5: event 1 not enabled, condition 1
+a third event that is out of order | h take; give; give -> line 4: event 3 not enabled, condition 3
+a second event that does not meet its own condition | m3 attend; claim 0 0 -> line 4: event 2 not enabled, condition 7
 ",
 };
 
@@ -201,7 +202,10 @@ fn astray<R: Threads + Wait + Sync>(
     group: &Group,
 ) -> Result<Option<&'static str>, AllocError> {
     for row in group.texts.lines() {
-        let Some((lines, line)) = row.split_once(" -> ") else {
+        let Some((_name, rest)) = row.split_once(" | ") else {
+            return Ok(Some(row));
+        };
+        let Some((lines, line)) = rest.split_once(" -> ") else {
             return Ok(Some(row));
         };
         let text = behind(alloc, group.front, lines)?;
@@ -235,21 +239,21 @@ fn declaring(
     Ok(text)
 }
 
-/// Fronts, a word, what stands after each name, the greatest number of such lines, what stands after them, and what
-/// is said of one line more.
+/// A name; how a text begins; a word and what stands after each name in its lines; the greatest number of such lines;
+/// what stands after them; and what is said of one line more.
 const LIMITS: &str = "\
-heap 1 1/ | type |  n | 64 | script s/ | line 66: limit types 65
-heap 1 1/ | global |  A | 64 | script s/ | line 66: limit globals 65
-heap 1 1/ | script |  | 16 |  | line 18: limit scripts 17
-heap 1 1/script s/ | ptr |  A | 8 |  | line 11: limit pointers 9
-heap 1 1/script s/ | num |  | 8 |  | line 11: limit numbers 9
-heap 1 1/script s/ | if |  | 32 | ENDS | line 35: limit depth 33
+types | heap 1 1/ | type |  n | 64 | script s/ | line 66: limit types 65
+globals | heap 1 1/ | global |  A | 64 | script s/ | line 66: limit globals 65
+scripts | heap 1 1/ | script |  | 16 |  | line 18: limit scripts 17
+pointer registers | heap 1 1/script s/ | ptr |  A | 8 |  | line 11: limit pointers 9
+number registers | heap 1 1/script s/ | num |  | 8 |  | line 11: limit numbers 9
+blocks in each other | heap 1 1/script s/ | if |  | 32 | ENDS | line 35: limit depth 33
 ";
 
 /// Whether a limit is kept.
 fn is_kept<R: Threads + Wait + Sync>(rt: &R, alloc: Global, row: &str) -> Result<bool, Fail> {
     let parts: Vec<&str> = row.split(" | ").collect(alloc)?;
-    let [front, word, end, greatest, back, line] = parts.as_slice() else {
+    let [_name, front, word, end, greatest, back, line] = parts.as_slice() else {
         return Ok(false);
     };
     let Some(greatest) = mk_script::parse_number(greatest.as_bytes()) else {

@@ -11,13 +11,41 @@ use std::sync::Wait;
 use std::test::Fail;
 use std::thread::Threads;
 
-/// Scripts, a schedule, and what the scripts have printed after it. A line of the schedule is made, but one that
-/// begins with the number of a condition: that refuses each of the line's events there, between which ` | ` stands.
+/// Scripts, a schedule, and what the scripts have printed after it. A line of the schedule is made, except one that
+/// begins with the number of a condition: each of its events, with ` | ` between them, is refused there by that
+/// condition. What that shows comes last in the line, behind ` -- `.
 #[derive(Clone, Copy)]
 pub struct Walk {
+    pub name: &'static str,
     pub scripts: &'static str,
     pub lines: &'static str,
     pub written: &'static str,
+}
+
+/// A line of refused events.
+#[derive(Clone, Copy)]
+struct Refusals<'a> {
+    condition: &'a str,
+    seat: &'a str,
+    events: &'a str,
+    shown: &'a str,
+}
+
+/// What a line of refused events says; none for another line, and for one that doesn't say what it shows.
+fn refusals_in<'a>(alloc: Global, line: &'a str) -> Result<Option<Refusals<'a>>, AllocError> {
+    let Some((asked, shown)) = line.split_once(" -- ") else {
+        return Ok(None);
+    };
+    let words: Vec<&str> = asked.splitn(3, ' ').collect(alloc)?;
+    match words.as_slice() {
+        [condition, seat, events] if "1234567".contains(*condition) => Ok(Some(Refusals {
+            condition: *condition,
+            seat: *seat,
+            events: *events,
+            shown,
+        })),
+        _ => Ok(None),
+    }
 }
 
 /// The line that is said of a schedule, and what is written.
@@ -31,22 +59,27 @@ fn replayed<R: Threads + Wait + Sync>(
     Ok((told, written))
 }
 
-/// The first text with one of these events after what is made that ends otherwise than refused by the condition.
+/// The first text with one of these events after what is made that ends otherwise than refused by the condition, and
+/// what its refusal would show.
 fn not_refused<R: Threads + Wait + Sync>(
     rt: &R,
     alloc: Global,
     made: &str,
-    condition: &str,
-    seat: &str,
-    events: &str,
+    refusals: &Refusals,
 ) -> Result<Option<String>, Fail> {
+    let Refusals {
+        condition,
+        seat,
+        events,
+        shown,
+    } = *refusals;
     let line = (made.lines().count() as u64).saturating_add(1);
     let wanted = format!(in alloc; "line {line}: event 1 not enabled, condition {condition}\n")?;
     for event in events.split(" | ") {
         let text = format!(in alloc; "{made}{seat} {event}\n")?;
         let (told, _) = replayed(rt, alloc, text.as_str())?;
         if told.as_slice() != wanted.as_bytes() {
-            return Ok(Some(text));
+            return Ok(Some(format!(in alloc; "{text}condition {condition} -- {shown}\n")?));
         }
     }
     Ok(None)
@@ -60,24 +93,14 @@ fn astray<R: Threads + Wait + Sync>(
 ) -> Result<Option<String>, Fail> {
     let mut made = format!(in alloc; "{}schedule\n", walk.scripts)?;
     for line in walk.lines.lines() {
-        let words: Vec<&str> = line.splitn(3, ' ').collect(alloc)?;
-        match words.as_slice() {
-            [condition, seat, events] if "1234567".contains(*condition) => {
-                if let Some(text) = not_refused(
-                    rt,
-                    alloc,
-                    made.as_str(),
-                    condition,
-                    seat,
-                    events,
-                )? {
-                    return Ok(Some(text));
-                }
+        if let Some(refusals) = refusals_in(alloc, line)? {
+            let found = not_refused(rt, alloc, made.as_str(), &refusals)?;
+            if found.is_some() {
+                return Ok(found);
             }
-            _ => {
-                made.push_str(line)?;
-                made.push_str("\n")?;
-            }
+        } else {
+            made.push_str(line)?;
+            made.push_str("\n")?;
         }
     }
     let (told, written) = replayed(rt, alloc, made.as_str())?;
@@ -110,7 +133,8 @@ fn events_are_refused_by_the_condition_that_is_meant(rt: HostRuntime) -> Result<
         MOVE,
         ANSWERS,
     ] {
-        assert_eq!(rt; astray(&rt, rt.alloc(), &walk)?, None);
+        let name = walk.name;
+        assert_eq!(rt; astray(&rt, rt.alloc(), &walk)?, None, "{name}");
     }
     Ok(())
 }

@@ -8,7 +8,7 @@ use crate::values::Target;
 use crate::{Op, Reply, Value};
 
 impl NeverHeap {
-    /// Does the operation of a caller.
+    /// Does an operation for a caller, and gives the reply.
     pub fn apply(&mut self, caller: u64, op: Op) -> Result<Reply, NoMemory>
         requires caller { IsCaller self.old caller }
         requires in_range { OperandsAreInRange self.old op }
