@@ -3,8 +3,8 @@ ghost use Rattle.std.specs.Prelude.{◌≡◌};
 ghost use Rattle.mk_alloc.specs.{DueCycles.{EndsOlder, RunsCycle, RunsIfDue}, Underway.{MayRunCycle, PassKeeps}};
 
 use crate::turns::is_cycle_on;
-use mk_cycle::{Engine, begin_cycle, finish_cycle};
 use mk_caller::lower::words::{Turn, Words};
+use mk_cycle::{Engine, begin_cycle, finish_cycle};
 use std::sync::Wait;
 use std::thread::Threads;
 

@@ -5,11 +5,11 @@ ghost use Rattle.mk_caller.specs.States.{caller_of_pass, value_of};
 ghost use Rattle.mk_alloc.specs.{TurnCalls.{FreesObject, IsAnsweredDouble, MayTakeTurns}, Underway.PassKeeps};
 
 use crate::cycles::run_if_due;
+use crate::retirement::{Double, Freed, retire_object};
 use crate::turns::{give, take};
 use mk_caller::Caller;
 use mk_cycle::Engine;
 use mk_never::Op;
-use crate::retirement::{Double, Freed, retire_object};
 use std::sync::Wait;
 use std::thread::Threads;
 

@@ -6,8 +6,8 @@ ghost use Rattle.mk_alloc.specs.Placing.{IsUnplaced, place_now_for};
 ghost use Rattle.mk_cycle.specs.EngineLaw.{IsAtPhase};
 ghost use Rattle.mk_alloc.specs.{Rooms.{AnswersFull, BeginsNone}, Underway.IsQuiet};
 
-use mk_core::{Tally, Word};
 use mk_caller::lower::words::{Turn, Words};
+use mk_core::{Tally, Word};
 
 /// Decides the New, and counts it.
 pub(crate) fn answer_full(words: &Words, turn: &mut Turn)

@@ -7,15 +7,15 @@ ghost use Rattle.mk_never.specs.declared.operations.Op.TheVariants as op;
 ghost use Rattle.mk_core.specs.declared.events.Answer.TheVariants as answer;
 
 use crate::fulls::answer_full;
+use crate::objects::Request;
 use crate::rooms::{make_room, try_place};
 use crate::turns::{give, take};
 use mk_books::census;
 use mk_caller::Caller;
+use mk_caller::lower::words::{Turn, Words};
 use mk_cycle::Engine;
 use mk_geom::Census;
 use mk_never::Op;
-use crate::objects::Request;
-use mk_caller::lower::words::{Turn, Words};
 use std::sync::Wait;
 use std::thread::Threads;
 

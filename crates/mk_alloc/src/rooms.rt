@@ -7,11 +7,11 @@ ghost use Rattle.mk_core.specs.Effects.{cycle_ended};
 ghost use Rattle.mk_alloc.specs.Rooms.{BeginsNone, EndsOnly, IsPlacedOr, Misfits, MisfitsAtLast, MisfitsIdly};
 ghost use Rattle.mk_alloc.specs.{Rooms.{NeedsRoom, RunsOne, SeeksRoom}, Underway.PassKeeps};
 
-use crate::turns::is_cycle_on;
-use mk_cycle::{Engine, begin_cycle, finish_cycle};
 use crate::objects::Request;
 use crate::placing::place_object;
+use crate::turns::is_cycle_on;
 use mk_caller::lower::words::{Turn, Words};
+use mk_cycle::{Engine, begin_cycle, finish_cycle};
 use std::sync::Wait;
 use std::thread::Threads;
 

@@ -8,10 +8,9 @@ ghost use Rattle.mk_alloc.specs.Underway.{BeginsTurn, IsQuiet, Looks};
 ghost use Rattle.mk_core.specs.declared.events.Step.TheVariants as step;
 ghost use Rattle.mk_core.specs.declared.seats.Stage.TheVariants as stage;
 
+use mk_caller::lower::words::{Pass, Turn, Words, take_turn};
 use mk_core::{Phase, Word};
 use mk_never::Op;
-use mk_caller::lower::words::take_turn;
-use mk_caller::lower::words::{Pass, Turn, Words};
 use std::sync::Wait;
 
 /// Waits for the turn, and takes it for an operation of a caller whose seat is the pass's only one.

@@ -8,9 +8,9 @@ ghost use Rattle.mk_alloc.specs.{Deciding.ClearsRun, FreeParts.{HoldsOthers, Unm
 
 use crate::gates::open_gates;
 use crate::wiping::wipe_run;
+use mk_caller::lower::words::{Turn, Words};
 use mk_core::RunPages;
 use mk_geom::{Header, encode};
-use mk_caller::lower::words::{Turn, Words};
 
 /// The header of an unmapped run's page.
 fn unmapped(pages: u64, distance: u64) -> Header

@@ -3,9 +3,9 @@
 ghost use Rattle.std.specs.Prelude.{◌≡◌, ◌+◌, ◌*◌, ◌<◌, true};
 ghost use Rattle.mk_alloc.specs.{FreeParts.Wipes, Unmapping.{MayWipe, MayWipeFrom, MayWipeGroup, WipesTo}};
 
+use mk_caller::lower::words::{Turn, Words};
 use mk_core::{RunPages, Word};
 use mk_geom::PAGE_WORDS;
-use mk_caller::lower::words::{Turn, Words};
 
 /// The words of a page are groups of this many.
 const GROUP: u64 = 8;

@@ -1,9 +1,9 @@
 //! Cycles: engines make the marks, and what was freed before a cycle and isn't marked in it is given back.
 //!
-//! `begin_cycle` and `finish_cycle` do what a cycle of the history is made of, and nothing else. An `Engine` marks: two of
-//! them trace, `StopEngine` in the stop and `MostlyEngine` also beside the callers. They make only marks that pointers
-//! lead to, so their cycles are precise. Start with `engine`: what an engine owes; then `beginning` and `finishing`, and
-//! `closing` for what all engines do in the stop.
+//! `begin_cycle` and `finish_cycle` do what a cycle of the history is made of, and nothing else. An `Engine` marks: two
+//! of them trace, `StopEngine` in the stop and `MostlyEngine` also beside the callers. They make only marks that
+//! pointers lead to, so their cycles are precise. Start with `engine`: what an engine owes; then `beginning` and
+//! `finishing`, and `closing` for what all engines do in the stop.
 #![tactic(auto)]
 
 mod beginning;
@@ -18,7 +18,6 @@ mod freeing;
 mod gates;
 mod giving;
 mod grays;
-mod holding;
 mod laws;
 pub mod lower;
 mod mostly_engine;
@@ -48,8 +47,10 @@ pub use beginning::begin_cycle;
 pub use closing::close_marks;
 pub use engine::Engine;
 pub use finishing::{Released, finish_cycle};
+pub use gates::{hold_gates, is_caller};
 pub use laws::reached_marks_sweep_nothing;
 pub use mostly_engine::MostlyEngine;
+pub use roots::{GLOBALS, REGISTERS};
 pub use stop_engine::StopEngine;
 pub use waiting::want_and_wait;
 pub use worklist::Worklist;

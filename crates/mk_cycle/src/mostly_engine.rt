@@ -4,11 +4,11 @@ ghost use Rattle.mk_cycle.specs.{Begun.IsBegun, EngineLaw.{IsFreeForCycle, IsAtP
 ghost use Rattle.mk_words.specs.Sweeping.{SweepsNothing};
 ghost use Rattle.mk_cycle.specs.{Grays.TracesReached, Tracing.{Traces, is_tracing}, Roots.MarksRoots};
 
+use crate::engine::Engine;
 use crate::roots_beside::mark_roots;
 use crate::stopping::{MOST_PAGES, close_by_tracing};
-use crate::engine::Engine;
-use mk_never::NoMemory;
 use crate::worklist::Worklist;
+use mk_never::NoMemory;
 use mk_words::{Stopped, Turn, Words};
 use std::alloc::Global;
 use std::sync::Wait;

@@ -5,10 +5,10 @@ ghost use Rattle.mk_cycle.specs.EngineLaw.{ClosesMarks};
 ghost use Rattle.mk_words.specs.Sweeping.{SweepsNothing};
 ghost use Rattle.mk_cycle.specs.{Grays.TracesReached, Tracing.{Traces, is_tracing}};
 
-use crate::stopping::{MOST_PAGES, close_by_tracing};
 use crate::engine::Engine;
-use mk_never::NoMemory;
+use crate::stopping::{MOST_PAGES, close_by_tracing};
 use crate::worklist::Worklist;
+use mk_never::NoMemory;
 use mk_words::{Stopped, Turn, Words};
 use std::alloc::Global;
 use std::sync::Wait;

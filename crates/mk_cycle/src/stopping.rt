@@ -4,8 +4,8 @@ ghost use Rattle.mk_cycle.specs.EngineLaw.{IsFreeForCycle, IsAtPhase, ClosesMark
 ghost use Rattle.mk_words.specs.Sweeping.{SweepsNothing};
 ghost use Rattle.mk_cycle.specs.{Grays.TracesReached, Tracing.{Traces, is_tracing}};
 
-use crate::worklist::Worklist;
 use crate::closing::close_marks;
+use crate::worklist::Worklist;
 use mk_words::{Stopped, Words};
 use std::sync::Wait;
 

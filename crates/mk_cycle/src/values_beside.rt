@@ -8,8 +8,7 @@ ghost use Rattle.mk_cycle.specs.{Grays.IsInHand, Stops.hand_of, Beside.{GoesBesi
 use crate::steps_beside::{look_at, mark_cell};
 use mk_core::{Word, has_bit};
 use mk_geom::Cell;
-use mk_words::cell_pointed;
-use mk_words::{Turn, Words};
+use mk_words::{Turn, Words, cell_pointed};
 
 /// Whether the cell is marked.
 fn is_marked(words: &Words, turn: &mut Turn, cell: Cell) -> bool

@@ -6,8 +6,8 @@ ghost use Rattle.mk_sweep.specs.Sweeping.{BlacksMore, IsSweeping, PageIsBlack, S
 
 use crate::stepping::look_at;
 use mk_core::{Word, bit, cells_under, has_bit};
-use mk_geom::Cell;
 use mk_cycle::lower::words::{Stopped, Words};
+use mk_geom::Cell;
 
 /// Blackens a cell, if it is marked.
 fn blacken_if_marked(words: &Words, stop: &mut Stopped, marked: bool, cell: Cell)

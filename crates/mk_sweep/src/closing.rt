@@ -8,8 +8,8 @@ use crate::blackening::blacken_all;
 use crate::clearing::{unblack_all, undirty_all};
 use crate::roots::mark_roots;
 use crate::sweeping::sweep_pages;
-use mk_cycle::want_and_wait;
 use mk_cycle::lower::words::{Stopped, Words};
+use mk_cycle::want_and_wait;
 use std::sync::Wait;
 
 /// Marks whatever the roots and the words of the allocations point into, and blackens all that is marked. Returns how

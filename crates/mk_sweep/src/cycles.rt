@@ -4,8 +4,8 @@ ghost use Rattle.mk_cycle.specs.EngineLaw.{IsFreeForCycle, IsAtPhase};
 ghost use Rattle.mk_sweep.specs.SweepCycle.{HasMarkers, MakesWholeCycle, ReleasesUnswept};
 
 use crate::sweep_engine::SweepEngine;
-use mk_cycle::{Engine, Released, begin_cycle, finish_cycle};
 use mk_cycle::lower::words::{Turn, Words};
+use mk_cycle::{Engine, Released, begin_cycle, finish_cycle};
 use std::sync::Wait;
 use std::thread::Threads;
 

@@ -6,8 +6,8 @@ ghost use Rattle.mk_cycle.specs.Stops.{still_words};
 ghost use Rattle.mk_sweep.specs.{Swept.IsScannedWord, Sweeping.{HasInHand, IsReachedCell, IsSweeping, SweepsOn}};
 
 use mk_core::{Word, bit};
-use mk_geom::Cell;
 use mk_cycle::lower::words::{Stopped, Words};
+use mk_geom::Cell;
 
 /// Looks at a word that gives no hand.
 #[inline(always)]

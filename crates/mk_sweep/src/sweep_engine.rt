@@ -6,8 +6,8 @@ ghost use Rattle.mk_sweep.specs.Sweeps.{Sweeps};
 
 use crate::closing::close_by_sweeping;
 use mk_cycle::Engine;
-use mk_never::NoMemory;
 use mk_cycle::lower::words::{Stopped, Turn, Words};
+use mk_never::NoMemory;
 use std::alloc::Global;
 use std::sync::Wait;
 use std::thread::Threads;

@@ -9,8 +9,8 @@ ghost use Rattle.mk_sweep.specs.Sweeping.{words_on};
 use crate::stepping::{look_at, look_at_word};
 use crate::values::mark_value;
 use mk_core::{Word, cells_under, has_bit, has_no_pointers, words_under};
-use mk_geom::PAGE_WORDS;
 use mk_cycle::lower::words::{Stopped, Words};
+use mk_geom::PAGE_WORDS;
 
 /// Looks at this many words, from the first one on, and marks what each points into.
 fn sweep_words(words: &Words, stop: &mut Stopped, first: u64, size: u64)

@@ -6,9 +6,8 @@ ghost use Rattle.mk_sweep.specs.Sweeping.{HasInHand, IsSweeping, SweepsOn};
 
 use crate::stepping::{look_at, mark_cell};
 use mk_core::{Word, has_bit};
+use mk_cycle::lower::words::{Stopped, Words, cell_pointed};
 use mk_geom::Cell;
-use mk_cycle::lower::words::cell_pointed;
-use mk_cycle::lower::words::{Stopped, Words};
 
 /// Whether the cell is marked.
 fn is_marked(words: &Words, stop: &mut Stopped, cell: Cell) -> bool

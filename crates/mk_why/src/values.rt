@@ -8,8 +8,7 @@ ghost use Rattle.mk_why.specs.Stops.{base_at, view_by};
 use crate::stepping::look_at;
 use mk_core::{Word, has_bit, has_no_pointers, words_under};
 use mk_geom::PAGE_WORDS;
-use mk_sweep::lower::words::cell_pointed;
-use mk_sweep::lower::words::{Stopped, Words};
+use mk_sweep::lower::words::{Stopped, Words, cell_pointed};
 
 /// The first heap word of the allocation into which a value points.
 pub(crate) fn base_pointed(words: &Words, stop: &mut Stopped, value: u64) -> Option<u64>
