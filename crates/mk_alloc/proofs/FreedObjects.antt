@@ -4,7 +4,8 @@ use Rattle.mk_caller.proofs.Below.Laws.Vocabulary.{Caller, CarriesOwn, Cell, Con
 use Rattle.mk_caller.proofs.Below.Laws.Vocabulary.{IsHistory, IsSafe, IsSized, IsSound, IsWithinLimits, List, Mirrors}
 use Rattle.mk_caller.proofs.Below.Laws.Vocabulary.{NeverState, Null, Num, Object, Op, Option, PlacedAllocation, Ptr}
 use Rattle.mk_caller.proofs.Below.Laws.Vocabulary.{Seat, ShowsPart, Some, Stage, StandsInOrder, Value, Words, World, ℕ}
-use Rattle.mk_caller.proofs.Below.Laws.Vocabulary.{and_parts, ap, arith, bases_of, caller_number, cases_Bool, cases_lt}
+use Rattle.mk_caller.proofs.Below.Laws.Vocabulary.{address_of, and_parts, ap, arith, bases_of, caller_number}
+use Rattle.mk_caller.proofs.Below.Laws.Vocabulary.{cases_Bool, cases_lt, subst}
 use Rattle.mk_caller.proofs.Below.Laws.Vocabulary.{cell_at, cell_of_allocation, cells_begin, cells_made, cells_of}
 use Rattle.mk_caller.proofs.Below.Laws.Vocabulary.{class_known, class_made, class_words_of, cond-false, eqb-true, false}
 use Rattle.mk_caller.proofs.Below.Laws.Vocabulary.{false_from_ne_true, false≢true, first_page_shows, first_word}
@@ -22,10 +23,10 @@ use Rattle.mk_caller.proofs.Below.Laws.Vocabulary.{words_under, words_within, �
 use Rattle.mk_caller.proofs.{Below.Laws.Vocabulary.◌≤◌, Below.Laws.ImagesBefore.{Stands, ready_of, stands_of}}
 use Rattle.mk_caller.proofs.Below.Laws.InvariantHistories.{allocations_stand, told_to_images}
 use Rattle.mk_caller.proofs.{Below.Laws.KnownWorlds.{KnownWorld, known_world}, Below.Laws.GrantMoves.pointer_cell}
-use Rattle.mk_caller.proofs.{Below.Laws.Ready.Ready, Below.Laws.RegMoves.flight}
+use Rattle.mk_caller.proofs.{Below.Laws.ImagesKept.base_at, Below.Laws.Ready.Ready, Below.Laws.RegMoves.flight}
 use Rattle.mk_caller.proofs.Below.Laws.Settled.{unreleased_are_apart}
 use Rattle.mk_caller.specs.{Below.Laws.ImagePremises.IsLaidOut, Below.Laws.SettledPages.StandsUsed}
-use Rattle.mk_alloc.proofs.ObjectVocabulary.{IsFreeAt, IsOutOfStop, IsTurn, PassState, call_of, freed_and_fresh}
+use Rattle.mk_alloc.proofs.ObjectVocabulary.{IsBase, IsFreeAt, IsOutOfStop, IsTurn, PassState, call_of, freed_and_fresh}
 use Rattle.mk_alloc.proofs.ObjectVocabulary.{held_by_allocations, histories_keep_the_invariant, loaded_free, now_of}
 use Rattle.mk_alloc.proofs.{ObjectVocabulary.{value_of, world_of}, HeldFreed.{freed_one, held_part, held_set}}
 use Rattle.mk_alloc.proofs.{HeldFreed.{large_part, live_part, small_part}, LoadedFrees.loaded_undecided}
@@ -43,6 +44,7 @@ pub record PointsAt (c : Config) (w : World) (n : NeverState) (k : ℕ) (f : Fli
   pub value : register_at n k (p_of f.op) ≡ Ptr number ty offset
   pub unreleased : (placed_at w.allocations number).released ≡ false
   pub cell : pointed_cell c.pages w.now.words.pages f.p ≡ Some (cell_of_allocation c (placed_at w.allocations number))
+  pub at : f.p ≡ address_of ((placed_at w.allocations number).base + offset)
 
 module _ {c : Config} {w : World} {n : NeverState} (known : KnownWorld c w) (others : ImagePremises c w)
     (mirrors : Mirrors c w n) where
@@ -63,6 +65,7 @@ module _ {c : Config} {w : World} {n : NeverState} (known : KnownWorld c w) (oth
     value = is;
     unreleased = mirrors.safe.1.unreleased a safe;
     cell = pointer_cell c w n known mirrors mirrors.safe.0 ready st a t o f.p sound safe e;
+    at = e ∙ ap (λ b. address_of (b + o)) (base_at w.allocations a);
   }
 
   points_by : {k : ℕ} (s : Stage) (o : Op) (q p r l : ℕ) → is_undecided_free (flight s o q p r l) ≡ true
@@ -218,6 +221,28 @@ object_at {p} {r} u cell turn at some is =
       unreleased = t.unreleased;
       is = cc there;
     }
+
+-- The register points to the first word of its allocation, so the page that the value points into is the cell's.
+page_of_first : (base offset u : ℕ) → offset ≡ 0 → u ≡ address_of (base + offset) → page_at_address u ≡ base / 64
+page_of_first base offset u none is = omega arith
+
+pub page_pointed : {p : PassState} {r : ℕ} (u : ℕ) {cell : Cell} → IsTurn p → IsFreeAt p r (loaded_free r u)
+    → (u == 0) ≡ false → target p.table.config.pages (now_of p).words (call_of p) ≡ Some cell
+    → page_at_address u ≡ cell.page
+page_pointed {p} {r} u {cell} turn at some is =
+    let free = loaded_undecided u at some in
+    let caller = acting_caller p (free_is_acting (call_of p) free) in
+    let t = points_now caller.number caller.is turn free in
+    let own : PlacedAllocation = placed_at (world_of p).allocations t.number in
+    let there : Some (cell_of_allocation p.table.config own) ≡ Some cell = grind (arith, target_of) in
+    let value : value_of p r ≡ Ptr t.number t.ty t.offset =
+    ap (λ (s : Seat). register_at (never_behind p.table.config p.seen) (caller_number s) r) caller.is
+    ∙ ap (λ (f : Flight). register_at (never_behind p.table.config p.seen) caller.number (p_of f.op)) (sym at.call)
+    ∙ t.value in
+    let first : t.offset ≡ 0 = subst (λ (v : Value). IsBase v) value at.base in
+    let here : u ≡ address_of (own.base + t.offset) = sym (ap (λ (f : Flight). f.p) at.call) ∙ t.at in
+    let same : cell_of_allocation p.table.config own ≡ cell = cc there in
+    page_of_first own.base t.offset u first here ∙ ap (λ (k : Cell). k.page) same
 
 module _ {p : PassState} {r : ℕ} {cell : Cell} (turn : IsTurn p) (x : IsObjectAt p r cell) where
   abbrev pub own : PlacedAllocation

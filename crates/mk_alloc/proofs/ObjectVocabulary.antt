@@ -13,7 +13,7 @@ pub use Rattle.mk_caller.specs.{Below.Words.TurnSteps.{Acts, turn_stays}, Below.
 pub use Rattle.mk_caller.specs.Below.Words.States.{TurnState, WordsState, call_of, event_of, now_of, world_of}
 pub use Rattle.mk_alloc.specs.{Deciding.{FreesCell, MayFree, StaysSo, is_following}, Dues.{FreesOnce, IsOverQuarter}}
 pub use Rattle.mk_alloc.specs.{Entries.own_calls, FreeParts.{Changes, HasGates, RunIsUnmapped, RunIsWiped, SetsGate}}
-pub use Rattle.mk_alloc.specs.FreeParts.{SetsGates, SetsTally, Unmaps, Wipes, all_others, held_from, held_to}
+pub use Rattle.mk_alloc.specs.FreeParts.{SetsGates, SetsTally, Unmaps, Wipes, all_others, held_from}
 pub use Rattle.mk_alloc.specs.FreeParts.{is_clearing, is_holding, is_settling, is_tallying, with_tally}
 pub use Rattle.mk_alloc.specs.{Looking.{is_acting, is_steady_word}, Placing.{ComesTo, GoesTo, HasCarved, IsGrantedAt}}
 pub use Rattle.mk_alloc.specs.Placing.{IsOutOfStop, IsUnplaced, MayTake, OnlyLooks, entry_for, is_look, is_placing}

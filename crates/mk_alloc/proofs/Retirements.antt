@@ -8,7 +8,7 @@ use Rattle.mk_caller.proofs.Below.Laws.Vocabulary.{slice_index, subst, sym, targ
 use Rattle.mk_caller.proofs.Below.Laws.Vocabulary.{◌==◌, ◌^◌, ◌∙◌, ◌≡◌}
 use Rattle.mk_alloc.proofs.ObjectVocabulary.{CallIsAt, ComesTo, Does, FreesCell, IsAsLeft, IsBase, IsFreeAt}
 use Rattle.mk_alloc.proofs.ObjectVocabulary.{IsOutOfStop, IsTurn, MayFree, OnlyLooks, PassState, WordsState}
-use Rattle.mk_alloc.proofs.ObjectVocabulary.{all_below_from, call_of, does_then, entry_for}
+use Rattle.mk_alloc.proofs.ObjectVocabulary.{all_below_from, call_of, does_then, entry_for, is_acting}
 use Rattle.mk_alloc.proofs.ObjectVocabulary.{histories_keep_the_invariant, is_freeing, is_freeing_small, is_loading}
 use Rattle.mk_alloc.proofs.ObjectVocabulary.{loaded_free, none_is_held, now_of, value_of, world_of}
 use Rattle.mk_alloc.proofs.DecidedFrees.{Decides, Prepares, decided_behind, prepared_table, still_open}
@@ -17,10 +17,10 @@ use Rattle.mk_alloc.proofs.{FreedObjects.{it_is_freed, its_freed, its_size, obje
 use Rattle.mk_alloc.proofs.{FreedOnce.{none_due, once_behind}, JoinedLooks.{looks_call, looks_left, looks_table}}
 use Rattle.mk_alloc.proofs.JoinedLooks.{reached_table, reached_world, reaches_after, reaches_answered, reaches_named}
 use Rattle.mk_alloc.proofs.{JoinedLooks.{reaches_so, reaches_wider}, Serves.out_of_stop}
-use Rattle.mk_alloc.proofs.SmallFrees.{exact_still, none_held}
-use Rattle.mk_alloc.specs.{Deciding.{IsDecidedAt, MayFreeOn, counted}, Retiring.{HasLoaded, HasSeen, IsUnloaded}}
-use Rattle.mk_alloc.specs.{Retiring.{KeepsValues, entry_seen, seen_free}, Retired.{DecidesFree, FindsFreed, IsFreed}}
-use Rattle.mk_alloc.specs.Retired.{Retires, freeing_kinds, kinds_for, with_freed_object}
+use Rattle.mk_alloc.proofs.{LoadedFrees.loaded_undecided, MayAct.free_is_acting, SmallFrees.{exact_still, none_held}}
+use Rattle.mk_alloc.specs.{Deciding.{IsDecidedAt, MayFreeOn, counted}, Retiring.{HasLoaded, HasSeen, IsLoaded}}
+use Rattle.mk_alloc.specs.{Retiring.{IsUnloaded, KeepsValues, entry_seen, seen_free}, Retired.{DecidesFree, FindsFreed}}
+use Rattle.mk_alloc.specs.Retired.{IsFreed, Retires, freeing_kinds, kinds_for, with_freed_object}
 use Rattle.mk_core.specs.Counts.{TalliesAreExact}
 
 -- A Free on its way: up to its `quar` it only loads, or comes to be decided.
@@ -64,6 +64,20 @@ module _ {p q : PassState} {f : Flight} (a : Comes p f q) where
 
   pub come_call : call_of q ≡ f
   come_call = ap (λ (x : PassState). call_of x) a.same ∙ a.world.call
+
+-- The Free has loaded its register, which isn't null.
+pub loaded_then : {p q : PassState} {r u : ℕ} → IsUnloaded p r → HasLoaded p r u q → (u == 0) ≡ false
+    → value_of q r ≡ value_of p r → IsLoaded q
+loaded_then {r} {u} unloaded loaded some keeps = record {
+  register = r;
+  value = u;
+  free = record {
+    call = come_call (comes_loaded loaded some);
+    small = unloaded.small;
+    base = subst (λ (v : Value). IsBase v) (sym keeps) unloaded.base;
+  };
+  some = some;
+}
 
 -- The look at the quarantine word goes on or decides.
 
@@ -225,6 +239,11 @@ module _ {p q : PassState} {r u : ℕ} {cell : Cell} (unloaded : IsUnloaded p r)
       → MayFree s r u cell
   may_free {s} seen still live low nothing exact =
       grind (arith, come_facts, free, target_stays, within, freed_same, out_of_stop, exact_still)
+
+-- The call is acting.
+pub free_acting : {w : WordsState} {p : PassState} {cell : Cell} {quar : ℕ} → MayFreeOn w p cell quar
+    → is_acting (call_of p).stage ≡ true
+free_acting {p = p} m = free_is_acting (call_of p) (loaded_undecided m.value m.may.free m.may.some)
 
 -- It may free it still after steps that leave its turn as it was, but for gates.
 pub still_may : {kinds : Step → Bool} {w : WordsState} {p q : PassState} {cell : Cell} {quar : ℕ} → Prepares kinds p q

@@ -1,18 +1,26 @@
 -- Gates are held and opened, one after the other.
-use Rattle.std.{proofs.Common.{OnErr, OnOk, is_ok, le-ltb}, specs.declared.result.Result.{Result}}
-use Rattle.mk_caller.proofs.Below.Laws.Vocabulary.{Bool, Caller, Config, List, Seat, Steady, Step, Tally, World, ℕ}
-use Rattle.mk_caller.proofs.Below.Laws.Vocabulary.{all_below-at, ap, arith, cases_eq, cases_lt, false, flight_of}
-use Rattle.mk_caller.proofs.Below.Laws.Vocabulary.{get_or-set_other, get_or-set_same, inl, inr, is_held, is_number_of}
-use Rattle.mk_caller.proofs.Below.Laws.Vocabulary.{length, lt-ltb, nat_lt, not, not-true, refl, slice_index, sym, true}
-use Rattle.mk_caller.proofs.Below.Laws.Vocabulary.{world_behind, ◌&&◌, ◌+◌, ◌<◌, ◌==◌, ◌∙◌, ◌≡◌, ◌≢◌}
-use Rattle.mk_alloc.proofs.ObjectVocabulary.{Acts, Changes, HasGates, IsAsLeft, IsOutOfStop, IsTurn, PassState}
-use Rattle.mk_alloc.proofs.ObjectVocabulary.{SetsGate, SetsGates, SetsTally, WordsState, all_others, call_of, held_from}
-use Rattle.mk_alloc.proofs.ObjectVocabulary.{held_to, is_acting, is_holding, is_settling, none_is_held, now_of}
-use Rattle.mk_alloc.proofs.{ObjectVocabulary.{steady_of, with_tally, world_of}, Unchanged.{HasCall, OfCaller}}
-use Rattle.mk_alloc.proofs.{Unchanged.{acting_has_call, call_behind}, JoinedLooks.{reaches_after, reaches_so}}
-use Rattle.mk_alloc.proofs.{Looks.{acting_caller, acting_now, still_acting}, Reaching.{reaches_first, reaches_nothing}}
-use Rattle.mk_alloc.proofs.Serves.{out_of_stop}
-use Rattle.mk_alloc.specs.FreeParts.{GateIsSet, IsButGates}
+use Rattle.std.proofs.Common.{le-ltb}
+use Rattle.mk_caller.proofs.Below.Laws.Vocabulary.{Bool, Caller, Config, Flight, List, Page, Seat, Stage, Steady, Step}
+use Rattle.mk_caller.proofs.Below.Laws.Vocabulary.{Tally, Word, Words, World, ℕ, all_below-at, ap, arith, cases_Bool}
+use Rattle.mk_caller.proofs.Below.Laws.Vocabulary.{cases_eq}
+use Rattle.mk_caller.proofs.Below.Laws.Vocabulary.{cases_lt, false, flight_of, free_page, get_or-set_other}
+use Rattle.mk_caller.proofs.Below.Laws.Vocabulary.{get_or-set_same}
+use Rattle.mk_caller.proofs.Below.Laws.Vocabulary.{header_of, inl, inr, is_held, is_number_of, length, lt-ltb, nat_lt}
+use Rattle.mk_caller.proofs.Below.Laws.Vocabulary.{not, not-true}
+use Rattle.mk_caller.proofs.Below.Laws.Vocabulary.{others_are_held, refl, run_headed, slice_index, slice_index_or}
+use Rattle.mk_caller.proofs.Below.Laws.Vocabulary.{subst, sym, true}
+use Rattle.mk_caller.proofs.Below.Laws.Vocabulary.{world_behind, [], ◌&&◌, ◌+◌, ◌<◌, ◌==◌, ◌||◌, ◌∙◌, ◌≡◌, ◌≢◌}
+use Rattle.mk_caller.specs.Below.Words.States.{TurnState}
+use Rattle.mk_cycle.{proofs.HeldGates.{others_stay}, specs.{Holding.HoldsSuch, Stops.{HolderIsLoaded, is_loaded}}}
+use Rattle.mk_cycle.specs.Stops.{is_loaded_at}
+use Rattle.mk_alloc.proofs.ObjectVocabulary.{Acts, Changes, ComesTo, HasGates, IsAsLeft, IsOutOfStop, IsTurn, PassState}
+use Rattle.mk_alloc.proofs.ObjectVocabulary.{SetsGate, SetsGates, SetsTally, WordsState, all_others, call_of}
+use Rattle.mk_alloc.proofs.ObjectVocabulary.{decides_nothing, held_from, is_acting, is_holding, is_settling}
+use Rattle.mk_alloc.proofs.ObjectVocabulary.{none_is_held, now_of, steady_of, with_tally, world_of}
+use Rattle.mk_alloc.proofs.{Unchanged.{HasCall, OfCaller, acting_has_call, call_behind}, LoadedFrees.value_kept}
+use Rattle.mk_alloc.proofs.{JoinedLooks.{reached_there, reaches_after, reaches_so}, Looks.{acting_caller, acting_now}}
+use Rattle.mk_alloc.proofs.{Looks.still_acting, Reaching.{reaches_first, reaches_nothing}, Serves.out_of_stop}
+use Rattle.mk_alloc.specs.{FreeParts.{GateIsSet, HasRunAt, HoldsOthers, IsButGates}, Retiring.KeepsValues}
 
 -- A tally is set.
 
@@ -99,13 +107,7 @@ module _ {p : PassState} (turn : IsTurn p) (acts : is_acting (call_of p).stage �
 pub but_gates_then : {s : Seat} {w u v : World} → IsButGates s w u → IsButGates s u v → IsButGates s w v
 but_gates_then a b = grind arith
 
-pub sets_again : {kinds : Step → Bool} {p q r : PassState} {gate : ℕ} {first held : Bool}
-    → SetsGate kinds p gate first q → SetsGate kinds q gate held r → SetsGate kinds p gate held r
-sets_again {kinds} {gate} {held} a b =
-    reaches_after (λ x h. h) (λ x h. h) (λ x. GateIsSet x.seat gate held (world_of x)) a b
-    (λ v a b. grind (arith, but_gates_then))
-
--- A gate that isn't held is set so.
+-- A gate that is so already is set so.
 pub set_nothing : (kinds : Step → Bool) (p : PassState) (gate : ℕ) {held : Bool}
     → is_held (now_of p).words gate ≡ held → SetsGate kinds p gate held p
 set_nothing kinds p gate {held} is =
@@ -135,24 +137,13 @@ sets_first kinds p gates here =
     reaches_nothing kinds p (HasGates p.seat p.table.config.callers gates (world_of p))
     (record { but_gates = record { call = refl; holding = refl; steady = refl }; held = here })
 
--- The answer of a try says whether the gate is held.
-pub tried : {T E : Type 0} (x : Result T E) {held : Bool} → OnOk x (held ≡ true) → OnErr x (held ≡ false)
-    → held ≡ is_ok x
-tried x0 ok err = grind arith
-
 -- the gates as far as they are set
 
 pub caller_within : {t w : WordsState} {n end : ℕ} → t ≡ w → end ≡ w.config.callers → n < end → n < t.config.callers
 caller_within table all lt = grind arith
 
-none_below : (s : Seat) (j : ℕ) → held_to s 0 j ≡ false
-none_below s j = ap (λ b. b && not (is_number_of s j)) (le-ltb j 0 (omega arith))
-
 all_from : (s : Seat) (j : ℕ) → held_from s 0 j ≡ all_others s j
 all_from s j = ap (λ b. not b && not (is_number_of s j)) (le-ltb j 0 (omega arith))
-
-pub held_so_far : (s : Seat) (n j : ℕ) → j < n → held_to s n j ≡ all_others s j
-held_so_far s n j lt = ap (λ b. b && not (is_number_of s j)) (lt-ltb j n lt)
 
 pub opened_so_far : (s : Seat) (n j : ℕ) → j < n → held_from s n j ≡ false
 opened_so_far s n j lt = ap (λ b. not b && not (is_number_of s j)) (lt-ltb j n lt)
@@ -160,17 +151,8 @@ opened_so_far s n j lt = ap (λ b. not b && not (is_number_of s j)) (lt-ltb j n 
 next_below : (n j : ℕ) → j ≢ n → nat_lt j (n + 1) ≡ nat_lt j n
 next_below n j ne = grind (arith, cases_lt, lt-ltb, le-ltb)
 
-pub held_next : (s : Seat) (n j : ℕ) → j ≢ n → held_to s (n + 1) j ≡ held_to s n j
-held_next s n j ne = ap (λ b. b && not (is_number_of s j)) (next_below n j ne)
-
 pub opened_next : (s : Seat) (n j : ℕ) → j ≢ n → held_from s (n + 1) j ≡ held_from s n j
 opened_next s n j ne = ap (λ b. not b && not (is_number_of s j)) (next_below n j ne)
-
-pub holds_none : (p : PassState) → none_is_held p.table.config.callers (now_of p).words ≡ true
-    → SetsGates is_holding p (held_to p.seat 0) p
-holds_none p none =
-    sets_first is_holding p _ (λ j lt. not-true _ (all_below-at p.table.config.callers j (λ i. not (is_held (now_of
-    p).words i)) none lt) ∙ sym (none_below p.seat j))
 
 pub opens_none : (p : PassState) → ((j : ℕ) → j < p.table.config.callers
     → is_held (now_of p).words j ≡ all_others p.seat j) → SetsGates is_settling p (held_from p.seat 0) p
@@ -180,10 +162,6 @@ opens_none p held = sets_first is_settling p (held_from p.seat 0) (λ j lt. held
 pub set_acting : {kinds : Step → Bool} {p q : PassState} {gates : ℕ → Bool} → SetsGates kinds p gates q
     → is_acting (call_of p).stage ≡ true → is_acting (call_of q).stage ≡ true
 set_acting a acts = grind arith
-
-pub one_acting : {kinds : Step → Bool} {p q : PassState} {gate : ℕ} {held : Bool} → SetsGate kinds p gate held q
-    → is_acting (call_of p).stage ≡ true → is_acting (call_of q).stage ≡ true
-one_acting a acts = grind arith
 
 pub set_held : {kinds : Step → Bool} {p q : PassState} {gates : ℕ → Bool} → SetsGates kinds p gates q
     → (j : ℕ) → j < p.table.config.callers → is_held (now_of q).words j ≡ gates j
@@ -197,8 +175,114 @@ pub set_seat : {kinds : Step → Bool} {p q : PassState} {gates : ℕ → Bool} 
     → ◌≡◌ {A = Seat} q.seat p.seat
 set_seat a = ap (λ (x : PassState). x.seat) a.same
 
-pub none_yet_held : (s : Seat) (n : ℕ) → held_to s n n ≡ false
-none_yet_held s n = ap (λ b. b && not (is_number_of s n)) (le-ltb n n (omega arith))
-
 pub all_yet_held : (s : Seat) (n : ℕ) → held_from s n n ≡ all_others s n
 all_yet_held s n = ap (λ b. not b && not (is_number_of s n)) (le-ltb n n (omega arith))
+
+-- Gates are looked at and held: all is as it was but gates.
+
+abbrev ButGates : PassState → PassState → Type 0
+ButGates p q = ComesTo is_holding p (λ v. IsButGates p.seat (world_of p) v) [] q
+
+look_behind : {c : Config} {s : Seat} {w v : World} (gate : ℕ) → IsAsLeft s w v → HasCall c v.now s
+    → IsButGates s w (world_behind c v (record { seat = s; step = Step.Look (Word.Gate gate) }))
+look_behind {c} {v} gate kept (OfCaller k lt) = record {
+  call = call_behind c v.now k (Step.Look (Word.Gate gate)) lt ∙ kept.call;
+  holding = kept.holding;
+  steady = kept.steady;
+}
+
+look_gates : {p q : PassState} {gate : ℕ} → IsTurn p → is_acting (call_of p).stage ≡ true
+    → Acts p (Step.Look (Word.Gate gate)) q → ButGates p q
+look_gates {p} {gate} turn acts a =
+    reaches_first (IsButGates p.seat (world_of p)) a refl refl (acting_caller p acts) refl
+    (λ v kept known pages. look_behind gate kept (has_call turn acts kept known.orderly.flights))
+
+gates_then : {p q r : PassState} → ButGates p q → ButGates q r → ButGates p r
+gates_then a b =
+    reaches_after (λ x h. h) (λ x h. h) (λ x. IsButGates x.seat (world_of x)) a b (λ v a b. but_gates_then a b)
+
+acting_then : {p q : PassState} → ButGates p q → is_acting (call_of p).stage ≡ true
+    → is_acting (call_of q).stage ≡ true
+acting_then a acts =
+    reached_there a (λ (x : PassState). is_acting (call_of x).stage ≡ true)
+    (ap (λ (f : Flight). is_acting f.stage) a.world.call ∙ acts)
+
+such_gates : {such : ℕ → Bool} {t u : TurnState} → is_acting (call_of t.pass).stage ≡ true → HoldsSuch such t u
+    → ButGates t.pass u.pass
+such_gates {t = t} acts HoldsSuch.none_yet =
+    reaches_nothing is_holding t.pass (IsButGates t.pass.seat (world_of t.pass))
+    (record { call = refl; holding = refl; steady = refl })
+such_gates acts (HoldsSuch.then_looks {u = u} j before a) =
+    let first = such_gates acts before in gates_then first (look_gates u.in_order (acting_then first acts) a)
+such_gates acts (HoldsSuch.then_tries {u = u} j of before a) =
+    let first = such_gates acts before in
+    gates_then first (reaches_so (sets_hold u.in_order (acting_then first acts) a refl) (λ x. x.but_gates))
+
+-- and the registers of the holder's caller keep their values
+pub such_values : {such : ℕ → Bool} {t u : TurnState} → is_acting (call_of t.pass).stage ≡ true → HoldsSuch such t u
+    → KeepsValues t.pass u.pass
+such_values acts HoldsSuch.none_yet r lt = refl
+such_values acts (HoldsSuch.then_looks {u = u} j before a) r lt =
+    value_kept r (acting_caller u.pass (acting_then (such_gates acts before) acts)) lt a
+    (λ v kept known. decides_nothing u.pass.table.config v.now u.pass.seat (Step.Look (Word.Gate j)) refl)
+    ∙ such_values acts before r lt
+such_values acts (HoldsSuch.then_tries {u = u} j of before a) r lt =
+    value_kept r (acting_caller u.pass (acting_then (such_gates acts before) acts)) lt a
+    (λ v kept known. decides_nothing u.pass.table.config v.now u.pass.seat (Step.Hold j) refl)
+    ∙ such_values acts before r lt
+
+-- Where none was held, those of all others are held then, and no other.
+
+gate_by : (s : Seat) (callers : ℕ) (w v : Words) → none_is_held callers w ≡ true → others_are_held callers v s ≡ true
+    → ((j : ℕ) → j < callers → all_others s j ≡ false → is_held v j ≡ is_held w j)
+    → (j : ℕ) → j < callers → is_held v j ≡ all_others s j
+gate_by s callers w v none others left j lt = elim (cases_Bool (is_number_of s j)) [
+  | inl own ↦
+      left j lt (ap not own) ∙ not-true _ (all_below-at callers j (λ i. not (is_held w i)) none lt) ∙ sym (ap not own)
+  | inr other ↦
+      sym (ap (λ b. b || is_held v j) other)
+      ∙ all_below-at callers j (λ i. is_number_of s i || is_held v i) others lt ∙ sym (ap not other)
+]
+
+pub such_sets : {w : WordsState} {t u : TurnState} → is_acting (call_of t.pass).stage ≡ true → t.pass.table ≡ w
+    → none_is_held t.pass.table.config.callers (now_of t.pass).words ≡ true
+    → HoldsSuch (all_others t.pass.seat) t u
+    → others_are_held w.config.callers (now_of u.pass).words u.pass.seat ≡ true
+    → SetsGates is_holding t.pass (all_others t.pass.seat) u.pass
+such_sets {t = t} {u = u} acts table none holds others =
+    let p : PassState = t.pass in
+    let first = such_gates acts holds in
+    let all : others_are_held p.table.config.callers (now_of u.pass).words p.seat ≡ true =
+    subst (λ (s : Seat). others_are_held p.table.config.callers (now_of u.pass).words s ≡ true)
+    (ap (λ (x : PassState). x.seat) first.same) (subst (λ (x : WordsState). others_are_held x.config.callers
+    (now_of u.pass).words u.pass.seat ≡ true) (sym table) others) in
+    let gates = gate_by p.seat p.table.config.callers (now_of p).words (now_of u.pass).words none all
+    (λ j lt no. others_stay holds j lt no) in
+    reaches_so first (λ but. record {
+      but_gates = but;
+      held = λ j lt. ap (λ (x : PassState). is_held (now_of x).words j) (sym first.same) ∙ gates j lt;
+    })
+
+pub gates_held : {p q : PassState} → SetsGates is_holding p (all_others p.seat) q → HoldsOthers q
+gates_held {p} {q} a =
+    subst (λ (x : PassState). HoldsOthers x) (sym a.same) (λ j lt. a.world.held j lt)
+
+-- and the run is where it was
+pub run_still : {kinds : Step → Bool} {p q : PassState} {gates : ℕ → Bool} {page count : ℕ} → SetsGates kinds p gates q
+    → HasRunAt p page count → HasRunAt q page count
+run_still {p = p} {q = q} {page = page} {count = count} a run =
+    let same : (now_of q).words.pages ≡ (now_of p).words.pages =
+    ap (λ (x : PassState). (now_of x).words.pages) a.same ∙ ap (λ (x : Steady). x.pages) a.world.but_gates.steady in
+    ap (λ (ps : List Page). run_headed (header_of (slice_index_or ps page free_page).header) page) same ∙ run
+
+-- A call that is acting has loaded what it loads.
+
+loaded_stage : (s : Stage) → is_acting s ≡ true → is_loaded_at s ≡ true
+loaded_stage x0 acts = grind arith
+
+pub acting_ready : (p : PassState) → is_acting (call_of p).stage ≡ true → HolderIsLoaded p
+acting_ready p acts = record { loaded = by p.seat (call_of p) acts }
+  where
+    by : (s : Seat) (f : Flight) → is_acting f.stage ≡ true → is_loaded s f ≡ true
+    by (Caller k) f acts = loaded_stage f.stage acts
+    by _ f acts = refl

@@ -7,12 +7,15 @@ use Rattle.mk_core.specs.{Frames.{Steady, steady_of}, History.World, Moments.{fl
 use Rattle.mk_core.specs.NewPlaces.{is_run_gone, is_run_unmapped}
 use Rattle.mk_caller.specs.Below.Words.States.{PassState, WordsState, call_of, now_of, world_of}
 use Rattle.mk_alloc.specs.{Looking.is_acting, Placing.{ComesTo, IsOutOfStop}}
+pub use Rattle.mk_cycle.specs.Holding.{all_others}
 use Rattle.mk_core.specs.declared.events.Step.TheVariants as step
 use Rattle.mk_core.specs.declared.events.Tally.TheVariants as tally
 
--- kinds of step: by which gates are held, a run's pages and words are looked at and cleared, and what comes after that
+-- kinds of step: by which gates are looked at and held, a run's pages and words are looked at and cleared, and what
+-- comes after that
 
 abbrev pub is_holding : Step → Bool
+is_holding (step.Look x) = true
 is_holding (step.Hold j) = true
 is_holding _ = false
 
@@ -50,15 +53,9 @@ pub record HasGates (s : Seat) (callers : ℕ) (gates : ℕ → Bool) (w v : Wor
   pub but_gates : IsButGates s w v
   pub held : (j : ℕ) → j < callers → is_held v.now.words j ≡ gates j
 
--- those of other callers, as far as these are held, and as far as they are opened
-abbrev pub held_to : Seat → ℕ → ℕ → Bool
-held_to s caller j = nat_lt j caller && not (is_number_of s j)
-
+-- those of other callers, as far as they are opened
 abbrev pub held_from : Seat → ℕ → ℕ → Bool
 held_from s caller j = not (nat_lt j caller) && not (is_number_of s j)
-
-abbrev pub all_others : Seat → ℕ → Bool
-all_others s j = not (is_number_of s j)
 
 abbrev pub no_gate : ℕ → Bool
 no_gate j = false
@@ -80,14 +77,7 @@ SetsGate kinds p gate held q = ComesTo kinds p (GateIsSet p.seat gate held (worl
 abbrev pub SetsGates : (Step → Bool) → PassState → (ℕ → Bool) → PassState → Type 0
 SetsGates kinds p gates q = ComesTo kinds p (HasGates p.seat p.table.config.callers gates (world_of p)) [] q
 
--- On these words the call may hold this gate, which isn't held.
-pub record MayHold (w : WordsState) (p : PassState) (gate : ℕ) : Type 0 where
-  pub one_table : p.table ≡ w
-  pub acting : is_acting (call_of p).stage ≡ true
-  pub within : gate < p.table.config.callers
-  pub not_held : is_held (now_of p).words gate ≡ false
-
--- On these words it may open gates: no cycle stops, and the run that it freed is unmapped and wiped.
+-- On these words the call may open gates: no cycle stops, and the run that it freed is unmapped and wiped.
 pub record MayOpen (w : WordsState) (p : PassState) : Type 0 where
   pub one_table : p.table ≡ w
   pub acting : is_acting (call_of p).stage ≡ true

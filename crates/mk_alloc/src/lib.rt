@@ -23,7 +23,6 @@ mod unmapping;
 mod wiping;
 
 pub use freeing::free_object;
-pub use looking::{is_marking, look_at};
 pub use making::{Full, new_object};
 pub use objects::Request;
 pub use placing::place_object;

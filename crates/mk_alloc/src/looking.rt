@@ -9,7 +9,7 @@ use mk_core::{Phase, Word};
 
 /// Looks at a word that none but the holder changes.
 #[inline(always)]
-pub fn look_at(words: &Words, turn: &mut Turn, word: Word) -> u64
+pub(crate) fn look_at(words: &Words, turn: &mut Turn, word: Word) -> u64
     requires one_table { turn.old.pass.table ≡ words.now }
     requires acting { is_acting (call_of turn.old.pass).stage ≡ true }
     requires steady { is_steady_word word ≡ true }
@@ -22,7 +22,7 @@ pub fn look_at(words: &Words, turn: &mut Turn, word: Word) -> u64
 }
 
 /// Looks whether a cycle marks.
-pub fn is_marking(words: &Words, turn: &mut Turn) -> bool
+pub(crate) fn is_marking(words: &Words, turn: &mut Turn) -> bool
     requires one_table { turn.old.pass.table ≡ words.now }
     requires acting { is_acting (call_of turn.old.pass).stage ≡ true }
     ensures looks { OnlyLooks turn.old.pass turn.new.pass }

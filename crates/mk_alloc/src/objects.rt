@@ -30,6 +30,17 @@ pub(crate) struct Shape {
     pub(crate) leaf: bool,
 }
 
+/// What a New gets: an object of this shape, to which this register is to point, in a place on a page with this used
+/// word, or on free pages.
+#[derive(Clone, Copy)]
+pub(crate) struct Grant {
+    pub(crate) register: u8,
+    pub(crate) shape: Shape,
+    pub(crate) place: Place,
+    pub(crate) used: u64,
+    pub(crate) free: bool,
+}
+
 /// The shape of an object of a type.
 pub(crate) fn shape_of(types: &TypeTable, ty: u64) -> Shape
     requires { ty < length types.now }

@@ -6,7 +6,7 @@ ghost use Rattle.mk_alloc.specs.Placing.{FitsNowhere, HeldIsExact, IsPlaced, IsS
 ghost use Rattle.mk_alloc.specs.{Placing.object_for, Shapes.{MayServe, ShapeGoesTo, object_shaped}};
 
 use crate::looking::{is_marking, look_at};
-use crate::objects::{Request, Shape, shape_of};
+use crate::objects::{Grant, Request, Shape, shape_of};
 use crate::seeking::{seek, seek_cell};
 use mk_caller::lower::words::{Turn, Words};
 use mk_core::{Tally, Word};
@@ -44,24 +44,21 @@ fn make_ready(words: &Words, turn: &mut Turn, shape: Shape, place: Place, free: 
     }
 }
 
-/// Gives the object its place, on a page with this used word, or on free pages.
+/// Gives the object its place.
 #[inline(always)]
-fn serve(
-    words: &Words,
-    turn: &mut Turn,
-    register: u8,
-    shape: Shape,
-    place: Place,
-    used: u64,
-    free: bool,
-    marking: bool,
-    held: u64,
-)
-    requires may { MayServe words.now turn.old.pass register shape place used free }
+fn serve(words: &Words, turn: &mut Turn, grant: Grant, marking: bool, held: u64)
+    requires may { MayServe words.now turn.old.pass grant }
     requires marking { marking ≡ (phase_of (now_of turn.old.pass).words == 1) }
     requires held { held ≡ (now_of turn.old.pass).words.held }
-    ensures { IsServed turn.old.pass place turn.new.pass }
+    ensures { IsServed turn.old.pass grant.place turn.new.pass }
 {
+    let Grant {
+        register,
+        shape,
+        place,
+        used,
+        free,
+    } = grant;
     make_ready(words, turn, shape, place, free, marking);
     turn.used(words, place.page, used | 1 << place.index);
     turn.grant(words, register, shape.address(place));
@@ -70,23 +67,13 @@ fn serve(
 
 /// Gives the object its place, after a look at the tally of held words and one at the phase.
 #[inline(always)]
-fn serve_now(
-    words: &Words,
-    turn: &mut Turn,
-    register: u8,
-    shape: Shape,
-    place: Place,
-    used: u64,
-    free: bool,
-)
-    requires { MayServe words.now turn.old.pass register shape place used free }
-    ensures { IsServed turn.old.pass place turn.new.pass }
+fn serve_now(words: &Words, turn: &mut Turn, grant: Grant)
+    requires { MayServe words.now turn.old.pass grant }
+    ensures { IsServed turn.old.pass grant.place turn.new.pass }
 {
     let held = look_at(words, turn, Word::Held);
     let marking = is_marking(words, turn);
-    serve(
-        words, turn, register, shape, place, used, free, marking, held,
-    );
+    serve(words, turn, grant, marking, held);
 }
 
 /// Grants the object, which no block has a free cell for or which is large, at its place. Returns false where nothing
@@ -106,15 +93,14 @@ fn place_apart(words: &Words, turn: &mut Turn, register: u8, shape: Shape) -> bo
         None => false,
         Some(place) => {
             let page = turn.page(place.page);
-            serve_now(
-                words,
-                turn,
+            let grant = Grant {
                 register,
                 shape,
                 place,
-                page.used,
-                page.header == 0,
-            );
+                used: page.used,
+                free: page.header == 0,
+            };
+            serve_now(words, turn, grant);
             true
         }
     }
@@ -138,7 +124,14 @@ pub fn place_object(words: &Words, turn: &mut Turn, request: Request) -> bool
         None => place_apart(words, turn, register, shape),
         Some(place) => {
             let used = turn.page(place.page).used;
-            serve_now(words, turn, register, shape, place, used, false);
+            let grant = Grant {
+                register,
+                shape,
+                place,
+                used,
+                free: false,
+            };
+            serve_now(words, turn, grant);
             true
         }
     }

@@ -2,19 +2,19 @@
 ghost use Rattle.std.specs.Prelude.{◌≡◌, ℕ, ◌<◌, true, false, IfOk, OnErr, Some, option_map};
 ghost use Rattle.mk_geom.specs.Headers.{header_of};
 ghost use Rattle.mk_core.specs.{Cells.{header_in, heads_run, run_headed, words_under}, Counts.TalliesAreExact};
-ghost use Rattle.mk_core.specs.Moments.{none_is_held, nothing_done};
+ghost use Rattle.mk_core.specs.{Moments.{none_is_held, nothing_done}, Words.header_at};
 ghost use Rattle.mk_caller.specs.Below.Words.States.{call_of, now_of};
 ghost use Rattle.mk_alloc.specs.{Deciding.{FreesCell, MayFreeOn}, FreeParts.{HasRunAt, HoldsOthers, SetsTally, run_on}};
 ghost use Rattle.mk_alloc.specs.{Looking.is_acting, Placing.IsOutOfStop, Retired.{FindsFreed, Retires}};
 ghost use Rattle.mk_alloc.specs.Retiring.{IsUnloaded};
 
-use crate::gates::hold_gates;
 use crate::looking::look_at;
-use crate::retiring::{find_cell, is_freed, load_freed, look_at_quarantine, quarantine};
+use crate::retiring::{Target, find_cell, is_freed, load_freed, look_at_quarantine, quarantine};
 use crate::unmapping::clear_run;
 use mk_books::due;
 use mk_caller::lower::words::{Turn, Words};
 use mk_core::{RunPages, Tally, Word, words_under};
+use mk_cycle::hold_gates;
 use mk_geom::{Cell, Header, PAGE_WORDS, decode};
 use std::sync::Wait;
 use std::thread::Threads;
@@ -107,12 +107,13 @@ fn run_under(header: u64) -> Option<u64>
 }
 
 /// Frees the object whose cell was found, and returns whether that is due.
-fn free_found<R: Wait>(rt: &R, words: &Words, turn: &mut Turn, cell: Cell, quar: u64) -> bool
-    requires free { MayFreeOn words.now turn.old.pass cell quar }
+fn free_found<R: Wait>(rt: &R, words: &Words, turn: &mut Turn, target: Target, quar: u64) -> bool
+    requires free { MayFreeOn words.now turn.old.pass target.cell quar }
     requires gates { none_is_held turn.old.pass.table.config.callers (now_of turn.old.pass).words ≡ true }
-    ensures { FreesCell turn.old.pass cell result turn.new.pass }
+    requires header { target.header ≡ header_at (now_of turn.old.pass).words target.cell.page }
+    ensures { FreesCell turn.old.pass target.cell result turn.new.pass }
 {
-    let header = look_at(words, turn, Word::Head(cell.page));
+    let Target { cell, header } = target;
     match run_under(header) {
         Some(count) => free_run(rt, words, turn, cell, quar, count),
         None => {
@@ -144,11 +145,11 @@ pub fn retire_object<R: Threads + Wait + Sync>(
     if value == 0 {
         return Ok(Freed { due: false });
     }
-    let cell = find_cell(words, turn, value);
-    let quar = look_at_quarantine(words, turn, cell);
-    if is_freed(quar, cell) {
+    let target = find_cell(words, turn, value);
+    let quar = look_at_quarantine(words, turn, target.cell);
+    if is_freed(quar, target.cell) {
         return Err(Double);
     }
-    let due = free_found(rt, words, turn, cell, quar);
+    let due = free_found(rt, words, turn, target, quar);
     Ok(Freed { due })
 }

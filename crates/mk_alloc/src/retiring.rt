@@ -1,8 +1,8 @@
 //! Freeing the object of a Free.
 ghost use Rattle.std.specs.Prelude.{◌≡◌, ◌<◌, ◌==◌, ◌%◌, ◌||◌, not, true, false, Some};
 ghost use Rattle.mk_never.specs.declared.values.Value.TheVariants.{Null};
-ghost use Rattle.mk_core.specs.{NewPlaces.{is_undecided_free, target}, Bits.has_bit, Cells.{header_in, heads_run}};
-ghost use Rattle.mk_core.specs.{Cells.is_freed, Moments.others_are_held, Words.named_word};
+ghost use Rattle.mk_core.specs.{NewPlaces.target, Bits.has_bit, Cells.{header_in, heads_run, is_freed}};
+ghost use Rattle.mk_core.specs.{Moments.others_are_held, Words.{header_at, named_word}};
 ghost use Rattle.mk_caller.specs.Below.Words.States.{call_of, now_of};
 ghost use Rattle.mk_alloc.specs.{Deciding.MayFreeOn, Placing.OnlyLooks, Dues.FreesOnce, Retiring.{HasFreed, HasLoaded}};
 ghost use Rattle.mk_alloc.specs.Retiring.{HasSeen, IsLoaded, IsUnloaded, KeepsValues, value_of};
@@ -15,6 +15,13 @@ use mk_geom::{Cell, lookup, page_at};
 
 /// The low half of a quarantine word has the freed bits, and the high half the snapshot.
 const HALF_WORD: u64 = 4294967296;
+
+/// What a Free frees: the cell, and the header word of its page.
+#[derive(Clone, Copy)]
+pub(crate) struct Target {
+    pub(crate) cell: Cell,
+    pub(crate) header: u64,
+}
 
 /// Whether the cell's bit is set among the freed bits of its page's quarantine word.
 pub(crate) fn is_freed(quar: u64, cell: Cell) -> bool
@@ -35,16 +42,18 @@ pub(crate) fn load_freed(words: &Words, turn: &mut Turn, register: u8) -> u64
     turn.reg_load(words, register)
 }
 
-/// The cell that the loaded register of a Free points into.
-pub(crate) fn find_cell(words: &Words, turn: &mut Turn, value: u64) -> Cell
+/// The cell that the loaded register of a Free points into, and the header word of its page. An object is freed by its
+/// first word, so the page that the value points into is the cell's.
+pub(crate) fn find_cell(words: &Words, turn: &mut Turn, value: u64) -> Target
     requires one_table { turn.old.pass.table ≡ words.now }
-    requires undecided { is_undecided_free (call_of turn.old.pass) ≡ true }
+    requires loaded { IsLoaded turn.old.pass }
     requires value { (call_of turn.old.pass).p ≡ value }
     ensures looks { OnlyLooks turn.old.pass turn.new.pass }
     ensures cell { target turn.old.pass.table.config.pages (now_of turn.old.pass).words (call_of turn.old.pass)
-        ≡ Some result }
-    ensures within { result.page < turn.old.pass.table.config.pages }
-    ensures index { result.index < 32 }
+        ≡ Some result.cell }
+    ensures within { result.cell.page < turn.old.pass.table.config.pages }
+    ensures index { result.cell.index < 32 }
+    ensures header { result.header ≡ header_at (now_of turn.old.pass).words result.cell.page }
     ensures keeps { KeepsValues turn.old.pass turn.new.pass }
 {
     let page = page_at(value);
@@ -52,7 +61,7 @@ pub(crate) fn find_cell(words: &Words, turn: &mut Turn, value: u64) -> Cell
     let Some(cell) = lookup(words.pages(), header, value) else {
         unreachable!()
     };
-    cell
+    Target { cell, header }
 }
 
 /// Looks at the quarantine word of the page of a Free's target. Where the target is freed already, that decides the

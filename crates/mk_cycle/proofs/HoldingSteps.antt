@@ -33,7 +33,7 @@ hold_allowed p t free j lt other none =
     (and_from _ (not _) (lt-ltb j _ lt) (ap not other)) (ap not none) refl refl
 
 -- A gate that is held stays so where one that was found open is held.
-stays_held : (gs : List ℕ) (i j : ℕ) → slice_index gs j ≡ 2
+pub stays_held : (gs : List ℕ) (i j : ℕ) → slice_index gs j ≡ 2
     → slice_index (slice_set gs i (if slice_index gs i == 0 then 2 else slice_index gs i)) j ≡ 2
 stays_held gs i j two = elim (cases_eq j i) [
   | inr ne ↦ get_or-set_other gs i j _ 0 ne ∙ two

@@ -62,5 +62,6 @@ pub mod TracedMarks
 pub mod Since
 pub mod MarksBeside
 pub mod BesideSteps
+pub mod HeldGates
 pub mod ReachedMarks
 pub mod MarkedRoots

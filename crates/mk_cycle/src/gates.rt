@@ -1,43 +1,84 @@
-//! The gate of another caller is held while its registers are looked at.
-ghost use Rattle.std.specs.Prelude.{◌≡◌, true, false, not};
-ghost use Rattle.mk_core.specs.Moments.{is_held};
+//! The gates of other callers. Each is held once its caller is in no call: one that is in a call is waited for.
+ghost use Rattle.std.specs.Prelude.{◌≡◌, ◌<◌, true, false, not};
+ghost use Rattle.mk_core.specs.Moments.{is_held, is_number_of, others_are_held};
 ghost use Rattle.mk_words.specs.States.{now_of};
-ghost use Rattle.mk_cycle.specs.Beside.{MaySetGate, SetsGate};
+ghost use Rattle.mk_cycle.specs.Holding.{HoldsGates, HoldsSuch, IsHeldOrOwn, MayHoldGate, all_others, only_gate};
+ghost use Rattle.mk_cycle.specs.Stops.{HolderIsLoaded};
 
-use crate::steps_beside::{look_at, try_hold};
 use crossbeam_utils::Backoff;
-use mk_core::Word;
+use mk_core::{Seat, Word};
 use mk_words::{Turn, Words};
 use std::sync::Wait;
 
 /// What a gate word is while the gate is held.
 const HELD: u64 = 2;
 
-/// Holds a gate that isn't held, once its caller is in no call.
+/// Whether the seat is that caller's.
+pub fn is_caller(seat: Seat, caller: u64) -> bool
+    ensures { result ≡ is_number_of seat caller }
+{
+    match seat {
+        Seat::Caller(number) => number == caller,
+        Seat::Marker(_) | Seat::Host => false,
+    }
+}
+
+/// Holds a gate that isn't held, once its caller is in no call. A call is short, so who waits for its end yields and
+/// doesn't sleep.
 fn wait_and_hold<R: Wait>(rt: &R, words: &Words, turn: &mut Turn, caller: u64)
-    requires may { MaySetGate words.now turn.old.pass caller }
-    requires open { is_held (now_of turn.old.pass).words caller ≡ false }
-    ensures { SetsGate caller true turn.old turn.new }
+    requires may { MayHoldGate words.now turn.old.pass caller }
+    requires not_held { is_held (now_of turn.old.pass).words caller ≡ false }
+    ensures steps { HoldsSuch (only_gate caller) turn.old turn.new }
+    ensures held { is_held (now_of turn.new.pass).words caller ≡ true }
 {
     let backoff = Backoff::new();
     'trying: for _ in rt.forever() {
-        if try_hold(words, turn, caller) {
-            return;
+        match turn.try_hold(words, caller) {
+            Ok(()) => return,
+            Err(_) => backoff.snooze(),
         }
-        backoff.snooze();
     }
     unreachable!()
 }
 
 /// Holds the gate of another caller. Returns whether it wasn't held before.
 pub(crate) fn hold_gate<R: Wait>(rt: &R, words: &Words, turn: &mut Turn, caller: u64) -> bool
-    requires may { MaySetGate words.now turn.old.pass caller }
-    ensures sets { SetsGate caller true turn.old turn.new }
+    requires { MayHoldGate words.now turn.old.pass caller }
+    ensures steps { HoldsSuch (only_gate caller) turn.old turn.new }
+    ensures held { is_held (now_of turn.new.pass).words caller ≡ true }
     ensures was { is_held (now_of turn.old.pass).words caller ≡ not result }
 {
-    if look_at(words, turn, Word::Gate(caller)) == HELD {
+    if turn.look(words, Word::Gate(caller)) == HELD {
         return false;
     }
     wait_and_hold(rt, words, turn, caller);
     true
+}
+
+/// Holds a caller's gate, unless it is the holder's own.
+#[inline(always)]
+fn hold_other<R: Wait>(rt: &R, words: &Words, turn: &mut Turn, caller: u64)
+    requires one_table { turn.old.pass.table ≡ words.now }
+    requires ready { HolderIsLoaded turn.old.pass }
+    requires within { caller < words.now.config.callers }
+    ensures steps { HoldsSuch (all_others turn.old.pass.seat) turn.old turn.new }
+    ensures held { IsHeldOrOwn turn.new.pass caller }
+{
+    if !is_caller(turn.seat(), caller) {
+        hold_gate(rt, words, turn, caller);
+    }
+}
+
+/// Holds the gates of all other callers. The turn's holder has loaded what its call loads.
+#[inline(always)]
+pub fn hold_gates<R: Wait>(rt: &R, words: &Words, turn: &mut Turn)
+    requires one_table { turn.old.pass.table ≡ words.now }
+    requires ready { HolderIsLoaded turn.old.pass }
+    ensures steps { HoldsSuch (all_others turn.old.pass.seat) turn.old turn.new }
+    ensures holds { HoldsGates turn.old.pass turn.new.pass }
+    ensures held { others_are_held words.now.config.callers (now_of turn.new.pass).words turn.new.pass.seat ≡ true }
+{
+    for caller in 0..words.callers() {
+        hold_other(rt, words, turn, caller);
+    }
 }

@@ -8,7 +8,7 @@ ghost use Rattle.mk_cycle.specs.{FinishCycle.{HasReleased, HoldsFewer}, Freeing.
 ghost use Rattle.mk_cycle.specs.GivingAll.{GivesAllBack};
 
 use crate::engine::Engine;
-use crate::holding::hold_gates;
+use crate::gates::hold_gates;
 use crate::releasing::release_unmarked;
 use crate::settling::{Settled, settle_pages};
 use mk_words::{Stopped, Turn, Words};
@@ -46,7 +46,7 @@ pub(crate) fn give_all_back<E: Engine, R: Threads + Wait + Sync>(
     ensures held { HoldsFewer turn.pass result.0.pass result.1.held }
     ensures promised { ClosesAsPromised E.sweeps (E.tells engine.new) (E.closes engine.new) turn.pass result.0.pass }
 {
-    hold_gates(rt, &mut turn, words);
+    hold_gates(rt, words, &mut turn);
     let mut stop = turn.stopped();
     release_unmarked(rt, words, &mut stop, engine);
     let mut turn = open_gates(words, stop);

@@ -13,12 +13,14 @@ use mk_geom::HEAP_START;
 use mk_words::Stopped;
 
 /// How many registers a caller has.
-const REGISTERS: u64 = 8;
+pub const REGISTERS: u64 = 8;
 
-/// The 64 globals are groups of this many, which are looked at together.
+pub const GLOBALS: u64 = 64;
+
+/// The globals are groups of this many, which are looked at together.
 const GROUP: u64 = 8;
 
-const GROUPS: u64 = 8;
+const GROUPS: u64 = GLOBALS / GROUP;
 
 /// Looks at a root, and marks what its value points into. Most are null.
 #[inline(always)]

@@ -1,23 +1,19 @@
 //! Marks from the roots beside the callers: their registers, and the globals. What a root points into is marked before
 //! the next one is looked at.
 ghost use Rattle.std.specs.Prelude.{◌≡◌, ◌<◌, ℕ, true, false};
-ghost use Rattle.mk_core.specs.{Moments.is_number_of, Ranges.is_word};
+ghost use Rattle.mk_core.specs.Ranges.{is_word};
 ghost use Rattle.mk_cycle.specs.{Begun.IsBegun, Holding.IsHeldOrOwn, TurnKeeps.KeepsGates};
 ghost use Rattle.mk_cycle.specs.{Stops.is_root, Beside.{GoesBeside, IsBeside, IsOpenToLook, LooksAt, MaySetGate}};
 ghost use Rattle.mk_cycle.specs.Roots.{MarksRoots};
 ghost use Rattle.mk_core.specs.declared.events.Word.TheVariants as word;
 
-use crate::gates::hold_gate;
-use crate::steps_beside::{look_at_root, open_gate};
+use crate::gates::is_caller;
+use crate::roots::{GLOBALS, REGISTERS};
+use crate::steps_beside::{hold_beside, look_at_root, open_gate};
 use crate::values_beside::mark_value;
-use mk_core::{Seat, Word};
+use mk_core::Word;
 use mk_words::{Turn, Words};
 use std::sync::Wait;
-
-/// How many registers a caller has.
-const REGISTERS: u64 = 8;
-
-const GLOBALS: u64 = 64;
 
 /// Looks at a root, and marks what its value points into.
 fn mark_root(words: &Words, turn: &mut Turn, x: Word)
@@ -57,20 +53,10 @@ fn mark_registers_held<R: Wait>(rt: &R, words: &Words, turn: &mut Turn, caller: 
     ensures gates { KeepsGates turn.old.pass turn.new.pass }
     ensures looked { (r : ℕ) → r < 8 → LooksAt (word.Reg caller r) turn.old.pass turn.new.pass }
 {
-    let was_open = hold_gate(rt, words, turn, caller);
+    let was_open = hold_beside(rt, words, turn, caller);
     mark_registers_of(words, turn, caller);
     if was_open {
         open_gate(words, turn, caller);
-    }
-}
-
-/// Whether the seat that has the turn is this caller.
-fn is_own(turn: &Turn, caller: u64) -> bool
-    ensures { result ≡ is_number_of turn.now.pass.seat caller }
-{
-    match turn.seat() {
-        Seat::Caller(number) => number == caller,
-        Seat::Marker(_) | Seat::Host => false,
     }
 }
 
@@ -83,7 +69,7 @@ fn mark_caller<R: Wait>(rt: &R, words: &Words, turn: &mut Turn, caller: u64)
     ensures gates { KeepsGates turn.old.pass turn.new.pass }
     ensures looked { (r : ℕ) → r < 8 → LooksAt (word.Reg caller r) turn.old.pass turn.new.pass }
 {
-    if is_own(turn, caller) {
+    if is_caller(turn.seat(), caller) {
         mark_registers_of(words, turn, caller);
     } else {
         mark_registers_held(rt, words, turn, caller);

@@ -1,5 +1,5 @@
 //! Steps of a turn while a cycle marks, beside callers and markers.
-ghost use Rattle.std.specs.Prelude.{◌≡◌, true, false};
+ghost use Rattle.std.specs.Prelude.{◌≡◌, true, false, not};
 ghost use Rattle.mk_core.specs.{Cells.is_marked, Moments.is_held, Ranges.is_word, Words.named_word};
 ghost use Rattle.mk_words.specs.States.{now_of};
 ghost use Rattle.mk_cycle.specs.TurnKeeps.{KeepsGates};
@@ -7,9 +7,11 @@ ghost use Rattle.mk_cycle.specs.{Grays.{IsInHand, HandPointsInto}, Stops.{hand_o
 ghost use Rattle.mk_cycle.specs.Beside.{FindsInRoot, GoesBeside, IsBeside, IsOpenToLook, MaySetGate, SetsGate};
 ghost use Rattle.mk_cycle.specs.Beside.{gives_no_hand};
 
+use crate::gates::hold_gate;
 use mk_core::{Word, bit};
 use mk_geom::Cell;
 use mk_words::{Turn, Words};
+use std::sync::Wait;
 
 /// Looks at a word that gives no hand.
 #[inline(always)]
@@ -53,13 +55,13 @@ pub(crate) fn mark_cell(words: &Words, turn: &mut Turn, cell: Cell)
     turn.mark(words, cell.page, bit(cell.index));
 }
 
-/// Tries to hold the gate of another caller, which isn't held yet. Returns whether it is held then.
-pub(crate) fn try_hold(words: &Words, turn: &mut Turn, caller: u64) -> bool
+/// Holds the gate of another caller. Returns whether it wasn't held before.
+pub(crate) fn hold_beside<R: Wait>(rt: &R, words: &Words, turn: &mut Turn, caller: u64) -> bool
     requires may { MaySetGate words.now turn.old.pass caller }
-    requires open { is_held (now_of turn.old.pass).words caller ≡ false }
-    ensures { SetsGate caller result turn.old turn.new }
+    ensures sets { SetsGate caller true turn.old turn.new }
+    ensures was { is_held (now_of turn.old.pass).words caller ≡ not result }
 {
-    turn.try_hold(words, caller).is_ok()
+    hold_gate(rt, words, turn, caller)
 }
 
 /// Opens the gate of another caller, which is held.

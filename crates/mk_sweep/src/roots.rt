@@ -9,11 +9,7 @@ use crate::stepping::look_at_root;
 use crate::values::mark_value;
 use mk_core::Word;
 use mk_cycle::lower::words::{Stopped, Words};
-
-/// How many registers a caller has.
-const REGISTERS: u64 = 8;
-
-const GLOBALS: u64 = 64;
+use mk_cycle::{GLOBALS, REGISTERS};
 
 /// Looks at a root, and marks what its value points into.
 fn mark_root(words: &Words, stop: &mut Stopped, x: Word)

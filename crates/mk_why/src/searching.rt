@@ -15,12 +15,8 @@ use crate::tables::Tables;
 use crate::values::{base_pointed, scanned_size};
 use mk_core::Word;
 use mk_geom::{HEAP_START, WORD_BYTES};
+use mk_sweep::lower::cycles::{GLOBALS, REGISTERS};
 use mk_sweep::lower::words::{Stopped, Words};
-
-/// How many registers a caller has.
-const REGISTERS: u64 = 8;
-
-const GLOBALS: u64 = 64;
 
 /// Notes what a value points into, as found in this way.
 fn note_value(words: &Words, stop: &mut Stopped, tables: &mut Tables, value: u64, found: Found)

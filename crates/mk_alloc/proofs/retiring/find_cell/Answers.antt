@@ -1,11 +1,15 @@
-use Rattle.mk_caller.proofs.Below.Laws.Vocabulary.{Cell, Option, Some, lt-ltb, subst, sym, ◌<◌, ◌∙◌, ◌≡◌}
-use Rattle.mk_alloc.proofs.{ObjectVocabulary.PassState, FreedObjects.{IsPointed, pointed_now}}
+use Rattle.mk_caller.proofs.Below.Laws.Vocabulary.{Cell, Flight, Option, Some, ap, header_at, lt-ltb, subst, sym, ℕ}
+use Rattle.mk_caller.proofs.Below.Laws.Vocabulary.{◌<◌, ◌∙◌, ◌≡◌}
+use Rattle.mk_alloc.proofs.{ObjectVocabulary.{PassState, now_of}, FreedObjects.{IsPointed, pointed_now}}
+use Rattle.mk_alloc.proofs.{FreedObjects.page_pointed, LoadedFrees.loaded_undecided}
 use Rattle.mk_alloc.proofs.retiring.find_cell.Goals as goal
 use Rattle.mk_alloc.proofs.retiring.find_cell.Goals.{After-lookup, Start}
 
 -- what the value points into
 pointed : (c : Start) → IsPointed c.args.turn.now.pass c.args.value
-pointed c = pointed_now c.args.turn.now.in_order c.requires.undecided c.requires.value
+pointed c =
+    let l = c.requires.loaded in
+    pointed_now c.args.turn.now.in_order (loaded_undecided l.value l.free l.some) c.requires.value
 
 -- is the cell that was found
 found : (c : After-lookup) (t : IsPointed c.args.turn.now.pass c.args.value) → c.lookup.result ≡ Some t.cell
@@ -44,3 +48,13 @@ returns-clause-index c =
     let x = goal.at.returns-clause-index c in
     let t = pointed x.Start in
     subst (λ (y : Cell). y.index < 32) (same_cell (found x.After-lookup t) c.in-Some.is) t.index
+
+-- The page that the value points into is the cell's.
+pub returns-clause-header : goal.returns-clause-header
+returns-clause-header c =
+    let p : PassState = c.args.turn.now.pass in
+    let l = c.requires.loaded in
+    let value : l.value ≡ c.args.value = sym (ap (λ (f : Flight). f.p) l.free.call) ∙ c.requires.value in
+    let page = page_pointed l.value c.args.turn.now.in_order l.free l.some (returns-clause-cell c) in
+    c.look_at-header.ensures.finds
+    ∙ ap (λ (n : ℕ). header_at (now_of p).words n) (cc (c.page_at-page.ensures, value, page))

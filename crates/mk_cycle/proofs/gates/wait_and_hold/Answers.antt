@@ -1,24 +1,26 @@
-use Rattle.mk_words.proofs.Below.Laws.Vocabulary.{refl, ◌∙◌}
+use Rattle.mk_words.proofs.Below.Laws.Vocabulary.{eq-eqb, refl}
+use Rattle.mk_cycle.proofs.HeldGates.{hold_may_come, may_hold_still}
 use Rattle.mk_cycle.proofs.gates.wait_and_hold.Goals as goal
-use Rattle.mk_cycle.proofs.MarksBeside.{goes_nowhere, goes_then, may_on, others_on, sets_then}
+use Rattle.mk_cycle.specs.Holding.{HoldsSuch}
 
 pub trying-init : goal.trying-init
-trying-init g c =
-    record
-    { on = goes_nowhere c.args.turn.now c.requires.may.beside; others = λ j lt ne. refl; waits = c.requires.open }
+trying-init g c = record { steps = HoldsSuch.none_yet; waits = c.requires.not_held }
 
-pub try_hold-requires-clause-may : goal.try_hold-requires-clause-may
-try_hold-requires-clause-may g c = may_on c.requires.may c.trying.invariant.on
+pub try_hold-requires-clause-one_table : goal.try_hold-requires-clause-one_table
+try_hold-requires-clause-one_table g c = (may_hold_still c.trying.invariant.steps c.requires.may).one_table
 
-pub returns-then-try_hold : goal.returns-then-try_hold
-returns-then-try_hold g c =
-    sets_then c.trying.invariant.on c.trying.invariant.others (rw c.if-try_hold.true at c.try_hold.ensures)
+pub try_hold-requires-clause-enabled : goal.try_hold-requires-clause-enabled
+try_hold-requires-clause-enabled g c =
+    hold_may_come c.trying.turn (may_hold_still c.trying.invariant.steps c.requires.may) c.trying.invariant.waits
+
+pub returns-in-Ok-clause-steps : goal.returns-in-Ok-clause-steps
+returns-in-Ok-clause-steps g c =
+    HoldsSuch.then_tries c.args.caller (eq-eqb c.args.caller c.args.caller refl) c.trying.invariant.steps
+    c.try_hold.ensures.acts
 
 pub trying-preserved : goal.trying-preserved
 trying-preserved g c = record {
-  on = goes_then c.trying.invariant.on c.try_hold.ensures.on;
-  others =
-      others_on c.args.caller c.try_hold.new.turn c.trying.invariant.on
-      c.trying.invariant.others c.try_hold.ensures.others;
-  waits = c.try_hold.ensures.set ∙ c.if-try_hold.false;
+  steps = HoldsSuch.then_tries c.args.caller (eq-eqb c.args.caller c.args.caller refl) c.trying.invariant.steps
+      c.try_hold.ensures.acts;
+  waits = c.in-Err.ensures.not_held;
 }

@@ -2,6 +2,7 @@ use Rattle.mk_words.proofs.Below.Laws.Vocabulary.{head_page, refl, subst, sym, â
 use Rattle.mk_cycle.proofs.{Vocabulary.{HoldsGates, WordsState, now_of}, ClosedBy.{promised_later, promised_when_held}}
 use Rattle.mk_cycle.proofs.GivingAll.{all_held, all_told, gives_all_back}
 use Rattle.mk_cycle.proofs.{SettledPages.{free_cells_stay, same_occupied}, FreeingSteps.frees_then}
+use Rattle.mk_cycle.proofs.TracedMarks.{ready_of}
 use Rattle.mk_cycle.proofs.giving.give_all_back.Goals.{After-settle_pages-settled}
 use Rattle.mk_words.specs.States.{TurnState}
 use Rattle.mk_cycle.proofs.giving.give_all_back.Goals as goal
@@ -51,3 +52,6 @@ returns-clause-promised g c =
     c.release_unmarked.ensures.releases.call.pass
     (frees_then x.open_gates-turn.ensures.frees.frees x.settle_pages-settled.ensures.frees).does
     c.release_unmarked.ensures.promised)
+
+pub hold_gates-requires-clause-ready : goal.hold_gates-requires-clause-ready
+hold_gates-requires-clause-ready g c = ready_of c.args.turn.in_order c.requires.free
