@@ -53,7 +53,8 @@ fn run_cycle<E: Engine, R: Threads + Wait + Sync>(
     }
 }
 
-/// The same. What it hands over and gets back has its room here, so that a free that isn't due doesn't clear it.
+/// Runs a cycle that is due. What it hands over and gets back has its room here: a free that isn't due pays nothing
+/// for it.
 #[inline(always)]
 fn run_apart<E: Engine, R: Threads + Wait + Sync>(
     rt: &R,

@@ -77,7 +77,7 @@ fn mark_pointed(
     mark_white(table, stop, noted.cell).then_some(noted)
 }
 
-/// The same, for any value. Most are no addresses of the heap, and are passed over.
+/// Marks what a value points into, and notes it. Most values are no addresses of the heap, and are passed over.
 #[inline(always)]
 pub(crate) fn mark_value(
     table: Table,
@@ -119,9 +119,8 @@ pub(crate) fn mark_and_note(
     noted
 }
 
-/// Marks what the hand points into, and puts what is noted of it into the list. It isn't inlined: it is for values that
-/// seldom are addresses of the heap. The table comes after the list, so that a shift takes the register of the number
-/// of pages, and not that of the list.
+/// Marks what the hand points into, and puts what is noted of it into the list. It is for values that seldom are
+/// addresses of the heap.
 #[inline(never)]
 fn mark_apart(stop: &mut Stopped, work: &mut Worklist, table: Table, value: u64)
     requires may { MayTrace table.words.now stop.old.pass }
@@ -133,7 +132,8 @@ fn mark_apart(stop: &mut Stopped, work: &mut Worklist, table: Table, value: u64)
     work.extend(noted);
 }
 
-/// The same, where most values are before the heap, as null is: they are passed over.
+/// Marks what a value points into, and puts what is noted of it into the list. Most values lie before the heap, as null
+/// does, and are passed over.
 #[inline(always)]
 pub(crate) fn mark_address(table: Table, stop: &mut Stopped, work: &mut Worklist, value: u64)
     requires may { MayTrace table.words.now stop.old.pass }

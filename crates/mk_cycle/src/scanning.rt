@@ -165,8 +165,8 @@ fn scan_near(table: Table, stop: &mut Stopped, work: &mut Worklist, gray: Noted)
     scan_from(table, stop, work, gray, 0, first, gray.words - first);
 }
 
-/// The same for any cell of at least eight words, a page of it after the other. It isn't inlined, since few cells
-/// stand on several pages.
+/// Looks at each word of a gray cell of at least eight words, one page of it after the other, and marks what it points
+/// into.
 #[inline(never)]
 fn scan_groups(table: Table, stop: &mut Stopped, work: &mut Worklist, gray: Noted)
     requires may { MayTrace table.words.now stop.old.pass }

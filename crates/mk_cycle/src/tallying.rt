@@ -22,7 +22,7 @@ fn look(turn: &mut Turn, words: &Words, x: Word) -> u64
     turn_steps::look(turn, words, x)
 }
 
-/// Stores a tally.
+/// Stores a tally: words for `Held` and `Fresh`, and how often it came for the others.
 #[tactic(auto, using(crate::proofs::Allowed::tally_allowed))]
 fn set(turn: &mut Turn, words: &Words, n: Tally, v: u64)
     requires one_table { turn.old.pass.table ≡ words.now }

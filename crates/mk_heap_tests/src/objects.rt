@@ -114,7 +114,7 @@ fn fill_and_free<E: Engine, R: Threads + Wait + Sync>(
     }
 }
 
-/// The same on a heap of two callers, and its report.
+/// What the calls answer on a heap of two callers, and its report.
 pub(crate) fn fill_a_page<E: Engine, R: Threads + Wait + Sync>(
     rt: &R,
     two: TwoCallers,

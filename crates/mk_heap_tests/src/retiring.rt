@@ -86,7 +86,7 @@ fn retire_nine<R: Threads + Wait + Sync>(
     })
 }
 
-/// The same after 32 objects, if all fit.
+/// What the frees answer after 32 objects, if all fit.
 pub(crate) fn fill_and_retire<E: Engine, R: Threads + Wait + Sync>(
     rt: &R,
     split: Split,

@@ -81,7 +81,8 @@ pub fn run_all<E: Engine + Send, P: Pace + Sync, R: Threads + Wait + Sync>(
     Ok(ran.0)
 }
 
-/// The same, with a last cycle: the host runs it when the scripts are joined, before it announces that all is over.
+/// Runs a program as `run_all` does, with a last cycle: the host runs it when the scripts are joined, before it
+/// announces that all is over.
 /// That engine closed the marks of that cycle.
 pub fn run_with_cycle<E: Engine + Send, P: Pace + Sync, R: Threads + Wait + Sync>(
     rt: &R,

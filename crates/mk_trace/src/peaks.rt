@@ -17,7 +17,7 @@ pub struct Peaks {
     pub held: u64,
     /// The most storage of freed and unreleased allocations.
     pub quarantined: u64,
-    /// The same, of large ones.
+    /// The most storage of freed and unreleased large allocations.
     pub reserved: u64,
     pub cycles: u64,
     /// For each age at which an allocation was released, how many were; the ages ascend. An age is the number of

@@ -9,7 +9,7 @@ use std::marker::Model;
 pub enum TraceEvent {
     /// The slot points to a new object.
     A(u64),
-    /// The same, and word 0 of the new object holds the slot's old pointer.
+    /// The slot points to a new object, whose word 0 holds the slot's old pointer.
     K(u64),
     /// The slot's object is freed.
     F(u64),

@@ -33,7 +33,8 @@ fn wait_for_turn<R: Wait>(rt: &R, words: &Words, home: Pass, op: Option<Op>) -> 
     unreachable!()
 }
 
-/// The same. What it hands over and gets back has its room here, so that who needn't wait doesn't clear it.
+/// Waits for the turn, and takes it. What it hands over and gets back has its room here: a call that needn't wait pays
+/// nothing for it.
 #[inline(always)]
 fn wait_apart<R: Wait>(rt: &R, words: &Words, home: Pass, op: Option<Op>) -> Turn
     requires one_table { home.table ≡ words.now }

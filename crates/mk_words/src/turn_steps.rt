@@ -191,7 +191,7 @@ impl<G: Gates> TurnAt<G> {
         );
     }
 
-    /// Stores a tally.
+    /// Stores a tally: words for `Held` and `Fresh`, and how often it came for the others.
     pub fn tally(&mut self, words: &Words, n: Tally, v: u64)
         requires one_table { self.old.pass.table ≡ words.now }
         requires enabled { IsEnabledTo self.old.pass (step.Tally n v) }

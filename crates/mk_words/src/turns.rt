@@ -131,7 +131,7 @@ impl<G: Gates> TurnAt<G> {
         self.perform_near(words, words.config.pages, page, step, word, by)
     }
 
-    /// The same, in a table of this many pages. A word of the heap is on this page.
+    /// Takes such a step in a table of this many pages. A word of the heap is on this page.
     #[inline(always)]
     pub(crate) fn perform_near(
         &mut self,
