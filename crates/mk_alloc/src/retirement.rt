@@ -9,7 +9,7 @@ ghost use Rattle.mk_alloc.specs.{Looking.is_acting, Placing.IsOutOfStop, Retired
 ghost use Rattle.mk_alloc.specs.Retiring.{IsUnloaded};
 
 use crate::looking::look_at;
-use crate::retiring::{Target, find_cell, is_freed, load_freed, look_at_quarantine, quarantine};
+use crate::targets::{Target, find_cell, is_freed, load_freed, look_at_quarantine, quarantine};
 use crate::unmapping::clear_run;
 use mk_books::due;
 use mk_caller::lower::words::{Turn, Words};

@@ -1,12 +1,12 @@
 -- Gates are held one after the other.
-use Rattle.mk_words.proofs.Below.Laws.Vocabulary.{Bool, List, Step, Word, World, ℕ, and_from, ap, arith, cases_eq}
+use Rattle.mk_words.proofs.Below.Laws.Vocabulary.{Bool, List, Step, World, ℕ, and_from, ap, arith, cases_eq}
 use Rattle.mk_words.proofs.Below.Laws.Vocabulary.{cases_lt, eq-eqb, eqb-true, false, get_or-set_other, get_or-set_same}
 use Rattle.mk_words.proofs.Below.Laws.Vocabulary.{if◌then◌else◌, inl, inr, is_held, is_number_of, length, lt-ltb}
 use Rattle.mk_words.proofs.Below.Laws.Vocabulary.{ne_eqb, not, others_are_held, refl, set_past, slice_index, slice_set}
 use Rattle.mk_words.proofs.Below.Laws.Vocabulary.{sym, true, ◌<◌, ◌==◌, ◌||◌, ◌∙◌, ◌≡◌}
 use Rattle.mk_cycle.proofs.Vocabulary.{Acts, HoldsGates, IsEnabledTo, IsFreeForCycle, IsTurn, PassState, WordsState}
 use Rattle.mk_cycle.proofs.Vocabulary.{does_nothing, does_step, does_then, holds_gates, now_of, world_at}
-use Rattle.mk_cycle.proofs.{Allowed.in_turn_before, Allowed.protocol, BeginSteps.all_from, CleaningSteps.calm_keeps}
+use Rattle.mk_cycle.proofs.{Allowed.protocol, BeginSteps.all_from, CleaningSteps.calm_keeps}
 use Rattle.mk_cycle.proofs.{KeptInParts.free_then, KeptInParts.keeps_at_once, KeptInParts.keeps_then, MayAct.may_act}
 use Rattle.mk_cycle.specs.{Holding.IsHeldOrOwn, TurnKeeps.unchanged}
 
@@ -46,14 +46,6 @@ stays_held gs i j two = elim (cases_eq j i) [
         (ne_eqb (slice_index gs i) 0 (λ z. absurd (omega arith))) ∙ here
   ]
 ]
-
-pub look_holds : {p q : PassState} {j : ℕ} → IsFreeForCycle p → Acts p (Step.Look (Word.Gate j)) q → HoldsGates p q
-look_holds {p} {q} {j} free a = record {
-  does = does_step holds_gates p q (Step.Look (Word.Gate j)) a.makes refl;
-  keeps = calm_keeps p _ q a (in_turn_before a) a.makes.pass.history refl free unchanged refl;
-  held = λ i h. eq-eqb _ 2 (ap (λ (w : World). slice_index w.now.words.gates i) a.world
-      ∙ a.turn.held_gates i (eqb-true _ 2 h));
-}
 
 pub hold_holds : (p q : PassState) (t : IsTurn p) (free : IsFreeForCycle p) (u : IsTurn q) (j : ℕ)
     → Acts p (Step.Hold j) q → HoldsGates p q

@@ -10,7 +10,7 @@ ghost use Rattle.mk_cycle.specs.Freeing.{GivesNothingBack};
 
 use crate::finishing::Released;
 use crate::reading::ReadHeader;
-use crate::turn_steps;
+use crate::turn_steps::look_among;
 use mk_core::{Word, without};
 use mk_words::{Turn, Words};
 
@@ -47,5 +47,5 @@ pub(crate) fn look(turn: &mut Turn, words: &Words, pages: u64, x: Word) -> u64
     ensures frees { GivesNothingBack turn.old.pass turn.new.pass }
     ensures reads { result ≡ named_word (now_of turn.new.pass).words x }
 {
-    turn_steps::look_among(turn, words, pages, x)
+    look_among(turn, words, pages, x)
 }

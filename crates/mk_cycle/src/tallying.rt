@@ -5,7 +5,7 @@ ghost use Rattle.mk_words.specs.States.{now_of};
 ghost use Rattle.mk_cycle.specs.{EngineLaw.{IsFreeForCycle, is_register}, Tallying.{Sets, with_cycle_counted}};
 ghost use Rattle.mk_cycle.specs.{Tallying.with_tally, TurnKeeps.unchanged};
 
-use crate::turn_steps;
+use crate::turn_steps::look_among;
 use mk_core::{Tally, Word};
 use mk_words::{Turn, Words};
 
@@ -19,7 +19,7 @@ fn look(turn: &mut Turn, words: &Words, x: Word) -> u64
     ensures sets { Sets unchanged turn.old.pass turn.new.pass }
     ensures reads { result ≡ named_word (now_of turn.new.pass).words x }
 {
-    turn_steps::look(turn, words, x)
+    look_among(turn, words, words.pages(), x)
 }
 
 /// Stores a tally: words for `Held` and `Fresh`, and how often it came for the others.

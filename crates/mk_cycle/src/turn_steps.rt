@@ -21,16 +21,3 @@ pub(crate) fn look_among(turn: &mut Turn, words: &Words, pages: u64, x: Word) ->
 {
     turn.look_among(words, pages, x)
 }
-
-/// Looks at a word that is no register.
-#[inline(always)]
-pub(crate) fn look(turn: &mut Turn, words: &Words, x: Word) -> u64
-    requires one_table { turn.old.pass.table ≡ words.now }
-    requires free { IsFreeForCycle turn.old.pass }
-    requires in_range { is_word words.now.config x ≡ true }
-    requires no_register { is_register x ≡ false }
-    ensures acts { Acts turn.old.pass (step.Look x) turn.new.pass }
-    ensures reads { result ≡ named_word (now_of turn.new.pass).words x }
-{
-    look_among(turn, words, words.pages(), x)
-}

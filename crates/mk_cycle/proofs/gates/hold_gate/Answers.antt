@@ -24,13 +24,14 @@ returns-then-look-eq-HELD-clause-steps g c = looked g (goal.at.returns-then-look
 
 pub returns-then-look-eq-HELD-clause-held : goal.returns-then-look-eq-HELD-clause-held
 returns-then-look-eq-HELD-clause-held g c =
-    held_now c.look.new.self.pass c.args.caller (found g (goal.at.returns-then-look-eq-HELD-clause-held g c).After-look)
-    ∙ eq-eqb _ 2 c.if-look-eq-HELD.true
+    let x = (goal.at.returns-then-look-eq-HELD-clause-held g c).After-look in
+    held_now c.look.new.self.pass c.args.caller (found g x) ∙ eq-eqb _ 2 c.if-look-eq-HELD.true
 
 pub returns-then-look-eq-HELD-clause-was : goal.returns-then-look-eq-HELD-clause-was
 returns-then-look-eq-HELD-clause-was g c =
     let x = (goal.at.returns-then-look-eq-HELD-clause-was g c).After-look in
-    found_held (gate_within c.args.turn.now c.requires) c.look.ensures.acts (found g x) ∙ eq-eqb _ 2 c.if-look-eq-HELD.true
+    found_held (gate_within c.args.turn.now c.requires) c.look.ensures.acts (found g x)
+    ∙ eq-eqb _ 2 c.if-look-eq-HELD.true
 
 pub wait_and_hold-requires-clause-may : goal.wait_and_hold-requires-clause-may
 wait_and_hold-requires-clause-may g c =
@@ -38,8 +39,8 @@ wait_and_hold-requires-clause-may g c =
 
 pub wait_and_hold-requires-clause-not_held : goal.wait_and_hold-requires-clause-not_held
 wait_and_hold-requires-clause-not_held g c =
-    held_now c.look.new.self.pass c.args.caller (found g (goal.at.wait_and_hold-requires-clause-not_held g c).After-look)
-    ∙ ne_eqb _ 2 c.if-look-eq-HELD.false
+    let x = (goal.at.wait_and_hold-requires-clause-not_held g c).After-look in
+    held_now c.look.new.self.pass c.args.caller (found g x) ∙ ne_eqb _ 2 c.if-look-eq-HELD.false
 
 pub returns-clause-steps : goal.returns-clause-steps
 returns-clause-steps g c =
@@ -48,4 +49,5 @@ returns-clause-steps g c =
 pub returns-clause-was : goal.returns-clause-was
 returns-clause-was g c =
     let x = (goal.at.returns-clause-was g c).After-look in
-    found_held (gate_within c.args.turn.now c.requires) c.look.ensures.acts (found g x) ∙ ne_eqb _ 2 c.if-look-eq-HELD.false
+    found_held (gate_within c.args.turn.now c.requires) c.look.ensures.acts (found g x)
+    ∙ ne_eqb _ 2 c.if-look-eq-HELD.false

@@ -1,7 +1,7 @@
 use Rattle.mk_caller.proofs.Below.Laws.Vocabulary.{Step, Word, refl}
 use Rattle.mk_alloc.proofs.{ObjectVocabulary.{PassState, call_of}, Looks.{acting_caller, acting_now, found_quarantine}}
 use Rattle.mk_alloc.proofs.{FreeSteps.{see_keeps, see_reaches}, LoadedFrees.{free_step_admits, loaded_undecided}}
-use Rattle.mk_alloc.proofs.retiring.look_at_quarantine.Goals as goal
+use Rattle.mk_alloc.proofs.targets.look_at_quarantine.Goals as goal
 use Rattle.mk_alloc.proofs.MayAct.{free_is_acting, may_look_quarantine}
 
 pub look-requires-clause-enabled : goal.look-requires-clause-enabled

@@ -2,8 +2,8 @@ use Rattle.mk_caller.proofs.Below.Laws.Vocabulary.{Cell, Flight, Option, Some, a
 use Rattle.mk_caller.proofs.Below.Laws.Vocabulary.{◌<◌, ◌∙◌, ◌≡◌}
 use Rattle.mk_alloc.proofs.{ObjectVocabulary.{PassState, now_of}, FreedObjects.{IsPointed, pointed_now}}
 use Rattle.mk_alloc.proofs.{FreedObjects.page_pointed, LoadedFrees.loaded_undecided}
-use Rattle.mk_alloc.proofs.retiring.find_cell.Goals as goal
-use Rattle.mk_alloc.proofs.retiring.find_cell.Goals.{After-lookup, Start}
+use Rattle.mk_alloc.proofs.targets.find_cell.Goals as goal
+use Rattle.mk_alloc.proofs.targets.find_cell.Goals.{After-lookup, Start}
 
 -- what the value points into
 pointed : (c : Start) → IsPointed c.args.turn.now.pass c.args.value

@@ -1,5 +1,5 @@
 use Rattle.mk_alloc.proofs.LoadedFrees.{load_admits, load_keeps, load_loads, load_may, load_meets, load_null}
-use Rattle.mk_alloc.proofs.retiring.load_freed.Goals as goal
+use Rattle.mk_alloc.proofs.targets.load_freed.Goals as goal
 use Rattle.mk_alloc.proofs.LoadedFrees.{load_reaches}
 
 pub reg_load-requires-clause-enabled : goal.reg_load-requires-clause-enabled

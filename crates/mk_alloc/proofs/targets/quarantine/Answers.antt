@@ -1,7 +1,7 @@
 use Rattle.mk_caller.proofs.Below.Laws.Vocabulary.{arith}
 use Rattle.mk_alloc.proofs.FreeSteps.{quarantine_fits, quarantine_may, quarantine_once, quarantine_reaches}
 use Rattle.mk_alloc.proofs.{LoadedFrees.{free_step_admits, loaded_undecided}, Looks.acting_caller}
-use Rattle.mk_alloc.proofs.retiring.quarantine.Goals as goal
+use Rattle.mk_alloc.proofs.targets.quarantine.Goals as goal
 use Rattle.mk_alloc.proofs.MayAct.{free_is_acting}
 
 pub quar-requires-clause-enabled : goal.quar-requires-clause-enabled

@@ -1,4 +1,4 @@
-//! Freeing the object of a Free.
+//! The target of a Free: its register is loaded, its cell found, and the cell quarantined.
 ghost use Rattle.std.specs.Prelude.{◌≡◌, ◌<◌, ◌==◌, ◌%◌, ◌||◌, not, true, false, Some};
 ghost use Rattle.mk_never.specs.declared.values.Value.TheVariants.{Null};
 ghost use Rattle.mk_core.specs.{NewPlaces.target, Bits.has_bit, Cells.{header_in, heads_run, is_freed}};
