@@ -49,7 +49,7 @@ on_object scope (item.Free pointer) = Some (Free (pointer_place scope pointer))
 on_object scope (item.Getp loaded pointer index) =
     Some (GetPtr (pointer_place scope loaded) (pointer_place scope pointer) index)
 on_object scope (item.Setp pointer index stored) =
-    Some (SetPtr (pointer_place scope pointer) (pointer_place scope stored) index)
+    Some (SetPtr (pointer_place scope pointer) index (pointer_place scope stored))
 on_object scope other = None
 
 -- an instruction that copies a pointer
@@ -139,7 +139,7 @@ op_asked numbers (Print number) = None
 op_asked numbers (New d ty) = Some (op.New d ty false)
 op_asked numbers (Free p) = Some (op.Free p)
 op_asked numbers (GetPtr d q i) = Some (op.GetPtr d q i)
-op_asked numbers (SetPtr q p i) = Some (op.SetPtr q i p)
+op_asked numbers (SetPtr q i p) = Some (op.SetPtr q i p)
 op_asked numbers (Lea d q i) = Some (op.Lea d q i)
 op_asked numbers (Move d q) = Some (op.Move d q)
 op_asked numbers (Clear d) = Some (op.Clear d)
@@ -170,7 +170,7 @@ after_line (Print number) kept = with_text kept (decimal (slice_index kept.numbe
 after_line (New d ty) kept = kept
 after_line (Free p) kept = kept
 after_line (GetPtr d q i) kept = kept
-after_line (SetPtr q p i) kept = kept
+after_line (SetPtr q i p) kept = kept
 after_line (Lea d q i) kept = kept
 after_line (Move d q) kept = kept
 after_line (Clear d) kept = kept
@@ -238,7 +238,7 @@ after_answer (Print number) a kept = kept
 after_answer (New d ty) a kept = kept
 after_answer (Free p) a kept = kept
 after_answer (GetPtr d q i) a kept = kept
-after_answer (SetPtr q p i) a kept = kept
+after_answer (SetPtr q i p) a kept = kept
 after_answer (Lea d q i) a kept = kept
 after_answer (Move d q) a kept = kept
 after_answer (Clear d) a kept = kept

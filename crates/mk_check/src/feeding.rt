@@ -103,7 +103,7 @@ impl Feed {
         }
     }
 
-    /// The same, where mostly nothing is printed, and no memory is taken.
+    /// Takes an answer of a kind at which mostly nothing is printed, and no memory is taken.
     #[inline(always)]
     fn answer_at_once(&mut self, alloc: Global, answer: Answer) -> Result<(), NoMemory>
         requires { IsWaiting self.old }
@@ -117,8 +117,8 @@ impl Feed {
         self.answer_ahead(alloc, answer)
     }
 
-    /// The same where the next operation comes before anything is printed, with at most one block left. Returns whether
-    /// it does. No memory is taken.
+    /// Takes an answer and runs on, where the next operation comes before anything is printed, with at most one block
+    /// left. Returns whether it does. No memory is taken.
     #[inline(always)]
     fn answer_silently(&mut self, answer: Answer) -> bool
         requires { IsWaiting self.old }
@@ -130,7 +130,7 @@ impl Feed {
         self.running.answer_silently(&self.tree, sequels, answer)
     }
 
-    /// The same, run on a copy first, so that no memory leaves the script as it was.
+    /// Takes an answer and runs on, on a copy first, so that no memory leaves the script as it was.
     #[inline(never)]
     fn answer_ahead(&mut self, alloc: Global, answer: Answer) -> Result<(), NoMemory>
         requires { IsWaiting self.old }

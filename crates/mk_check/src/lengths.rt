@@ -4,7 +4,7 @@ ghost use Rattle.mk_check.specs.{Blocks.{blocks_from, before_next_script}, Lengt
 ghost use Rattle.mk_script.specs.Scopes as scopes;
 
 use mk_never::NoMemory;
-use mk_script::Item;
+use mk_script::{Item, is_declaration};
 use std::alloc::Global;
 use std::marker::Model;
 
@@ -13,21 +13,6 @@ pub fn is_script(item: &Item) -> bool
     ensures { result ≡ scopes.is_script item.now }
 {
     matches!(item, Item::Script { .. })
-}
-
-/// Whether the item is a line of a script, after its declarations.
-fn is_instruction(item: &Item) -> bool
-    ensures { result ≡ scopes.is_instruction item.now }
-{
-    !matches!(
-        item,
-        Item::Heap { .. }
-            | Item::TypeLine { .. }
-            | Item::Global { .. }
-            | Item::Script { .. }
-            | Item::Ptr { .. }
-            | Item::Num { .. }
-    )
 }
 
 /// Counts of an open part of a script: of its lines, and of the branch after its `else`.
@@ -123,7 +108,7 @@ impl OpenParts {
             Item::Else => self.turn(),
             Item::End => return self.open(),
             _ => {
-                if is_instruction(item) {
+                if !is_declaration(item) {
                     self.add(1);
                 }
             }

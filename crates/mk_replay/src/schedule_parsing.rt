@@ -34,7 +34,7 @@ pub fn parse_replay(alloc: Global, bytes: &[u8]) -> Result<(Program, Schedule), 
     }
 }
 
-/// Reads the script part and the schedule of a text whose schedule line stands at this place of its lines.
+/// The program and the schedule of a text whose schedule line stands at this place of its lines.
 fn read_parts(
     alloc: Global,
     bytes: &[u8],

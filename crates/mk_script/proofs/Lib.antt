@@ -23,3 +23,4 @@ mod PutName
 mod Reading
 mod ScopeAfter
 pub mod Vocabulary
+mod WordsBySort

@@ -1,8 +1,9 @@
 -- What the lines before a line say: what is declared, which blocks are open.
-use Rattle.std.specs.Prelude.{ℕ, Bool, if◌then◌else◌, fold, true, false, List, [], ◌∷◌, ◌++◌, Option, Some, None}
+use Rattle.std.specs.Prelude.{ℕ, Bool, if◌then◌else◌, fold, true, false, not, List, [], ◌∷◌, ◌++◌, Option, Some, None}
 use Rattle.std.specs.List.{filter_map}
-use Rattle.mk_script.specs.{declared.items.Item.Item, declared.items.Item.TheVariants.{Heap, TypeLine, Global, Script}}
+use Rattle.mk_script.specs.{declared.items.Item.Item, declared.items.Item.TheVariants.{TypeLine, Global, Script}}
 use Rattle.mk_script.specs.{declared.items.Item.TheVariants.{Ptr, Num, Repeat, If, Else, End}, declared.sorts.Sort.Sort}
+use Rattle.mk_script.specs.Sorts.{is_declaration}
 pub use Rattle.mk_script.specs.declared.scope.OpenBlock.{OpenBlock}
 pub use Rattle.mk_script.specs.declared.scope.OpenBlock.TheVariants.{InRepeat, InFirst, InSecond}
 use Rattle.mk_script.specs.declared.sorts.Sort.TheVariants as sort
@@ -41,13 +42,7 @@ is_script _ = false
 
 -- whether it is a line of a script, after its declarations
 abbrev pub is_instruction : Item → Bool
-is_instruction (Heap pages resident) = false
-is_instruction (TypeLine name words) = false
-is_instruction (Global name ty) = false
-is_instruction (Script name) = false
-is_instruction (Ptr name at) = false
-is_instruction (Num name) = false
-is_instruction _ = true
+is_instruction item = not (is_declaration item)
 
 -- the lines of the last script, after its first
 abbrev pub this_script : List Item → List Item

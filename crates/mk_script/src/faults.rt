@@ -85,7 +85,7 @@ impl TextStop {
 }
 
 impl LineStop {
-    /// The same, of a text whose line of this number it is.
+    /// Why a text is refused whose line of this number is.
     pub fn at(self, line: u64) -> TextStop
         ensures { result ≡ stop_at line self }
     {

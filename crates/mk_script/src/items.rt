@@ -35,14 +35,14 @@ impl Model for TypeWords {
 impl TypeWords {
     ghost use Rattle.std.specs.Prelude.{◌≡◌};
 
-    /// The same words.
+    /// A type of these words.
     pub fn from_vec(words: Vec<TypeWord>) -> TypeWords
         ensures { result ≡ words.items }
     {
         TypeWords { words }
     }
 
-    /// The same words.
+    /// Takes the words out.
     pub fn into_vec(self) -> Vec<TypeWord>
         ensures { result.items ≡ self }
     {

@@ -30,5 +30,5 @@ pub use numbers::parse_number;
 pub use parsing::parse;
 pub use printing::print;
 pub use program::Program;
-pub use sorts::{Sort, declared_name};
+pub use sorts::{Sort, declared_name, is_declaration};
 pub use splitting::{replace_words, split_lines, split_words};

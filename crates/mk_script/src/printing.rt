@@ -141,7 +141,7 @@ impl Printer {
         }
     }
 
-    /// The same of a line that reads or writes a number after a pointer.
+    /// Appends the operands of a line that reads or writes a number after a pointer, and of another line nothing.
     fn number_access(self, item: &Item) -> Result<Printer, NoMemory>
         ensures { IfOk result (λ printer. printer ≡ self ++ operands_of_sort is_number_access item.now) }
     {
@@ -160,7 +160,7 @@ impl Printer {
         }
     }
 
-    /// The same of a line that reads or writes a pointer there.
+    /// Appends the operands of a line that reads or writes a pointer after a pointer, and of another line nothing.
     fn pointer_access(self, item: &Item) -> Result<Printer, NoMemory>
         ensures { IfOk result (λ printer. printer ≡ self ++ operands_of_sort is_pointer_access item.now) }
     {
@@ -191,7 +191,8 @@ impl Printer {
         }
     }
 
-    /// The same of another line that changes a pointer register, a global or the heap.
+    /// Appends the operands of a line with pointers that reads and writes nothing after them, and of another line
+    /// nothing.
     fn pointer_line(self, item: &Item) -> Result<Printer, NoMemory>
         ensures { IfOk result (λ printer. printer ≡ self ++ operands_of_sort is_pointer_line item.now) }
     {
@@ -210,7 +211,7 @@ impl Printer {
         }
     }
 
-    /// The same of another line that has a number or reads registers.
+    /// Appends the operands of another line that has a number or reads registers, and of these lines nothing.
     fn number_line(self, item: &Item) -> Result<Printer, NoMemory>
         ensures { IfOk result (λ printer. printer ≡ self ++ operands_of_sort is_number_line item.now) }
     {
@@ -239,40 +240,16 @@ impl Printer {
         }
     }
 
-    /// Appends the words of a line.
+    /// Appends the words of a line: the first, and its operands, which a line has by one sort alone.
     fn words(self, item: &Item) -> Result<Printer, NoMemory>
         ensures { IfOk result (λ printer. printer ≡ self ++ joined_words (words_of_item item.now)) }
     {
-        let printer = self.piece(first_word(item))?;
-        match item {
-            Item::Heap { .. }
-            | Item::TypeLine { .. }
-            | Item::Global { .. }
-            | Item::Script { .. }
-            | Item::Ptr { .. }
-            | Item::Num { .. } => printer.declaration(item),
-            Item::Getn { .. } | Item::Setn { .. } => printer.number_access(item),
-            Item::Getp { .. } | Item::Setp { .. } | Item::Casp { .. } => {
-                printer.pointer_access(item)
-            }
-            Item::New { .. }
-            | Item::Free { .. }
-            | Item::Lea { .. }
-            | Item::Move { .. }
-            | Item::Clear { .. }
-            | Item::Loadg { .. }
-            | Item::Storeg { .. } => printer.pointer_line(item),
-            Item::Same { .. }
-            | Item::Isnull { .. }
-            | Item::Show { .. }
-            | Item::Const { .. }
-            | Item::Add { .. }
-            | Item::Sub { .. }
-            | Item::Print { .. }
-            | Item::Repeat { .. }
-            | Item::If { .. } => printer.number_line(item),
-            Item::Else | Item::End => Ok(printer),
-        }
+        self.piece(first_word(item))?
+            .declaration(item)?
+            .number_access(item)?
+            .pointer_access(item)?
+            .pointer_line(item)?
+            .number_line(item)
     }
 
     /// Appends a newline.

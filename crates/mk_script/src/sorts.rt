@@ -1,6 +1,6 @@
-//! What the names that lines declare stand for.
+//! Lines that declare, and what the names that they declare stand for.
 ghost use Rattle.std.specs.{Prelude.{◌≡◌}, Option.option_copied};
-ghost use Rattle.mk_script.specs.Scopes.{declared_name};
+ghost use Rattle.mk_script.specs.{Scopes.declared_name, Sorts.is_declaration};
 
 use crate::items::Item;
 use crate::names::Name;
@@ -27,4 +27,19 @@ pub fn declared_name(sort: Sort, item: &Item) -> Option<&Name>
         | (Sort::Number, Item::Num { name }) => Some(name),
         _ => None,
     }
+}
+
+/// Whether the line declares something. Each other line is an instruction of a script.
+pub fn is_declaration(item: &Item) -> bool
+    ensures { result ≡ is_declaration item.now }
+{
+    matches!(
+        item,
+        Item::Heap { .. }
+            | Item::TypeLine { .. }
+            | Item::Global { .. }
+            | Item::Script { .. }
+            | Item::Ptr { .. }
+            | Item::Num { .. }
+    )
 }

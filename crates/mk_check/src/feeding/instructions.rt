@@ -83,8 +83,8 @@ pub enum Instruction {
     },
     SetPtr {
         q: u8,
-        p: u8,
         i: u64,
+        p: u8,
     },
     Lea {
         d: u8,

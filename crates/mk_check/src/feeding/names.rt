@@ -128,8 +128,8 @@ impl<'a> Names<'a> {
                 stored,
             } => Some(Instruction::SetPtr {
                 q: self.pointer(pointer),
-                p: self.pointer(stored),
                 i: *index,
+                p: self.pointer(stored),
             }),
             _ => None,
         }

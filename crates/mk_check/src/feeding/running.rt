@@ -148,7 +148,7 @@ impl Running {
             Instruction::New { d, ty } => Some(Op::New { d, ty, full: false }),
             Instruction::Free { p } => Some(Op::Free { p }),
             Instruction::GetPtr { d, q, i } => Some(Op::GetPtr { d, q, i }),
-            Instruction::SetPtr { q, p, i } => Some(Op::SetPtr { q, i, p }),
+            Instruction::SetPtr { q, i, p } => Some(Op::SetPtr { q, i, p }),
             Instruction::Lea { d, q, i } => Some(Op::Lea { d, q, i }),
             Instruction::Move { d, q } => Some(Op::Move { d, q }),
             Instruction::Clear { d } => Some(Op::Clear { d }),

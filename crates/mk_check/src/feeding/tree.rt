@@ -293,7 +293,7 @@ impl Tree {
         }
     }
 
-    /// The same of a node of the tree.
+    /// Whether a script at this node comes to an operation before it prints, and before a block ends.
     #[inline(always)]
     pub fn asks_first(&self, at: usize) -> bool
         requires { at < length self.now }

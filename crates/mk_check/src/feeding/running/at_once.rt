@@ -9,8 +9,8 @@ use crate::feeding::tree::{Frame, Node, Sequel, Sequels, Tree};
 use mk_core::Answer;
 
 impl Running {
-    /// Leaves the innermost block for this node, if it asks for an operation. Returns whether that is so. It isn't
-    /// inlined: most rounds aren't the last.
+    /// Leaves the innermost block for this node, if it asks for an operation. Returns whether that is so. It is seldom
+    /// called: most rounds aren't the last.
     #[inline(never)]
     fn close_to_op(&mut self, tree: &Tree, next: usize) -> bool
         requires { next < length tree.now }
@@ -94,7 +94,8 @@ impl Running {
         true
     }
 
-    /// The same with an answer that no register keeps, and also where a `repeat` comes next whose rounds begin so.
+    /// Goes on after an answer that no register keeps, where an operation, the end of a block, or a `repeat` whose
+    /// rounds begin with an operation comes next. Returns whether that is so.
     #[inline(always)]
     fn go_on_at_once(&mut self, tree: &Tree, sequels: &Sequels, answer: Answer) -> bool
         requires tree { IsTree tree.now }
@@ -116,7 +117,8 @@ impl Running {
         true
     }
 
-    /// The same where other lines come before the operation. It isn't inlined: mostly none do.
+    /// Takes an answer and goes on to the next operation, also where other lines come before it. Returns whether it
+    /// does. It is seldom called: mostly none do.
     #[inline(never)]
     fn go_on_further(&mut self, tree: &Tree, answer: Answer) -> bool
         requires may { MayTake tree.now answer self.old }
