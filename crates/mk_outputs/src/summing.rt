@@ -7,7 +7,7 @@ ghost use Rattle.mk_outputs.specs.{Summary.{summary, total_line}, SummedTexts.{l
 
 use crate::running::outcome_of;
 use mk_check::Text;
-use crate::commands::{Options, Request};
+use crate::commands::{Marking, Options, Request};
 use crate::generating::generate;
 use mk_never::NoMemory;
 use mk_trace::lower::runs::Pace;
@@ -28,8 +28,7 @@ pub fn summed<P: Pace + Sync, R: Threads + Wait + Sync>(
 {
     let program = generate(alloc, request.start, request.count)?;
     let options = Options {
-        markers: request.markers,
-        sweep: false,
+        marking: Marking::with_markers(request.markers),
         why: false,
     };
     let (outcome, _) = outcome_of(rt, alloc, &program, options, pace)?;
