@@ -4,8 +4,8 @@ ghost use Rattle.mk_clients.specs.Clients.{IsCallers, PointsWell, StaysAdmitted}
 ghost use Rattle.mk_never.specs.declared.operations.Op.TheVariants as op;
 
 use mk_geom::{HEAP_START, PAGE_WORDS, WORD_BYTES, is_unmapped};
-use mk_never::Op;
 use mk_heap::lower::words::{Held, Pass, Words};
+use mk_never::Op;
 
 /// `SetPtr`, through a pointer that points well.
 pub fn set_ptr(words: &Words, pass: &mut Pass, q: u8, i: u64, p: u8) -> Result<(), Held>

@@ -3,8 +3,8 @@ ghost use Rattle.std.specs.Prelude.{◌≡◌, ◌<◌};
 ghost use Rattle.mk_clients.specs.Clients.{IsCallers, StaysAdmitted};
 ghost use Rattle.mk_never.specs.declared.operations.Op.TheVariants as op;
 
-use mk_never::Op;
 use mk_heap::lower::words::{Held, Pass, Words};
+use mk_never::Op;
 
 /// `Clear`.
 pub fn clear(words: &Words, pass: &mut Pass, d: u8) -> Result<(), Held>

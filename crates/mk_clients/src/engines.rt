@@ -5,8 +5,8 @@ ghost use Rattle.mk_heap.specs.{Below.Cycles.BeginCycle.BeginsCycle, Below.Cycle
 ghost use Rattle.mk_heap.specs.{Below.Cycles.EngineLaw.{IsFreeForCycle, IsAtPhase}, Below.Cycles.Roots.MarksRoots};
 
 use mk_heap::lower::cycles::{Engine, MostlyEngine, StopEngine, begin_cycle};
-use mk_never::NoMemory;
 use mk_heap::lower::words::{Stopped, Turn, Words};
+use mk_never::NoMemory;
 use std::alloc::Global;
 use std::sync::Wait;
 use std::thread::Threads;

@@ -4,10 +4,10 @@ ghost use Rattle.mk_core.specs.Config.{IsWithinLimits};
 ghost use Rattle.mk_heap.specs.Below.Words.Seats.{has_over};
 ghost use Rattle.mk_heap.specs.{Clients.IsPassOf, Reports.{history_of, config_of, IsWhole, HasCounts}};
 
-use mk_heap::{Heap, Report};
-use mk_heap::lower::callers::Caller;
 use mk_core::Config;
+use mk_heap::lower::callers::Caller;
 use mk_heap::lower::cycles::Engine;
+use mk_heap::{Heap, Report};
 use mk_never::NoMemory;
 use std::alloc::Global;
 use std::sync::Wait;

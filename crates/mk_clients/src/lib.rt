@@ -17,8 +17,8 @@ mod markers;
 mod marking;
 mod moves;
 mod numbers;
-
 mod outcomes;
+mod runs;
 mod side_by_side;
 mod stops;
 mod sweeps;
@@ -27,8 +27,11 @@ mod turns;
 pub use callers_at_once::clear_at_once;
 pub use laws::owned_numbers_stay;
 pub use making::make_number;
-pub use moves::{first_register_is_null, moves_through_global, moves_through_memory, moves_through_registers};
-pub use moves::takes_out_of_global;
+pub use moves::{
+    first_register_is_null, moves_through_global, moves_through_memory, moves_through_registers,
+    takes_out_of_global,
+};
 pub use numbers::{load, number_in_new_object, store, store_and_load};
+pub use outcomes::{Loaded, Unfinished};
+pub use runs::{TwoNumbers, two_numbers};
 pub use side_by_side::numbers_at_once;
-pub use outcomes::{Unfinished, Unmade};

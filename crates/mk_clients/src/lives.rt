@@ -4,8 +4,8 @@ ghost use Rattle.mk_core.specs.Config.{IsWithinLimits};
 ghost use Rattle.mk_heap.specs.Below.Words.Finals.{config_of};
 
 use mk_core::{Config, Seat};
-use mk_never::NoMemory;
 use mk_heap::lower::words::{Final, Words};
+use mk_never::NoMemory;
 use std::alloc::Global;
 
 /// A table with a caller and a marker, which do nothing.

@@ -5,8 +5,8 @@ ghost use Rattle.mk_core.specs.declared.events.Seat.TheVariants.{Caller as OfCal
 ghost use Rattle.mk_heap.specs.{Below.Words.Seats.Has, Below.Callers.States.Admits};
 ghost use Rattle.mk_clients.specs.Setters.{IsOnlySetter, IsOnlyStore, TakesOut};
 
-use mk_heap::lower::callers::{Caller, Refusal};
 use mk_core::Seat;
+use mk_heap::lower::callers::{Caller, Refusal};
 use mk_heap::lower::words::{Held, Pass, Words};
 
 /// A pointer that is moved to another register is the same there.
@@ -66,5 +66,7 @@ pub fn first_register_is_null(words: &Words, host: &mut Pass) -> Result<bool, He
     words.is_within_limits();
     let pass = Words::split(words, host, Seat::Caller(0));
     let mut caller = Caller::new(words, pass);
-    caller.is_null(0)
+    let null = caller.is_null(0);
+    Words::join(words, host, caller.finish());
+    null
 }

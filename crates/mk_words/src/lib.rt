@@ -32,8 +32,8 @@ mod turn_steps;
 mod turns;
 mod words;
 
-pub use call_steps::Held;
 pub use adding_up::{what_is_done_adds_up, what_sweeps_nothing_adds_up};
+pub use call_steps::Held;
 pub use finals::Final;
 pub use gates::{AllHeld, AnyGates, Gates};
 pub use laws::{calls_go_on, steps_stand_behind_others, the_end_is_behind_an_over};
@@ -42,6 +42,6 @@ pub use passes::Pass;
 pub use patience::Patience;
 pub use pointing::cell_pointed;
 pub use stop_steps::InCall;
-pub use turns::{Busy, Stopped, Turn, TurnAt};
 pub use taking::{take_turn, taking_sweeps_nothing};
+pub use turns::{Busy, Stopped, Turn, TurnAt};
 pub use words::Words;
