@@ -18,8 +18,8 @@ use mk_core::Seat;
 use mk_words::{Held, Pass, Words};
 use std::marker::Model;
 
-/// One script's end of the heap: its pass, which may be lent, and the words.
-#[derive(Drop)]
+/// One script's end of the heap: its pass, which may be lent, and the words. It has no `Drop`, so it can't be
+/// forgotten: it ends with `finish`.
 pub struct Caller<'h> {
     table: CallerTable<'h>,
     pass: Option<Pass>,
@@ -111,7 +111,7 @@ impl<'h> Caller<'h> {
         ensures pass { result ≡ self.entry.pass }
         ensures idle { IsIdleCaller self.entry.pass }
     {
-        let Caller { pass, .. } = self;
+        let Caller { table: _, pass } = self;
         at_home!(pass, pass => pass)
     }
 

@@ -1,18 +1,15 @@
 -- An object of one number: what makes it, and what is known where that, or a later call, is given up.
-use Rattle.std.specs.Prelude.{◌≡◌, ℕ, ◌+◌, ◌<◌, true, false, List, [], ◌∷◌, Some}
-use Rattle.mk_never.specs.{declared.operations.Op.Op, Types.kinds_of}
+use Rattle.std.specs.Prelude.{◌≡◌, ℕ, Bool, ◌<◌, false, List, [], ◌∷◌}
+use Rattle.mk_never.specs.{Types.kinds_of}
 use Rattle.mk_core.specs.Decided.{Decided}
-use Rattle.mk_heap.specs.{Below.Words.States.{PassState, TurnState}, Below.Words.Steps.Finds}
-use Rattle.mk_heap.specs.Below.Callers.States.{CallerState, IsIdleCaller, caller_of_pass}
-use Rattle.mk_heap.specs.Below.Objects.Placing.{FitsNowhere}
+use Rattle.mk_heap.specs.{Below.Words.States.PassState, Below.Objects.TurnCalls.IsAnsweredFull}
+use Rattle.mk_heap.specs.Below.Callers.States.{IsIdleCaller, caller_of_pass}
 use Rattle.mk_clients.specs.declared.outcomes.Unfinished.{Unfinished}
 use Rattle.mk_clients.specs.declared.outcomes.Unfinished.TheVariants as unfinished
-use Rattle.mk_clients.specs.{declared.outcomes.Unmade.Unmade, declared.outcomes.Unmade.TheVariants.{NoRoom, TurnTaken}}
 use Rattle.mk_clients.specs.Owned.{OwnsNumber}
 use Rattle.mk_never.specs.declared.operations.Op.TheVariants as op
 use Rattle.mk_never.specs.declared.types.Kind.TheVariants.{Num as Number}
 use Rattle.mk_core.specs.declared.events.Answer.TheVariants as answer
-use Rattle.mk_core.specs.declared.events.Step.TheVariants as step
 
 -- The pass is that of a caller. It has no other seat, and the type is that of one number.
 pub record SuitsNumber (p : PassState) (d ty : ℕ) : Type 0 where
@@ -21,26 +18,21 @@ pub record SuitsNumber (p : PassState) (d ty : ℕ) : Type 0 where
   pub register : d < 8
   pub number : kinds_of p.table.config.types ty ≡ Number ∷ []
 
--- Its caller is at rest.
-pub record MayMakeNumber (p : PassState) (d ty : ℕ) : Type 0 where
+-- Its caller is at rest, and an engine is made for so many pages, as its heap has.
+pub record MayMakeNumber (pages : ℕ) (p : PassState) (d ty : ℕ) : Type 0 where
   pub idle : IsIdleCaller p
   pub suits : SuitsNumber p d ty
+  pub made_for : pages ≡ p.table.config.pages
 
--- The turn was taken for the operation, and first fit has no place: its holder has only looked.
-pub record FindsNoRoom (p : PassState) (o : Op) (t : TurnState) : Type 0 where
-  pub taken : PassState
-  pub takes : Finds p (step.Take (Some o)) 0 taken
-  pub nowhere : FitsNowhere taken t.pass
+-- Nothing fits after a cycle; or a gate was held after the New, whose number is owned still.
+abbrev pub EndsEarly : Bool → PassState → ℕ → ℕ → Unfinished → PassState → Type 0
+EndsEarly on p d ty (unfinished.NoRoom full) q = IsAnsweredFull on p (op.New d ty false) full.census q
+EndsEarly on p d ty unfinished.Held q = OwnsNumber q d
 
--- Another has the turn, and the caller's pass is home; or there is no room.
-abbrev pub IsUnmade : PassState → Op → Unmade → CallerState → Type 0
-IsUnmade p o (TurnTaken busy) s = (s.home ≡ true) × Finds p (step.Take (Some o)) (1 + busy.holder) s.pass
-IsUnmade p o (NoRoom turn) s = FindsNoRoom p o turn
-
--- Or a gate was held after the New, whose number is owned still.
-abbrev pub EndsEarly : PassState → ℕ → ℕ → Unfinished → CallerState → Type 0
-EndsEarly p d ty (unfinished.NotMade e) s = IsUnmade p (op.New d ty false) e s
-EndsEarly p d ty unfinished.Held s = (s.home ≡ true) × OwnsNumber s.pass d
+-- The pass of a caller that made calls and is at rest again: it has seen more.
+pub record ComesBack (p q : PassState) : Type 0 where
+  pub is : q ≡ record p { seen = q.seen }
+  pub idle : IsIdleCaller q
 
 -- the caller's calls, with their answers
 

@@ -17,6 +17,7 @@ mod marking;
 mod moves;
 mod numbers;
 mod outcomes;
+mod runs;
 mod side_by_side;
 mod stops;
 mod sweeps;
@@ -30,5 +31,6 @@ pub use moves::{
     takes_out_of_global,
 };
 pub use numbers::{load, number_in_new_object, store, store_and_load};
-pub use outcomes::{Unfinished, Unmade};
+pub use outcomes::{Loaded, Unfinished};
+pub use runs::{TwoNumbers, two_numbers};
 pub use side_by_side::numbers_at_once;

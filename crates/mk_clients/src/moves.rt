@@ -66,5 +66,7 @@ pub fn first_register_is_null(words: &Words, host: &mut Pass) -> Result<bool, He
     words.is_within_limits();
     let pass = Words::split(words, host, Seat::Caller(0));
     let mut caller = Caller::new(words, pass);
-    caller.is_null(0)
+    let null = caller.is_null(0);
+    Words::join(words, host, caller.finish());
+    null
 }

@@ -10,13 +10,17 @@ ghost use Rattle.mk_core.specs.declared.events.Answer.TheVariants as answer;
 use crate::making::make_number;
 use crate::outcomes::Unfinished;
 use mk_heap::lower::callers::{Caller, Refusal};
+use mk_heap::lower::cycles::Engine;
 use mk_heap::lower::words::Held;
+use std::sync::Wait;
+use std::thread::Threads;
 
 /// Stores a number that the caller owns. It is never refused but by a held gate, and is owned still then.
 pub fn store(caller: &mut Caller, d: u8, n: u64) -> Result<(), Held>
     requires home { caller.old.home ≡ true }
     requires owned { OwnsNumber caller.old.pass d }
     ensures home { caller.new.home ≡ true }
+    ensures pass { caller.new.pass ≡ record caller.old.pass { seen = caller.new.pass.seen } }
     ensures called { OnOk result (Called caller.old.pass (op.SetNum d 0 n) answer.Done caller.new.pass) }
     ensures stored { OnOk result (HasNumber caller.new.pass d n) }
     ensures held { OnErr result (FindsGateHeld caller.old.pass (op.SetNum d 0 n) caller.new.pass) }
@@ -37,6 +41,7 @@ pub fn load(caller: &mut Caller, d: u8) -> Result<u64, Held>
     requires home { caller.old.home ≡ true }
     requires owned { OwnsNumber caller.old.pass d }
     ensures home { caller.new.home ≡ true }
+    ensures pass { caller.new.pass ≡ record caller.old.pass { seen = caller.new.pass.seen } }
     ensures loaded { IfOk result (λ n. n ≡ number_owned caller.old.pass d) }
     ensures called { IfOk result (λ n. Called caller.old.pass (op.GetNum d 0) (answer.Num n) caller.new.pass) }
     ensures held { OnErr result (FindsGateHeld caller.old.pass (op.GetNum d 0) caller.new.pass) }
@@ -57,6 +62,7 @@ pub fn store_and_load(caller: &mut Caller, d: u8, n: u64) -> Result<u64, Held>
     requires home { caller.old.home ≡ true }
     requires owned { OwnsNumber caller.old.pass d }
     ensures home { caller.new.home ≡ true }
+    ensures pass { caller.new.pass ≡ record caller.old.pass { seen = caller.new.pass.seen } }
     ensures loaded { IfOk result (λ loaded. loaded ≡ n) }
     ensures did { OnOk result (own_calls caller.new.pass caller.new.pass.seen
         ≡ own_calls caller.old.pass caller.old.pass.seen ++ store_then_load (caller_of_pass caller.old.pass) d n) }
@@ -68,16 +74,27 @@ pub fn store_and_load(caller: &mut Caller, d: u8, n: u64) -> Result<u64, Held>
 
 /// Makes an object of one number, stores a number in it and loads that: it is the one that was stored, whatever others
 /// did.
-pub fn number_in_new_object(caller: &mut Caller, d: u8, ty: u64, n: u64) -> Result<u64, Unfinished>
+pub fn number_in_new_object<E: Engine, R: Threads + Wait + Sync>(
+    rt: &R,
+    caller: &mut Caller,
+    engine: &mut E,
+    d: u8,
+    ty: u64,
+    n: u64,
+) -> Result<u64, Unfinished>
     requires home { caller.old.home ≡ true }
     requires suits { SuitsNumber caller.old.pass d ty }
+    requires made_for { E.made_for engine.old ≡ caller.old.pass.table.config.pages }
+    ensures home { caller.new.home ≡ true }
+    ensures pass { caller.new.pass ≡ record caller.old.pass { seen = caller.new.pass.seen } }
+    ensures made_for { E.made_for engine.new ≡ E.made_for engine.old }
     ensures loaded { IfOk result (λ loaded. loaded ≡ n) }
     ensures did { OnOk result (own_calls caller.new.pass caller.new.pass.seen
         ≡ own_calls caller.old.pass caller.old.pass.seen ++ new_store_load (caller_of_pass caller.old.pass) d ty n) }
-    ensures early { IfErr result (λ e. EndsEarly caller.old.pass d ty e caller.new) }
+    ensures early { IfErr result (λ e. EndsEarly E.on caller.old.pass d ty e caller.new.pass) }
 {
-    match make_number(caller, d, ty) {
-        Err(unmade) => Err(Unfinished::NotMade(unmade)),
+    match make_number(rt, caller, engine, d, ty) {
+        Err(full) => Err(Unfinished::NoRoom(full)),
         Ok(()) => match store_and_load(caller, d, n) {
             Err(Held) => Err(Unfinished::Held),
             Ok(loaded) => Ok(loaded),

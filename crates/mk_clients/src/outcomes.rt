@@ -1,20 +1,20 @@
-//! Why a program over the calls ends early.
+//! How a program over the calls ends.
 
-use mk_heap::lower::words::{Busy, Turn};
-
-/// Why no object was made.
-#[derive(Drop)]
-pub enum Unmade {
-    /// Another seat had the turn. The caller's pass is home.
-    TurnTaken(Busy),
-    /// Nothing fits. The New isn't decided, and this is its turn: the caller's pass is in it.
-    NoRoom(Turn),
-}
+use mk_heap::lower::objects::Full;
+use mk_heap::lower::words::Pass;
 
 /// Why no number was loaded.
 #[derive(Drop)]
 pub enum Unfinished {
-    NotMade(Unmade),
+    /// Nothing fits, after a cycle of the New.
+    NoRoom(Full),
     /// The holder of the turn held the caller's gate.
     Held,
+}
+
+/// What the thread of a caller hands back: the caller's pass, for the host to join, and the number that was loaded.
+#[derive(Drop)]
+pub struct Loaded {
+    pub pass: Pass,
+    pub number: Result<u64, Unfinished>,
 }

@@ -94,7 +94,11 @@ impl Turn {
         requires { others_are_held self.pass.table.config.callers (now_of self.pass).words self.pass.seat ≡ true }
         ensures { result ≡ self }
     {
-        let TurnAt { pass, map, .. } = self;
+        let TurnAt {
+            pass,
+            map,
+            gates: _,
+        } = self;
         TurnAt {
             pass,
             map,

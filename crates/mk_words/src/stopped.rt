@@ -97,7 +97,11 @@ impl Stopped {
         ensures opens { Opens self.pass result.pass }
         ensures gates { none_is_held self.pass.table.config.callers (now_of result.pass).words ≡ true }
     {
-        let TurnAt { pass, map, .. } = self;
+        let TurnAt {
+            pass,
+            map,
+            gates: _,
+        } = self;
         let mut turn = TurnAt::<AnyGates> {
             pass,
             map,

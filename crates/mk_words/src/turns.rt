@@ -19,8 +19,7 @@ use mk_never::Op;
 use std::marker::{Model, PhantomData};
 
 /// The turn of a table while the gates are as `G` says, with the pass of the seat that has it, and the map of the
-/// heap's pages, which travels with it.
-#[derive(Drop)]
+/// heap's pages, which travels with it. It has no `Drop`, so it can't be forgotten: it ends with `give` or `abandon`.
 pub struct TurnAt<G: Gates> {
     pub(crate) pass: TurnToken,
     pub(crate) map: Box<PageMap>,
@@ -104,6 +103,16 @@ impl<G: Gates> TurnAt<G> {
         self.pass.seat()
     }
 
+    /// Lets the turn go for ever: nobody takes it again, and the heap can't be closed. It is for a program that gives
+    /// up.
+    pub fn abandon(self) {
+        let TurnAt {
+            pass: _pass,
+            map: _map,
+            gates: _,
+        } = self;
+    }
+
     /// What holds of every turn. It does nothing.
     #[inline(always)]
     pub fn is_in_order(&self)
@@ -175,7 +184,11 @@ impl Turn {
         ensures acts { Acts self.pass step.Give result }
         ensures rests { call_of result ≡ at_rest }
     {
-        let TurnAt { pass, map, .. } = self;
+        let TurnAt {
+            pass,
+            map,
+            gates: _,
+        } = self;
         let own = pass.give(words, map);
         Pass { own }
     }

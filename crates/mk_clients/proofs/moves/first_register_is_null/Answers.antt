@@ -8,8 +8,8 @@ new-caller-requires-clause-idle c =
     idle c.split-pass.result w (given c.args.host.now c.split-pass.result w c.requires.one_table c.requires.first
     c.split-pass.ensures.made)
 
-pub is_null-requires-clause-admitted : goal.is_null-requires-clause-admitted
-is_null-requires-clause-admitted c =
+pub is_null-null-requires-clause-admitted : goal.is_null-null-requires-clause-admitted
+is_null-null-requires-clause-admitted c =
     let w = c.args.words.now in
     let is = given c.args.host.now c.split-pass.result w c.requires.one_table c.requires.first
     c.split-pass.ensures.made in
@@ -21,5 +21,5 @@ returns c =
     let w = c.args.words.now in
     let is = given c.args.host.now c.split-pass.result w c.requires.one_table c.requires.first
     c.split-pass.ensures.made in
-    told c.is_null.result _ c.is_null.ensures.tells (tells_null c.new-caller.result.pass w
+    told c.is_null-null.result _ c.is_null-null.ensures.tells (tells_null c.new-caller.result.pass w
     (c.new-caller.ensures.pass ∙ is))
