@@ -34,17 +34,26 @@ pub(crate) fn hold_first(split: Split) -> Option<Made>
     let mut first = Caller::new(&words, first);
     let mut second = Caller::new(&words, second);
     let before = clear(&mut first);
-    let Ok(mut turn) = host.try_take(&words, None) else {
-        return None;
+    let made = match host.try_take(&words, None) {
+        Ok(mut turn) => {
+            let is_held = turn.try_hold(&words, 0).is_ok();
+            let held = clear(&mut first);
+            let beside = clear(&mut second);
+            turn.abandon();
+            if is_held {
+                Some(Made {
+                    before,
+                    held,
+                    beside,
+                })
+            } else {
+                None
+            }
+        }
+        Err(_back) => None,
     };
-    if turn.try_hold(&words, 0).is_err() {
-        return None;
-    }
-    Some(Made {
-        before,
-        held: clear(&mut first),
-        beside: clear(&mut second),
-    })
+    let _passes = (first.finish(), second.finish());
+    made
 }
 
 #[cfg(test)]

@@ -59,6 +59,7 @@ fn begin<E: Engine, R: Threads + Wait + Sync>(
     let mut turn = take(rt, words, host, None);
     let found = turn.look(words, Word::Phase);
     if Phase::Marking.is_in(found) {
+        turn.abandon();
         return None;
     }
     begin_cycle(rt, words, &mut turn, engine);
@@ -74,12 +75,14 @@ fn want_close(words: &Words, turn: Turn, marker: &mut Marker) -> Option<Work>
 {
     let mut turn = turn;
     if turn.try_hold(words, 0).is_err() {
+        turn.abandon();
         return None;
     }
     let mut stop = turn.stopped();
     stop.want(words);
     let told = marker.work();
     marker.quit();
+    stop.abandon();
     Some(told)
 }
 
@@ -118,11 +121,14 @@ pub(crate) fn come_to_a_cycle<E: Engine, R: Threads + Wait + Sync>(
         return None;
     }
     let mut caller = Caller::new(&words, caller);
-    if !make(rt, &mut caller, engine, 0) {
+    let made = make(rt, &mut caller, engine, 0);
+    let _pass = caller.finish();
+    if !made {
         return None;
     }
     let turn = begin(rt, &words, host, engine)?;
     if !scans_one_cell(&mut marker) {
+        turn.abandon();
         return None;
     }
     want_close(&words, turn, &mut marker)

@@ -30,6 +30,7 @@ fn retire<R: Threads + Wait + Sync>(
     match retire_object(rt, words, &mut turn, p) {
         Ok(freed) => {
             if freed.due {
+                turn.abandon();
                 return (Ok(freed), None);
             }
             (Ok(freed), Some(turn.give(words)))
@@ -100,10 +101,12 @@ pub(crate) fn fill_and_retire<E: Engine, R: Threads + Wait + Sync>(
     let mut other = Caller::new(&words, second);
     let of_first = make_many(rt, &mut one, engine, 24);
     let of_second = make_many(rt, &mut other, engine, 8);
+    let first = one.finish();
+    let second = other.finish();
     if !(of_first & of_second) {
         return None;
     }
-    retire_nine(rt, &words, one.finish(), other.finish())
+    retire_nine(rt, &words, first, second)
 }
 
 #[cfg(test)]

@@ -25,7 +25,7 @@ pub(crate) fn take<R: Wait>(rt: &R, words: &Words, home: Pass, op: Option<Op>) -
     turn
 }
 
-/// Places an object of the first type, and gives the turn back. Where there is no place, the turn is dropped.
+/// Places an object of the first type, and gives the turn back. If there is no place, the turn is abandoned.
 fn place<R: Wait>(rt: &R, words: &Words, home: Pass) -> Option<Pass>
     requires pass { IsPassFor words.now 0 home }
     requires exists { 0 < words.now.config.callers }
@@ -40,6 +40,7 @@ fn place<R: Wait>(rt: &R, words: &Words, home: Pass) -> Option<Pass>
     let mut turn = take(rt, words, home, Some(op));
     let placed = place_object(words, &mut turn, Request { register: 0, ty: 0 });
     if !placed {
+        turn.abandon();
         return None;
     }
     Some(turn.give(words))
@@ -86,13 +87,18 @@ fn holder_told(
     requires first { IsEnabledTo first (step.Take for_first) }
     requires other { IsEnabledTo other (step.Take for_other) }
 {
-    let Ok(_turn) = first.try_take(words, for_first) else {
+    let Ok(turn) = first.try_take(words, for_first) else {
         return None;
     };
-    match other.try_take(words, for_other) {
-        Ok(_) => None,
-        Err((_, busy)) => Some(busy.holder),
-    }
+    let told = match other.try_take(words, for_other) {
+        Ok(second) => {
+            second.abandon();
+            None
+        }
+        Err((_pass, busy)) => Some(busy.holder),
+    };
+    turn.abandon();
+    told
 }
 
 /// Who has the turn, as the first of two callers is told when the second, whose number is 1, has taken it, as it is

@@ -24,11 +24,11 @@ try_hold-requires-clause-enabled c =
     hold_allowed q c.in-Ok.turn.in_order (fresh_free c.in-Ok.ensures.fresh) 0 some
     (ap (λ (s : Seat). is_number_of s 0) seat) (none_is_held_at q 0 some c.in-Ok.ensures.fresh.gates)
 
-pub clear-requires-clause-whole : goal.clear-requires-clause-whole
-clear-requires-clause-whole c =
+pub clear-held-requires-clause-whole : goal.clear-held-requires-clause-whole
+clear-held-requires-clause-whole c =
     pass_of_later c.clear-before.new.caller.pass c.clear-before.ensures.pass
     (pass_of c.new-first.result c.requires.callers.first (omega (arith, c.requires.callers.two)) c.new-first.ensures)
 
-pub clear-requires-2-clause-whole : goal.clear-requires-2-clause-whole
-clear-requires-2-clause-whole c =
+pub clear-beside-requires-clause-whole : goal.clear-beside-requires-clause-whole
+clear-beside-requires-clause-whole c =
     pass_of c.new-second.result c.requires.callers.second (omega (arith, c.requires.callers.two)) c.new-second.ensures

@@ -9,7 +9,7 @@ finds_phase-requires g c = record {
       (subst (λ (p : PassState). IsOut p) (sym c.new-marker.ensures) c.requires.marker.out);
 }
 
-pub make-requires-clause-may : goal.make-requires-clause-may
-make-requires-clause-may g c κs within =
+pub make-made-requires-clause-may : goal.make-made-requires-clause-may
+make-made-requires-clause-may g c κs within =
     may_at_first c.requires.caller c.new-caller.ensures (omega (arith, c.requires.one)) c.requires.ty
     c.requires.made_for

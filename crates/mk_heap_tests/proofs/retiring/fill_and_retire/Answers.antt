@@ -20,10 +20,10 @@ pub retire_nine-requires-clause-first : goal.retire_nine-requires-clause-first
 retire_nine-requires-clause-first g c x2 within =
     let made = c.make_many-of_first.ensures in
     pass_of_objects c.requires.callers.first c.new-one.ensures made.same made.may.ready
-    c.finish.ensures.pass c.finish.ensures.idle
+    c.finish-first.ensures.pass c.finish-first.ensures.idle
 
 pub retire_nine-requires-clause-second : goal.retire_nine-requires-clause-second
 retire_nine-requires-clause-second g c x2 within =
     let made = c.make_many-of_second.ensures in
     pass_of_objects c.requires.callers.second c.new-other.ensures made.same made.may.ready
-    c.finish-2.ensures.pass c.finish-2.ensures.idle
+    c.finish-second.ensures.pass c.finish-second.ensures.idle
