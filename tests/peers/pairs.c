@@ -3,7 +3,7 @@ each allocator.
 
     pairs count LIVE PAIRS      the instructions of so many pairs, beside a list of LIVE objects; the processor stops
                                 after each, which takes microseconds
-    pairs time LIVE PAIRS       their nanoseconds
+    pairs time LIVE PAIRS       their nanoseconds of processor time
     pairs reuse LIVE MOST       how many pairs later the address of one of 16 freed objects comes again, where nothing
                                 points to them; or 0
     pairs dangling LIVE MOST    if a pointer to a freed object reads its own number first, and how many pairs later it
@@ -95,9 +95,9 @@ static void count_time(long count) {
   struct timespec before, after;
   begin();
   pairs(WARM);
-  clock_gettime(CLOCK_MONOTONIC, &before);
+  clock_gettime(CLOCK_PROCESS_CPUTIME_ID, &before);
   pairs(count);
-  clock_gettime(CLOCK_MONOTONIC, &after);
+  clock_gettime(CLOCK_PROCESS_CPUTIME_ID, &after);
   printf("%ld\n", (after.tv_sec - before.tv_sec) * 1000000000L + after.tv_nsec - before.tv_nsec);
 }
 
