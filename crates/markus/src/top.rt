@@ -4,10 +4,9 @@ ghost use Rattle.mk_io.specs.{Bytes.{Appends, AppendsPart}, Faults.Rose};
 ghost use Rattle.mk_outputs.specs.Commands.{command_of};
 ghost use Rattle.mk_outputs.specs.{Outputs.{HasAnswered, HasNoRead, IsStatusOn}, Statuses.{IsBeforeWriting, IsRefusal}};
 
-use mk_outputs::command_in;
 use mk_io::{Failed, Sink, Source, write_all};
-use mk_outputs::{Status, output_of};
-use mk_outputs::lower::runs::Pace;
+use mk_outputs::lower::heaps::Pace;
+use mk_outputs::{Status, command_in, output_of};
 use std::alloc::Global;
 use std::sync::Wait;
 use std::thread::Threads;

@@ -10,10 +10,9 @@ ghost use Rattle.mk_core.specs.declared.events.Step.TheVariants as step;
 
 use crate::heaps::Heap;
 use crate::hosts::{Host, take_home};
-use mk_core::{Phase, Word};
 use mk_alloc::lower::cycles::{Engine, begin_cycle, finish_cycle};
-use mk_alloc::lower::words::take_turn;
-use mk_alloc::lower::words::{Pass, Turn, Words};
+use mk_alloc::lower::words::{Pass, Turn, Words, take_turn};
+use mk_core::{Phase, Word};
 use std::sync::Wait;
 use std::thread::Threads;
 

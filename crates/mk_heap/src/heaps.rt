@@ -5,9 +5,9 @@ ghost use Rattle.mk_heap.specs.{Hosts.{first_host, AllAreJoined}, Reports.{histo
 
 use crate::hosts::Host;
 use crate::reports::Report;
+use mk_alloc::lower::words::Words;
 use mk_core::Config;
 use mk_never::NoMemory;
-use mk_alloc::lower::words::Words;
 use std::alloc::Global;
 use std::marker::Model;
 

@@ -10,10 +10,9 @@ ghost use Rattle.mk_core.specs.declared.events.Seat.TheVariants as seat;
 
 use crate::heaps::Heap;
 use mk_alloc::lower::callers::Caller;
+use mk_alloc::lower::words::{Pass, Words, take_turn};
 use mk_core::{Seat, Word};
 use mk_marker::Marker;
-use mk_alloc::lower::words::take_turn;
-use mk_alloc::lower::words::{Pass, Words};
 use std::marker::Model;
 use std::sync::Wait;
 

@@ -5,8 +5,8 @@ ghost use Rattle.mk_run.specs.Below.Heaps.Hosts.{first_host, with_caller_made};
 ghost use Rattle.mk_heap_tests.specs.Passes.{AreOfTwo, IsHostsPass, IsPassFor};
 
 use mk_core::{Config, Seat};
-use mk_run::lower::heaps::{Heap, Host, Report};
 use mk_never::NoMemory;
+use mk_run::lower::heaps::{Heap, Host, Report};
 use mk_run::lower::words::{Pass, Words};
 use std::alloc::Global;
 

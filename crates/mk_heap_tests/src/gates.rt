@@ -52,8 +52,8 @@ mod tests {
     use super::{Made, hold_first};
     use crate::beginnings::split_callers;
     use crate::configs::one_page;
-    use mk_run::lower::callers::Refusal;
     use mk_never::Kind;
+    use mk_run::lower::callers::Refusal;
     use std::test::Fail;
 
     #[test]

@@ -8,12 +8,12 @@ ghost use Rattle.mk_heap_tests.specs.Passes.{HostIsMarking, IsHostsPass, IsMarke
 use crate::beginnings::Split;
 use crate::objects::make;
 use crate::turns::take;
-use mk_run::lower::callers::Caller;
 use mk_core::{Config, Phase, Seat, Word};
+use mk_never::NoMemory;
+use mk_run::lower::callers::Caller;
 use mk_run::lower::cycles::{Engine, begin_cycle};
 use mk_run::lower::heaps::{Heap, Report};
 use mk_run::lower::markers::{Marker, Work};
-use mk_never::NoMemory;
 use mk_run::lower::words::{Pass, Turn, Words};
 use std::alloc::Global;
 use std::sync::Wait;
@@ -155,10 +155,9 @@ pub(crate) fn come_when_over<E: Engine, R: Threads + Wait + Sync>(
 mod tests {
     use super::{come_to_a_cycle, come_when_over, split_for_one};
     use crate::configs::one_page;
-    use mk_run::lower::cycles::Engine;
-    use mk_run::lower::cycles::MostlyEngine;
-    use mk_run::lower::markers::Work;
     use mk_never::Kind;
+    use mk_run::lower::cycles::{Engine, MostlyEngine};
+    use mk_run::lower::markers::Work;
     use std::test::Fail;
 
     /// At the `begin` the engine marks the object that the register points to, and that one alone is scanned.

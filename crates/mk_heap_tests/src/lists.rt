@@ -2,7 +2,7 @@
 
 use crate::runs::{lines, printed, run_of};
 use mk_run::lower::cycles::MostlyEngine;
-use mk_run::Pace;
+use mk_run::lower::heaps::Pace;
 use std::sync::atomic::{AtomicBool, Ordering};
 use std::test::Fail;
 use std::thread::yield_now;

@@ -4,10 +4,10 @@ ghost use Rattle.mk_run.specs.Below.Heaps.Hosts.{first_host, with_caller_made};
 ghost use Rattle.mk_heap_tests.specs.{HeldObjects.{BothGoOn, BothMayAllocate, GoesOn, MayAllocate}, Passes.AreOfTwo};
 
 use crate::beginnings::{TwoCallers, close};
-use mk_run::lower::objects::{Double, Freed, free_object, new_object};
 use mk_run::lower::callers::Caller;
 use mk_run::lower::cycles::Engine;
 use mk_run::lower::heaps::Report;
+use mk_run::lower::objects::{Double, Freed, free_object, new_object};
 use std::sync::Wait;
 use std::thread::Threads;
 
@@ -138,9 +138,8 @@ mod tests {
     use super::{Answers, fill_a_page};
     use crate::beginnings::two_callers;
     use crate::configs::one_page;
-    use mk_run::lower::cycles::Engine;
-    use mk_run::lower::cycles::StopEngine;
     use mk_never::Kind;
+    use mk_run::lower::cycles::{Engine, StopEngine};
     use std::test::Fail;
 
     /// A 33rd object doesn't fit, after a cycle that releases nothing. Of 64 words 16 are a quarter, so that the

@@ -5,10 +5,10 @@ ghost use Rattle.mk_heap_tests.specs.{HeldObjects.IsPassOfObjects, Passes.AreOfT
 use crate::beginnings::Split;
 use crate::objects::make_many;
 use crate::turns::take;
-use mk_run::lower::objects::{Double, Freed, retire_object};
+use mk_never::Op;
 use mk_run::lower::callers::Caller;
 use mk_run::lower::cycles::Engine;
-use mk_never::Op;
+use mk_run::lower::objects::{Double, Freed, retire_object};
 use mk_run::lower::words::{Pass, Words};
 use std::sync::Wait;
 use std::thread::Threads;
@@ -111,10 +111,9 @@ mod tests {
     use super::{Answers, fill_and_retire};
     use crate::beginnings::split_callers;
     use crate::configs::one_page;
-    use mk_run::lower::objects::{Double, Freed};
-    use mk_run::lower::cycles::Engine;
-    use mk_run::lower::cycles::StopEngine;
     use mk_never::Kind;
+    use mk_run::lower::cycles::{Engine, StopEngine};
+    use mk_run::lower::objects::{Double, Freed};
     use std::test::Fail;
 
     /// Of 64 words 16 are a quarter, so that the eighth free isn't due and the ninth is.

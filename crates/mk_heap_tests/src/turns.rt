@@ -7,11 +7,10 @@ ghost use Rattle.mk_heap_tests.specs.{Passes.IsPassFor, Taken.IsTaken};
 ghost use Rattle.mk_core.specs.declared.events.Step.TheVariants as step;
 
 use crate::beginnings::split_callers;
-use mk_run::lower::objects::{Request, place_object};
 use mk_core::Config;
 use mk_never::{NoMemory, Op};
-use mk_run::lower::words::take_turn;
-use mk_run::lower::words::{Pass, Turn, Words};
+use mk_run::lower::objects::{Request, place_object};
+use mk_run::lower::words::{Pass, Turn, Words, take_turn};
 use std::alloc::Global;
 use std::sync::Wait;
 

@@ -6,10 +6,10 @@ ghost use Rattle.mk_replay.specs.Replays.{history_of};
 ghost use Rattle.mk_laws.specs.Promises.{KeepsAllPromises};
 ghost use Rattle.mk_outputs.specs.{Outputs.{IsOutputOnSchedule, status_on, status_of_schedule}, Statuses.IsOfText};
 
+use crate::commands::TextCommand;
 use crate::statuses::Status;
 use crate::texts::joined;
 use mk_check::check;
-use crate::commands::TextCommand;
 use mk_replay::{Schedule, parse_replay, replay};
 use mk_script::Program;
 use std::alloc::Global;

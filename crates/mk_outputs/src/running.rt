@@ -7,16 +7,16 @@ ghost use Rattle.mk_trace.specs.{Below.Runs.Running.IsRunOf, Below.Runs.Unswept.
 ghost use Rattle.mk_outputs.specs.declared.commands.TextCommand.TheVariants as TextCommand;
 ghost use Rattle.mk_outputs.specs.Outputs.{IsOutputOf, TellsKept};
 
+use crate::commands::Options;
 use crate::kept_text::push_kept;
 use crate::texts::joined;
 use mk_check::Checked;
-use crate::commands::Options;
-use mk_trace::lower::cycles::Engine;
-use mk_trace::lower::cycles::{MostlyEngine, StopEngine};
 use mk_never::NoMemory;
-use mk_trace::lower::runs::{Outcome, Pace, run_all, run_why};
-use mk_trace::lower::sweeps::SweepEngine;
 use mk_trace::lower::chains::Kept;
+use mk_trace::lower::cycles::{Engine, MostlyEngine, StopEngine};
+use mk_trace::lower::heaps::Pace;
+use mk_trace::lower::runs::{Outcome, run_all, run_why};
+use mk_trace::lower::sweeps::SweepEngine;
 use std::alloc::Global;
 use std::sync::Wait;
 use std::thread::Threads;

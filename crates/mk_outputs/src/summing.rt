@@ -5,12 +5,12 @@ ghost use Rattle.mk_outputs.specs.{Generated.generated_program, Commands.IsWithi
 ghost use Rattle.mk_trace.specs.Below.Runs.Headline.{StandsInOneHistory};
 ghost use Rattle.mk_outputs.specs.{Summary.{summary, total_line}, SummedTexts.{line_of_text, summary_of_texts, AreFew}};
 
-use crate::running::outcome_of;
-use mk_check::Text;
 use crate::commands::{Options, Request};
 use crate::generating::generate;
+use crate::running::outcome_of;
+use mk_check::Text;
 use mk_never::NoMemory;
-use mk_trace::lower::runs::Pace;
+use mk_trace::lower::heaps::Pace;
 use std::alloc::Global;
 use std::sync::Wait;
 use std::thread::Threads;

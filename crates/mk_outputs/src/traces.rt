@@ -2,8 +2,8 @@
 ghost use Rattle.std.specs.Prelude.{◌≡◌, ◌⊎◌, IfOk, IfErr, OnOk};
 ghost use Rattle.mk_outputs.specs.{Outputs.{IsOutputOnTrace, TellsOfPlay, status_on}, Statuses.IsOfText};
 
-use crate::statuses::Status;
 use crate::commands::TextCommand;
+use crate::statuses::Status;
 use mk_never::NoMemory;
 use mk_trace::{Trace, parse_trace, play, print_peaks};
 use std::alloc::Global;

@@ -12,12 +12,12 @@ pub use Rattle.mk_heap.specs.{Below.Callers.States.IsHomePass, Below.Words.Seats
 pub use Rattle.mk_heap.specs.{Below.Words.States.{PassState, WordsState}, Below.Words.TurnSteps.turn_stays}
 pub use Rattle.mk_check.specs.{Declarations.config_of, Feed.{feed, is_refusal}, Feeding.next_op}
 pub use Rattle.mk_check.specs.{Laws.{IsChecked, IsScript}, declared.text.Text.Text}
-pub use Rattle.mk_heap.proofs.MovedHosts.{turn_moves}
 pub use Rattle.mk_heap.specs.{Ending.SaysOver, Hosts.{HostState, with_joined}, Reports.IsWhole}
 pub use Rattle.mk_script.specs.{Scopes.script_names, declared.items.Item.Item}
-pub use Rattle.mk_run.specs.{Ready.{AreReadyFrom, IsReadyScript}, HostTurns.HostComesLast}
-pub use Rattle.mk_run.specs.Joining.{AreTextsFrom, HasJoined, HasMade, IsFirstPass}
-pub use Rattle.mk_run.specs.{LastTurns.{CallersAreStill, TakesLastTurns}, Marking.IsOver}
+pub use Rattle.mk_heap.specs.{HostTurns.HostComesLast, LastTurns.{CallersAreStill, TakesLastTurns}}
+pub use Rattle.mk_heap.specs.Dispatching.{Answers, StaysAdmitted, StaysBeside}
+pub use Rattle.mk_run.specs.{Ready.{AreReadyFrom, IsReadyScript}, Marking.IsOver, Scripts.IsFedWith}
+pub use Rattle.mk_heap.specs.Crews.{HasMade, IsFirstPass}
+pub use Rattle.mk_run.specs.Joining.{AreTextsFrom, HasJoined}
 pub use Rattle.mk_run.specs.Running.{EndsScript, FollowsScript, IsRunOf, IsTextOf, answers_in}
-pub use Rattle.mk_run.specs.Scripts.{Answers, IsAdmittedByOwnCalls, IsFedWith, StaysBeside}
 pub use Rattle.mk_run.specs.declared.outcomes.Outcome.{Outcome}

@@ -1,7 +1,7 @@
 //! The engines of a run.
-ghost use Rattle.std.specs.Prelude.{◌≡◌, ◌+◌, length, All, IfOk};
+ghost use Rattle.std.specs.Prelude.{◌≡◌, length, All, IfOk};
 
-use mk_run::lower::cycles::Engine;
+use mk_heap::lower::cycles::Engine;
 use mk_never::NoMemory;
 use std::alloc::Global;
 

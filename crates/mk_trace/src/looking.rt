@@ -12,8 +12,8 @@ ghost use Rattle.mk_core.specs.declared.events.Word.TheVariants as table_word;
 use crate::ledger::FreedObject;
 use mk_core::{Word, has_bit, words_under};
 use mk_geom::{Cell, heap_page, lookup};
-use mk_run::lower::heaps::{Heap, Host};
 use mk_never::Op;
+use mk_run::lower::heaps::{Heap, Host};
 use std::sync::Wait;
 
 /// What a word is. It is no call.
