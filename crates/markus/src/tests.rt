@@ -14,7 +14,7 @@ mod walks;
 use crate::top::markus;
 use mk_io::{MemSink, MemSource};
 use mk_outputs::Status;
-use mk_outputs::lower::runs::{NoPace, Pace};
+use mk_outputs::lower::heaps::{NoPace, Pace};
 use std::alloc::{AllocError, Global};
 use std::sync::Wait;
 use std::test::Fail;

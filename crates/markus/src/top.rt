@@ -5,7 +5,7 @@ ghost use Rattle.mk_outputs.specs.Commands.{command_of};
 ghost use Rattle.mk_outputs.specs.{Outputs.{HasAnswered, HasNoRead, IsStatusOn}, Statuses.{IsBeforeWriting, IsRefusal}};
 
 use mk_io::{Failed, Sink, Source, write_all};
-use mk_outputs::lower::runs::Pace;
+use mk_outputs::lower::heaps::Pace;
 use mk_outputs::{Status, command_in, output_of};
 use std::alloc::Global;
 use std::sync::Wait;

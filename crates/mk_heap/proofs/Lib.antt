@@ -6,3 +6,10 @@ pub mod ClientSteps
 pub mod Overs
 pub mod HomeCallers
 pub mod BegunHosts
+pub mod Dispatched
+pub mod HostTurns
+pub mod HostTurnParts
+pub mod LastTurns
+pub mod LastCycles
+pub mod LastOvers
+pub mod Crews

@@ -4,3 +4,8 @@ pub mod Reports
 pub mod Turns
 pub mod Clients
 pub mod Ending
+pub mod HostTurns
+pub mod LastTurns
+pub mod LastCycle
+pub mod Crews
+pub mod Dispatching

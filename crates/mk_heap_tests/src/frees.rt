@@ -1,8 +1,9 @@
 //! Which frees are due, on one page of 32 objects.
 
 use crate::runs::{printed, run_of};
+use mk_run::Outcome;
 use mk_run::lower::cycles::StopEngine;
-use mk_run::{NoPace, Outcome};
+use mk_run::lower::heaps::NoPace;
 use std::alloc::Global;
 use std::sync::Wait;
 use std::test::Fail;

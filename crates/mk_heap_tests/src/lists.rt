@@ -1,8 +1,8 @@
 //! Markers on threads of their own, beside scripts that store into their lists.
 
 use crate::runs::{lines, printed, run_of};
-use mk_run::Pace;
 use mk_run::lower::cycles::MostlyEngine;
+use mk_run::lower::heaps::Pace;
 use std::sync::atomic::{AtomicBool, Ordering};
 use std::test::Fail;
 use std::thread::yield_now;

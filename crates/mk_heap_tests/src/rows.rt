@@ -2,8 +2,8 @@
 //! makes all marks but those of the roots in the stop.
 
 use crate::runs::{lines, printed, run_of};
-use mk_run::NoPace;
 use mk_run::lower::cycles::{Engine, MostlyEngine, StopEngine};
+use mk_run::lower::heaps::NoPace;
 use std::alloc::Global;
 use std::sync::Wait;
 use std::test::Fail;

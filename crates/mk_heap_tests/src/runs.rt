@@ -2,7 +2,8 @@
 
 use mk_check::check;
 use mk_run::lower::cycles::Engine;
-use mk_run::{Outcome, Pace, run_all};
+use mk_run::lower::heaps::Pace;
+use mk_run::{Outcome, run_all};
 use mk_script::parse;
 use std::alloc::{AllocError, Global};
 use std::sync::Wait;

@@ -1,8 +1,8 @@
 //! Callers on one stack, each on a thread of its own: what became of their jobs, and what is left.
 
 use mk_never::NoMemory;
-use mk_run::NoPace;
 use mk_run::lower::cycles::{Engine, MostlyEngine, StopEngine};
+use mk_run::lower::heaps::NoPace;
 use mk_stack::{Done, Job, Jobs, StackOutcome, run_stack};
 use std::alloc::{AllocError, Global};
 use std::sync::Wait;

@@ -4,7 +4,7 @@ use Rattle.mk_laws.proofs.Vocabulary.{Bool, Event, List, ℕ, ap, arith, false, 
 use Rattle.mk_laws.proofs.Vocabulary.{sym, true, [], ◌++◌, ◌+◌, ◌<◌, ◌∙◌, ◌∷◌, ◌≡◌}
 use Rattle.mk_check.specs.{Declarations.config_of, Output.output, Output.text_behind, declared.text.Text.Text}
 use Rattle.mk_trace.specs.Below.Cycles.Roots.{CyclesMarkRootsFirst}
-use Rattle.mk_trace.specs.{Below.Runs.Headline.{StandsInOneHistory, cycles_go_on}, Below.Runs.LastCycle.EndsWithCycle}
+use Rattle.mk_trace.specs.{Below.Runs.Headline.{StandsInOneHistory, cycles_go_on}, Below.Heaps.LastCycle.EndsWithCycle}
 use Rattle.mk_trace.specs.{Below.Runs.Running.IsRunOf, Below.Runs.Unswept.IsUnswept}
 use Rattle.mk_trace.specs.{Below.Runs.declared.outcomes.Outcome.Outcome, Below.Chains.Chains.AreKept}
 use Rattle.mk_trace.specs.Below.Heaps.Reports as report

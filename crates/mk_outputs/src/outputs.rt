@@ -15,7 +15,7 @@ use crate::traces::played;
 use mk_check::check;
 use mk_io::{Source, read_all};
 use mk_script::{Program, parse, print};
-use mk_trace::lower::runs::Pace;
+use mk_trace::lower::heaps::Pace;
 use std::alloc::Global;
 use std::sync::Wait;
 use std::thread::Threads;

@@ -10,7 +10,7 @@ use crate::generating::generate;
 use crate::running::outcome_of;
 use mk_check::Text;
 use mk_never::NoMemory;
-use mk_trace::lower::runs::Pace;
+use mk_trace::lower::heaps::Pace;
 use std::alloc::Global;
 use std::sync::Wait;
 use std::thread::Threads;

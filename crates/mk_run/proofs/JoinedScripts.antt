@@ -2,16 +2,14 @@
 use Rattle.std.proofs.Common.{IsOk, OnOk, Result, slice_get}
 use Rattle.mk_laws.proofs.Vocabulary.{Bool, Caller, Config, Event, List, Seat, Some, ℕ, ap, arith, length, subst, suc}
 use Rattle.mk_laws.proofs.Vocabulary.{sym, zero, [], ◌++◌, ◌+◌, ◌<◌, ◌∷◌, ◌≡◌, ◌≤◌, ◌⊎◌}
-use Rattle.mk_run.proofs.Vocabulary.{AreTextsFrom, CallerState, EndsScript, FollowsScript, Grows, Has, HasJoined}
-use Rattle.mk_run.proofs.Vocabulary.{HasMade, HostState, IfOk, IsAtHome, IsFirstPass, IsScript, IsTextOf, Item}
-use Rattle.mk_run.proofs.Vocabulary.{PassState, Text, WordsState, answers_in, has_first, has_left, script_names}
-use Rattle.mk_run.proofs.{Vocabulary.{slice_get_within, with_joined, ⊎_elim}, LaterLists.{of_one, still_ends}}
-use Rattle.mk_run.proofs.LaterLists.{still_follows, still_text}
+use Rattle.mk_run.proofs.Vocabulary.{AreTextsFrom, EndsScript, FollowsScript, Grows, Has, HasJoined, HostState, IfOk}
+use Rattle.mk_run.proofs.Vocabulary.{IsScript, IsTextOf, Item, PassState, Text, WordsState, answers_in, has_first}
+use Rattle.mk_run.proofs.Vocabulary.{has_left, script_names, slice_get_within, with_joined, ⊎_elim}
 use Rattle.mk_never.specs.declared.never_heap.NoMemory.{NoMemory}
 use Rattle.mk_core.specs.History.{calls_from}
-use Rattle.mk_heap.specs.{Below.Callers.States.IsIdleCaller, Hosts.{pass_for, with_caller_made}}
-use Rattle.mk_heap.proofs.Below.Words.Seats.{has_right, without_keeps}
+use Rattle.mk_heap.proofs.Below.Words.Seats.{has_right}
 use Rattle.mk_check.proofs.AdmittedScripts.{first_are_noted}
+use Rattle.mk_run.proofs.LaterLists.{of_one, still_ends, still_follows, still_text}
 
 -- Before the first call.
 
@@ -31,15 +29,6 @@ pub follows_at_first : (on : Bool) (program : List Item) (k : ℕ) (c : Config) 
     → FollowsScript on program k c es
 follows_at_first on program k c es is =
     subst (λ (l : List Event). FollowsScript on program k c l) (sym is) (first_follows on program k c)
-
--- The host makes the next caller.
-
-pub next_made : {w : WordsState} {k : ℕ} {h : HostState} → HasMade w k h → HasMade w (k + 1) (with_caller_made h)
-next_made made = grind (arith, without_keeps)
-
-pub first_pass : {w : WordsState} {k : ℕ} {h : HostState} (s : CallerState) (p : PassState) → HasMade w k h
-    → IsAtHome s (pass_for h (Caller h.callers)) → p ≡ s.pass → IsIdleCaller s.pass → IsFirstPass w k p
-first_pass s p made is same idle = grind arith
 
 -- One more is joined.
 

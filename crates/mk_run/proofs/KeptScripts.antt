@@ -4,14 +4,13 @@ use Rattle.mk_laws.proofs.Vocabulary.{enabled_in_parts, enabled_meets, false, gr
 use Rattle.mk_laws.proofs.Vocabulary.{ltb-true, refl, seat_exists, subst, sym, through, true, true≢false, [], ◌++◌, ◌+◌}
 use Rattle.mk_laws.proofs.Vocabulary.{◌∙◌, ◌∷◌, ◌≡◌, ◌≤◌}
 use Rattle.mk_run.proofs.Vocabulary.{CallerState, Grows, Has, IsAtHome, IsFirstPass, IsScript, IsWhole, Item, PassKeeps}
-use Rattle.mk_run.proofs.Vocabulary.{PassState, StaysBeside, WordsState, config_of, has_first, script_names, ⊎_elim}
+use Rattle.mk_run.proofs.Vocabulary.{PassState, WordsState, config_of, has_first, script_names, ⊎_elim}
 use Rattle.mk_core.specs.History.{AreEnabledFrom}
-use Rattle.mk_heap.proofs.Below.Cycles.Begun.{begun_append, kinds_begin_none, others_begin_none}
-use Rattle.mk_heap.proofs.Below.Words.Sweeping.{kinds_sweep}
-use Rattle.mk_heap.specs.{Below.Cycles.Begun.{AreBegunFirst, CyclesAreBegun, IsBegunFirst}, Below.Words.States.world_of}
+use Rattle.mk_heap.proofs.Below.Cycles.Begun.{begun_append, others_begin_none}
+use Rattle.mk_heap.specs.Below.Cycles.Begun.{AreBegunFirst, CyclesAreBegun, IsBegunFirst}
+use Rattle.mk_run.proofs.{JoinedScripts.same_or_later, UnsweptHistories.{markers_sweep, none_sweeps}}
+use Rattle.mk_run.specs.{Keeping.{ScriptsKeep, SeatKeeps}, Unswept.IsUnswept}
 use Rattle.mk_run.proofs.UnsweptScripts.{first_sweeps, others_on as others_sweep_on, seat_on as seat_sweeps_on}
-use Rattle.mk_run.proofs.{JoinedScripts.same_or_later, UnsweptHistories.markers_sweep, UnsweptHistories.none_sweeps}
-use Rattle.mk_run.specs.{Keeping.ScriptsKeep, Keeping.SeatKeeps, Scripts.is_beside_turns, Unswept.IsUnswept}
 
 nowhere : (before : List Event) (e : Event) (behind : List Event) → [] ≡ before ++ e ∷ behind → ⊥
 nowhere [] e behind is = cc
@@ -24,22 +23,6 @@ unfolding AreEnabledFrom
 open_to_its_seat b history = grind (arith, enabled_in_parts, enabled_meets)
 
 module _ {sweeps : Bool} {begins : Config → Seat → List Event → List Event → Type 0} where
-  -- a call beside the turn
-  pub beside_keeps : {p q : PassState} → StaysBeside p q → PassKeeps sweeps begins p q
-  beside_keeps {p} h = record {
-    reached = λ off. record {
-      more = h.more;
-      is = h.is;
-      none = kinds_sweep is_beside_turns p.table.config p.seat (world_of p) h.more (λ x beside. grind arith) h.steps;
-    };
-    begun = record {
-      more = h.more;
-      is = h.is;
-      each = λ b own. absurd (kinds_begin_none is_beside_turns p.table.config p.seat (world_of p) h.more
-          (λ x beside. grind arith) h.steps b own);
-    };
-  }
-
   -- before the first event
   first_keeps : (c : Config) (s : Seat) (es : List Event) → es ≡ [] → SeatKeeps sweeps begins c s es
   first_keeps c s es is = record {

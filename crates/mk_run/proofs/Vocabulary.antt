@@ -1,7 +1,7 @@
 -- The words that the proofs of this crate share: they import them from here.
 pub use Rattle.std.proofs.{Common.{IfOk, rules, ⊎_elim}, lemmas.List.append_cancel_left, lemmas.Option.slice_get_within}
 pub use Rattle.mk_core.specs.Growing.{Grows}
-pub use Rattle.mk_heap.{proofs.Below.Objects.CalmStretches.{is_of_cycles}, proofs.MovedHosts.{turn_moves}}
+pub use Rattle.mk_heap.proofs.Below.Objects.CalmStretches.{is_of_cycles}
 pub use Rattle.mk_heap.proofs.{Below.Objects.CycleParts.{finish_does, finish_in}, Below.Objects.ListParts.Lacks}
 pub use Rattle.mk_heap.proofs.Below.Objects.Parts.{has_then, history_before, in_turn_then, seen_then}
 pub use Rattle.mk_heap.proofs.{Below.Objects.UnsweptTurns.keeps_then, Below.Callers.OwnSteps.calls_by}
@@ -10,13 +10,14 @@ pub use Rattle.mk_heap.specs.{Below.Objects.TurnCycles.has_step, Below.Objects.U
 pub use Rattle.mk_heap.specs.{Below.Callers.Causes.FindsGateHeld, Below.Callers.States.{CallerState, IsAtHome}}
 pub use Rattle.mk_heap.specs.{Below.Callers.States.IsHomePass, Below.Words.Seats.{Has, HasCallers}}
 pub use Rattle.mk_heap.specs.{Below.Words.States.{PassState, WordsState}, Below.Words.TurnSteps.turn_stays}
-pub use Rattle.mk_heap.specs.{Ending.SaysOver, Hosts.{HostState, with_joined}, Reports.IsWhole}
 pub use Rattle.mk_check.specs.{Declarations.config_of, Feed.{feed, is_refusal}, Feeding.next_op}
 pub use Rattle.mk_check.specs.{Laws.{IsChecked, IsScript}, declared.text.Text.Text}
+pub use Rattle.mk_heap.specs.{Ending.SaysOver, Hosts.{HostState, with_joined}, Reports.IsWhole}
 pub use Rattle.mk_script.specs.{Scopes.script_names, declared.items.Item.Item}
-pub use Rattle.mk_run.specs.{Ready.{AreReadyFrom, IsReadyScript}, HostTurns.HostComesLast}
-pub use Rattle.mk_run.specs.Joining.{AreTextsFrom, HasJoined, HasMade, IsFirstPass}
-pub use Rattle.mk_run.specs.{LastTurns.{CallersAreStill, TakesLastTurns}, Marking.IsOver}
+pub use Rattle.mk_heap.specs.{HostTurns.HostComesLast, LastTurns.{CallersAreStill, TakesLastTurns}}
+pub use Rattle.mk_heap.specs.Dispatching.{Answers, StaysAdmitted, StaysBeside}
+pub use Rattle.mk_run.specs.{Ready.{AreReadyFrom, IsReadyScript}, Marking.IsOver, Scripts.IsFedWith}
+pub use Rattle.mk_heap.specs.Crews.{HasMade, IsFirstPass}
+pub use Rattle.mk_run.specs.Joining.{AreTextsFrom, HasJoined}
 pub use Rattle.mk_run.specs.Running.{EndsScript, FollowsScript, IsRunOf, IsTextOf, answers_in}
-pub use Rattle.mk_run.specs.Scripts.{Answers, IsAdmittedByOwnCalls, IsFedWith, StaysBeside}
 pub use Rattle.mk_run.specs.declared.outcomes.Outcome.{Outcome}

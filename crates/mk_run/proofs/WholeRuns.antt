@@ -1,11 +1,11 @@
 -- A run of all scripts, when the heap is closed.
-use Rattle.mk_laws.proofs.Vocabulary.{Bool, Caller, Config, Event, List, Seat, ℕ, arith, subst, sym, true, [], ◌+◌, ◌∙◌}
-use Rattle.mk_laws.proofs.Vocabulary.{◌∷◌, ◌≡◌, ◌≤◌}
-use Rattle.mk_run.proofs.Vocabulary.{AreTextsFrom, CallersAreStill, EndsScript, FollowsScript, Grows, Has, HasCallers}
-use Rattle.mk_run.proofs.Vocabulary.{HasJoined, HostComesLast, HostState, IsOver, IsRunOf, IsScript, IsTextOf, IsWhole}
-use Rattle.mk_run.proofs.Vocabulary.{Item, Outcome, Text, WordsState, config_of, slice_get_within}
-use Rattle.mk_run.{proofs.LaterLists.{still_ends, still_follows, still_text}, specs.declared.joining.Joined.{Joined}}
-use Rattle.mk_heap.specs.{Ending.CallersAreJoined, Hosts.AllAreJoined, Reports.HasCounts, Below.Words.Seats.has_over}
+use Rattle.mk_laws.proofs.Vocabulary.{Bool, Caller, Config, Event, List, ℕ, arith, subst, sym, true, [], ◌+◌, ◌∙◌, ◌∷◌}
+use Rattle.mk_laws.proofs.Vocabulary.{◌≡◌, ◌≤◌}
+use Rattle.mk_run.proofs.Vocabulary.{AreTextsFrom, CallersAreStill, EndsScript, FollowsScript, Grows, HasCallers}
+use Rattle.mk_run.proofs.Vocabulary.{HasJoined, HostComesLast, HostState, IsRunOf, IsScript, IsTextOf, IsWhole, Item}
+use Rattle.mk_run.proofs.Vocabulary.{Outcome, Text, WordsState, config_of, slice_get_within}
+use Rattle.mk_run.proofs.LaterLists.{still_ends, still_follows, still_text}
+use Rattle.mk_heap.specs.{Ending.CallersAreJoined, Hosts.with_seen, Reports.HasCounts, Below.Words.Seats.has_over}
 use Rattle.mk_heap.specs.Reports as report
 
 pub all_callers_joined : {on : Bool} {program : List Item} {w : WordsState} {h : HostState}
@@ -24,14 +24,16 @@ module _ {on : Bool} {program : List Item} {w : WordsState} {h : HostState} (fs 
   later : (k : ℕ) → 0 ≤ k → IsScript program k → Grows (Caller k ∷ []) h.pass.seen fs
   later k le is = still k (joined.seats k le is)
 
-  pub still_joined : (seats : List Seat) → ((k : ℕ) → Has h.pass.seats (Caller k) → Has seats (Caller k))
-      → HasJoined on program w 0 (record h { pass = record h.pass { seats = seats; seen = fs } })
-  still_joined seats keep = record {
+  pub still_follows_on : (k : ℕ) → 0 ≤ k → IsScript program k → FollowsScript on program k w.config fs
+  still_follows_on k le is = still_follows program w.config (later k le is) (joined.follow k le is)
+
+  pub still_joined : HasJoined on program w 0 (with_seen h fs)
+  still_joined = record {
     table = joined.table;
     seat = joined.seat;
     count = joined.count;
-    seats = λ k le is. keep k (joined.seats k le is);
-    follow = λ k le is. still_follows program w.config (later k le is) (joined.follow k le is);
+    seats = joined.seats;
+    follow = still_follows_on;
   }
 
   pub still_texts : {texts : List Text} → AreTextsFrom program 0 w.config h.pass.seen texts
@@ -45,13 +47,6 @@ module _ {on : Bool} {program : List Item} {w : WordsState} {h : HostState} (fs 
   }
 
 -- When the heap is closed.
-
-pub all_joined : {on with_cycle : Bool} {program : List Item} {w : WordsState} {joined : Joined}
-    → IsOver on with_cycle program w 0 joined → AllAreJoined joined.host
-all_joined {on} {program} {w} {joined} over = record {
-  callers = all_callers_joined over.is_host;
-  markers = λ i lt. over.markers i (omega arith) lt;
-}
 
 pub is_run : {on with_cycle : Bool} {program : List Item} (markers : ℕ) {w : WordsState} {h : HostState}
     (outcome : Outcome)

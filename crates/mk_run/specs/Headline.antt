@@ -9,7 +9,8 @@ use Rattle.mk_heap.specs.Reports.{IsWhole}
 use Rattle.mk_heap.specs.{Below.Cycles.Roots.CyclesMarkRootsFirst, Below.Objects.TurnCycles.TurnsOfAreExact}
 use Rattle.mk_heap.specs.{Below.Words.Seats.has_over, Below.Objects.Bounds.QuarantineIsBounded}
 use Rattle.mk_laws.specs.{Precision.CyclesArePrecise, Promises.KeepsAllPromises}
-use Rattle.mk_run.specs.{declared.outcomes.Outcome.Outcome, HostTurns.HostComesLast, Running.{answers_in, IsRunOf}}
+use Rattle.mk_heap.specs.HostTurns.{HostComesLast}
+use Rattle.mk_run.specs.{declared.outcomes.Outcome.Outcome, Running.{answers_in, IsRunOf}}
 use Rattle.mk_run.specs.Unswept.{IsUnswept}
 use Rattle.mk_heap.specs.Reports as report
 

@@ -3,20 +3,12 @@
 use Rattle.std.specs.Prelude.{◌≡◌, ℕ, ◌+◌, ◌≤◌, Bool, false, List, [], ◌∷◌, length, slice_get, Some, IfOk}
 use Rattle.mk_core.specs.{declared.events.Event.Event, declared.events.Seat.TheVariants.{Caller, Host}}
 use Rattle.mk_core.specs.{declared.config.Config.Config, Growing.AreOfOthers}
-use Rattle.mk_heap.specs.{Below.Words.Seats.{Has, has_over}, Below.Words.States.{WordsState, PassState}}
+use Rattle.mk_heap.specs.{Below.Words.Seats.{Has, has_over}, Below.Words.States.WordsState}
 use Rattle.mk_heap.specs.{Below.Callers.States.IsIdleCaller, Hosts.HostState}
 use Rattle.mk_script.specs.{declared.items.Item.Item, Scopes.script_names}
 use Rattle.mk_check.specs.{Laws.IsScript, declared.text.Text.Text}
 use Rattle.mk_run.specs.{Running.{FollowsScript, EndsScript, IsTextOf}, declared.joining.Ran.Ran}
 use Rattle.mk_run.specs.declared.joining.Joined.{Joined}
-
--- The pass of script k's caller, before its first call.
-pub record IsFirstPass (w : WordsState) (k : ℕ) (p : PassState) : Type 0 where
-  pub table : p.table ≡ w
-  pub seat : p.seat ≡ Caller k
-  pub alone : p.seats ≡ Caller k ∷ []
-  pub seen : p.seen ≡ []
-  pub idle : IsIdleCaller p
 
 -- Script k ran on a thread of its own, to its end where memory sufficed.
 pub record HasRun (on : Bool) (program : List Item) (w : WordsState) (k : ℕ) (ran : Ran) : Type 0 where
@@ -27,14 +19,6 @@ pub record HasRun (on : Bool) (program : List Item) (w : WordsState) (k : ℕ) (
   pub follows : FollowsScript on program k w.config ran.pass.seen
   pub ends : IfOk ran.text (λ text. EndsScript program k w.config ran.pass.seen)
   pub is_text : IfOk ran.text (IsTextOf program k w.config ran.pass.seen)
-
--- The host has made the callers below k, and joined none.
-pub record HasMade (w : WordsState) (k : ℕ) (h : HostState) : Type 0 where
-  pub table : h.pass.table ≡ w
-  pub seat : h.pass.seat ≡ Host
-  pub own : Has h.pass.seats Host
-  pub seen : h.pass.seen ≡ []
-  pub count : h.callers ≡ k
 
 -- The texts of the scripts from k on, which ran to their ends.
 pub record AreTextsFrom (program : List Item) (k : ℕ) (c : Config) (es : List Event) (texts : List Text) : Type 0 where

@@ -6,9 +6,6 @@ pub mod Headline
 pub mod ObservedRuns
 pub mod Running
 pub mod Scripts
-pub mod LastCycle
-pub mod LastTurns
-pub mod HostTurns
 pub mod Unswept
 pub mod UnsweptSeats
 pub mod Keeping

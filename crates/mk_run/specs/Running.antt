@@ -7,7 +7,8 @@ use Rattle.mk_check.specs.{Declarations.config_of, Feed.{feed, has_ended, is_ref
 use Rattle.mk_check.specs.{Output.answers_among, declared.text.Text.Text}
 use Rattle.mk_heap.specs.{Below.Words.Seats.has_over, Below.Objects.TurnCycles.TurnsOfAreExact}
 use Rattle.mk_heap.specs.Reports.{IsWhole, HasCounts}
-use Rattle.mk_run.specs.{declared.outcomes.Outcome.Outcome, HostTurns.HostComesLast}
+use Rattle.mk_heap.specs.HostTurns.{HostComesLast}
+use Rattle.mk_run.specs.declared.outcomes.Outcome.{Outcome}
 use Rattle.mk_heap.specs.Reports as report
 
 -- the answers of caller k's calls of a history

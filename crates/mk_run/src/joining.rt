@@ -1,20 +1,20 @@
 //! Scripts on threads of their own, and the host that joins them.
-ghost use Rattle.std.specs.{Prelude.{◌≡◌, ◌+◌, ◌∷◌, IfOk, IsOk, OnOk}, Thread.IsSync};
+ghost use Rattle.std.specs.{Prelude.◌+◌, Thread.IsSync};
 ghost use Rattle.mk_check.specs.Laws.{IsScript};
-ghost use Rattle.mk_run.specs.{Joining.{IsFirstPass, HasMade, HasRun, AreJoined}, Keeping.{ScriptsKeep, SeatKeeps}};
+ghost use Rattle.mk_heap.specs.Crews.{HasMade, IsFirstPass};
+ghost use Rattle.mk_run.specs.{Joining.{AreJoined, HasRun}, Keeping.{ScriptsKeep, SeatKeeps}};
 ghost use Rattle.mk_run.specs.Ready.{AreReadyFrom, IsReadyScript};
 ghost use Rattle.mk_core.specs.declared.events.Seat.TheVariants as seat;
 ghost use denote.Param.Send.{IsSend};
 
-use crate::paces::Pace;
 use crate::ready::ReadyScript;
 use crate::runs::Run;
 use crate::scripts::run_script;
 use mk_check::Text;
-use mk_heap::Host;
 use mk_heap::lower::callers::Caller;
 use mk_heap::lower::cycles::Engine;
 use mk_heap::lower::words::Pass;
+use mk_heap::{Host, Pace, with_first};
 use mk_never::NoMemory;
 use std::collections::VecDeque;
 use std::sync::Wait;
@@ -58,21 +58,6 @@ fn run_alone<E: Engine, P: Pace, R: Threads + Wait + Sync>(
     }
 }
 
-/// What one thread returned before what others did, where memory suffices.
-pub fn with_first<T: Drop>(
-    first: Result<T, NoMemory>,
-    others: Result<Vec<T>, NoMemory>,
-) -> Result<Vec<T>, NoMemory>
-    ensures first { OnOk result (IsOk first) }
-    ensures others { OnOk result (IsOk others) }
-    ensures items { IfOk result (λ all. IfOk first (λ x. IfOk others (λ xs. all.items ≡ x ∷ xs.items))) }
-{
-    let first = first?;
-    let mut all = others?;
-    all.insert(0, first)?;
-    Ok(all)
-}
-
 /// Runs the scripts from `k` on, each on a thread of its own, and joins them. A script whose thread can't be started
 /// runs here.
 pub(crate) fn run_from<E: Engine + Send, P: Pace + Sync, R: Threads + Wait + Sync>(
@@ -84,9 +69,9 @@ pub(crate) fn run_from<E: Engine + Send, P: Pace + Sync, R: Threads + Wait + Syn
     mut scripts: VecDeque<ReadyScript<E>>,
 ) -> Joined
     requires shared { IsSync R.row × IsSync P.row × IsSend E.row }
-    requires host { HasMade run.now.heap.now k host }
+    requires host { HasMade run.now.heap.now run.now.markers k host }
     requires scripts { AreReadyFrom E.made_for run.now.program.now run.now.heap.now.config k scripts.items }
-    ensures joined { AreJoined E.on run.now.program.now run.now.heap.now k host.markers result }
+    ensures joined { AreJoined E.on run.now.program.now run.now.heap.now k run.now.markers result }
     ensures keep { ScriptsKeep E.sweeps E.begins run.now.program.now k run.now.heap.now.config
         result.host.pass.seen }
 {
@@ -110,11 +95,11 @@ pub(crate) fn run_from<E: Engine + Send, P: Pace + Sync, R: Threads + Wait + Syn
         { run_alone(rt, run, pace, k, pass, ready) },
         move || -> Joined
             requires shared { IsSync R.row × IsSync P.row × IsSend E.row }
-            requires host { HasMade run.now.heap.now (k + 1) host }
+            requires host { HasMade run.now.heap.now run.now.markers (k + 1) host }
             requires scripts { AreReadyFrom E.made_for run.now.program.now run.now.heap.now.config (k + 1)
                 scripts.items }
-            ensures joined { AreJoined E.on run.entry.now.program.now run.entry.now.heap.now (k + 1) host.markers
-                result }
+            ensures joined { AreJoined E.on run.entry.now.program.now run.entry.now.heap.now (k + 1)
+                run.entry.now.markers result }
             ensures keep { ScriptsKeep E.sweeps E.begins run.entry.now.program.now (k + 1)
                 run.entry.now.heap.now.config result.host.pass.seen }
         { run_from(rt, run, pace, k + 1, host, scripts) },

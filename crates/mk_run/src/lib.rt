@@ -3,26 +3,19 @@
 //! Start with `running`, then `scripts`; `joining` and `marking` start the threads.
 #![tactic(auto)]
 
-mod answers;
 mod joining;
-mod last_turns;
 pub mod laws;
 pub mod lower;
 mod marking;
 mod outcomes;
-mod paces;
 mod ready;
 mod running;
 mod runs;
 mod scripts;
 mod why;
 
-pub use answers::{answer_now, answer_to, call};
-pub use joining::with_first;
-pub use marking::mark_until_over;
 pub use outcomes::Outcome;
-pub use paces::{NoPace, Pace};
 pub use ready::ReadyScript;
-pub use running::{run_all, run_with_cycle};
+pub use running::run_all;
 pub use scripts::run_script;
 pub use why::run_why;

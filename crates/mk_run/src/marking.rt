@@ -1,81 +1,23 @@
-//! Markers on threads of their own, beside the scripts.
-ghost use Rattle.std.specs.{Prelude.{◌≡◌, ◌+◌, true, false}, Thread.IsSync};
-ghost use Rattle.mk_heap.specs.Below.Markers.Markers.{attends};
-ghost use Rattle.mk_run.specs.{Joining.HasMade, Keeping.ScriptsKeep, LastTurns.TakesLastTurns};
-ghost use Rattle.mk_run.specs.{Marking.{IsMarkersPass, IsOver}, Ready.IsReadyRun};
+//! Scripts with markers beside them, from their first calls to the host's word that all is over.
+ghost use Rattle.std.specs.{Prelude.{◌≡◌, true}, Thread.IsSync};
+ghost use Rattle.mk_heap.specs.{Crews.HasMade, Hosts.AllAreJoined, LastTurns.TakesLastTurns};
+ghost use Rattle.mk_run.specs.{Keeping.ScriptsKeep, Marking.IsOver, Ready.IsReadyRun};
 ghost use denote.Param.Send.{IsSend};
 
 use crate::joining::{Joined, run_from};
-use crate::last_turns::take_last_turns;
-use crate::paces::Pace;
 use crate::ready::ReadyRun;
 use crate::runs::Run;
-use mk_core::Phase;
+use mk_check::Text;
 use mk_heap::lower::cycles::Engine;
-use mk_heap::lower::markers::{Marker, NotMarking, Work};
-use mk_heap::lower::words::{Pass, Patience, Words};
-use mk_heap::{Heap, Host};
+use mk_heap::{Host, Pace, beside_markers, take_last_turns};
+use mk_never::NoMemory;
 use std::sync::Wait;
-use std::thread;
 use std::thread::Threads;
 
-/// Marks for the cycle that is on, until its close is wanted.
-fn mark_until_wanted<P: Pace, R: Wait>(
-    rt: &R,
-    words: &Words,
-    marker: &mut Marker,
-    number: u64,
-    pace: &P,
-)
-    requires attends { attends marker.old ≡ true }
-    ensures out { attends marker.new ≡ false }
-    ensures pass { marker.new ≡ record marker.old { seen = marker.new.seen } }
-{
-    let mut patience = Patience::new();
-    'cells: for _ in rt.forever() {
-        match marker.work() {
-            Work::Worked => {
-                pace.marked(number);
-                patience.reset();
-            }
-            Work::Idle => patience.pause_for_phase(rt, words, Phase::Marking.number()),
-            Work::Wanted => break,
-        }
-    }
-    marker.quit();
-}
-
-/// The work of a marker's thread: it marks for each cycle that goes on beside the callers, until all is over.
-pub fn mark_until_over<P: Pace, R: Wait>(
-    rt: &R,
-    heap: &Heap,
-    pass: Pass,
-    number: u64,
-    pace: &P,
-) -> Pass
-    requires { IsMarkersPass heap.now number pass }
-    ensures { IsMarkersPass heap.now number result }
-{
-    let words = heap.words();
-    let mut marker = Marker::new(words, pass);
-    let mut patience = Patience::new();
-    'cycles: for _ in rt.forever() {
-        match marker.attend() {
-            Ok(()) => {
-                mark_until_wanted(rt, words, &mut marker, number, pace);
-                patience.reset();
-            }
-            Err(NotMarking { phase: Phase::Over }) => return marker.finish(),
-            Err(NotMarking { phase }) => patience.pause_for_phase(rt, words, phase.number()),
-        }
-    }
-    unreachable!()
-}
-
-/// The scripts that are joined, and the engine of the host's own cycles.
+/// The texts of scripts that are joined, and the engine of the host's own cycles.
 #[derive(Drop)]
-pub(crate) struct Ended<E: Engine> {
-    pub(crate) joined: Joined,
+pub(crate) struct Done<E: Engine> {
+    pub(crate) texts: Result<Vec<Text>, NoMemory>,
     pub(crate) engine: E,
 }
 
@@ -87,15 +29,15 @@ fn run_scripts<E: Engine + Send, P: Pace + Sync, R: Threads + Wait + Sync>(
     pace: &P,
     host: Host,
     ready: ReadyRun<E>,
-) -> Ended<E>
+) -> (Host, Done<E>)
     requires shared { IsSync R.row × IsSync P.row × IsSend E.row }
-    requires host { HasMade run.now.heap.now 0 host }
+    requires host { HasMade run.now.heap.now run.now.markers 0 host }
     requires ready { IsReadyRun E.made_for run.now.program.now run.now.heap.now.config ready }
-    ensures over { IsOver E.on run.now.with_cycle run.now.program.now run.now.heap.now host.markers result.joined }
+    ensures over { IsOver E.on run.now.with_cycle run.now.program.now run.now.heap.now run.now.markers result.0
+        result.1 }
     ensures turns { run.now.with_cycle ≡ true
-        → TakesLastTurns (E.tells result.engine) run.now.heap.now result.joined.host.pass }
-    ensures keep { ScriptsKeep E.sweeps E.begins run.now.program.now 0 run.now.heap.now.config
-        result.joined.host.pass.seen }
+        → TakesLastTurns (E.tells result.1.engine) run.now.heap.now result.0.pass }
+    ensures keep { ScriptsKeep E.sweeps E.begins run.now.program.now 0 run.now.heap.now.config result.0.pass.seen }
 {
     let ReadyRun {
         scripts,
@@ -103,62 +45,46 @@ fn run_scripts<E: Engine + Send, P: Pace + Sync, R: Threads + Wait + Sync>(
     } = ready;
     let Joined { mut host, texts } = run_from(rt, run, pace, 0, host, scripts);
     take_last_turns(rt, run.heap, &mut host, &mut engine, run.with_cycle);
-    Ended {
-        joined: Joined { host, texts },
-        engine,
-    }
+    (host, Done { texts, engine })
 }
 
-/// Runs the markers from `number` on, each on a thread of its own, beside the scripts, and joins all. A marker whose
-/// thread can't be started finds that all is over.
+/// Runs all scripts and markers, each on a thread of its own, and joins them.
 pub(crate) fn run_beside<E: Engine + Send, P: Pace + Sync, R: Threads + Wait + Sync>(
     rt: &R,
     run: &Run,
     pace: &P,
-    number: u64,
-    mut host: Host,
+    host: Host,
     ready: ReadyRun<E>,
-) -> Ended<E>
+) -> (Host, Done<E>)
     requires shared { IsSync R.row × IsSync P.row × IsSend E.row }
-    requires host { HasMade run.now.heap.now 0 host }
-    requires number { host.markers ≡ number }
+    requires host { HasMade run.now.heap.now 0 0 host }
     requires ready { IsReadyRun E.made_for run.now.program.now run.now.heap.now.config ready }
-    ensures over { IsOver E.on run.now.with_cycle run.now.program.now run.now.heap.now number result.joined }
+    ensures over { IsOver E.on run.now.with_cycle run.now.program.now run.now.heap.now run.now.markers result.0
+        result.1 }
+    ensures joined { AllAreJoined result.0 }
     ensures turns { run.now.with_cycle ≡ true
-        → TakesLastTurns (E.tells result.engine) run.now.heap.now result.joined.host.pass }
-    ensures keep { ScriptsKeep E.sweeps E.begins run.now.program.now 0 run.now.heap.now.config
-        result.joined.host.pass.seen }
+        → TakesLastTurns (E.tells result.1.engine) run.now.heap.now result.0.pass }
+    ensures keep { ScriptsKeep E.sweeps E.begins run.now.program.now 0 run.now.heap.now.config result.0.pass.seen }
 {
-    if number >= run.markers {
-        return run_scripts(rt, run, pace, host, ready);
-    }
     let heap = run.heap;
-    let pass = host.marker(heap).finish();
-    let (pass, ended) = thread::join(
+    let markers = run.markers;
+    beside_markers(
         rt,
-        move || -> Pass
-            requires shared { IsSync R.row × IsSync P.row }
-            requires pass { IsMarkersPass heap.now number pass }
-            ensures { IsMarkersPass heap.entry.now number result }
-        { mark_until_over(rt, heap, pass, number, pace) },
-        move || -> Ended<E>
+        heap,
+        pace,
+        markers,
+        0,
+        host,
+        move |host: Host| -> (Host, Done<E>)
             requires shared { IsSync R.row × IsSync P.row × IsSend E.row }
-            requires host { HasMade run.now.heap.now 0 host }
-            requires number { host.markers ≡ number + 1 }
+            requires host { HasMade run.now.heap.now run.now.markers 0 host }
             requires ready { IsReadyRun E.made_for run.now.program.now run.now.heap.now.config ready }
             ensures over { IsOver E.on run.entry.now.with_cycle run.entry.now.program.now run.entry.now.heap.now
-                (number + 1) result.joined }
+                run.entry.now.markers result.0 result.1 }
             ensures turns { run.entry.now.with_cycle ≡ true
-                → TakesLastTurns (E.tells result.engine) run.entry.now.heap.now result.joined.host.pass }
+                → TakesLastTurns (E.tells result.1.engine) run.entry.now.heap.now result.0.pass }
             ensures keep { ScriptsKeep E.sweeps E.begins run.entry.now.program.now 0 run.entry.now.heap.now.config
-                result.joined.host.pass.seen }
-        { run_beside(rt, run, pace, number + 1, host, ready) },
-    );
-    let Ended { joined, engine } = ended;
-    let Joined { mut host, texts } = joined;
-    host.join_marker(heap, pass);
-    Ended {
-        joined: Joined { host, texts },
-        engine,
-    }
+                result.0.pass.seen }
+        { run_scripts(rt, run, pace, host, ready) },
+    )
 }

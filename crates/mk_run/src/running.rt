@@ -1,27 +1,24 @@
 //! The run of a program.
 ghost use Rattle.std.specs.Prelude.{◌≡◌, ◌≤◌, IfOk, true, false};
 ghost use Rattle.mk_check.specs.Declarations.{config_of};
-ghost use Rattle.mk_heap.specs.Below.Cycles.Begun.{CyclesAreBegun};
-ghost use Rattle.mk_heap.specs.Reports.{history_of};
-ghost use Rattle.mk_run.specs.{LastCycle.EndsWithCycle, Running.IsRunOf, Unswept.IsUnswept};
+ghost use Rattle.mk_heap.specs.{Below.Cycles.Begun.CyclesAreBegun, Reports.history_of, LastCycle.EndsWithCycle};
+ghost use Rattle.mk_run.specs.{Running.IsRunOf, Unswept.IsUnswept};
 
-use crate::joining::Joined;
-use crate::marking::{Ended, run_beside};
+use crate::marking::{Done, run_beside};
 use crate::outcomes::Outcome;
-use crate::paces::Pace;
 use crate::ready::ReadyRun;
 use crate::runs::Run;
 use mk_check::Checked;
-use mk_heap::Heap;
 use mk_heap::lower::cycles::Engine;
+use mk_heap::{Heap, Pace};
 use mk_never::NoMemory;
 use std::alloc::Global;
 use std::sync::Wait;
 use std::thread::Threads;
 
-/// Runs all and closes the heap. Where a last cycle is asked for, the host runs it when the scripts are joined, with
-/// the engine that is returned.
-fn run_and_close<E: Engine + Send, P: Pace + Sync, R: Threads + Wait + Sync>(
+/// Runs all and closes the heap. Where a last cycle is asked for, the host runs it when the scripts are joined, before
+/// it announces that all is over. The engine that is returned closed the marks of that cycle.
+pub(crate) fn run_and_close<E: Engine + Send, P: Pace + Sync, R: Threads + Wait + Sync>(
     rt: &R,
     alloc: Global,
     program: &Checked,
@@ -50,8 +47,8 @@ fn run_and_close<E: Engine + Send, P: Pace + Sync, R: Threads + Wait + Sync>(
         markers,
         with_cycle,
     };
-    let Ended { joined, engine } = run_beside(rt, &run, pace, 0, host, ready);
-    let Joined { host, texts } = joined;
+    let (host, done) = run_beside(rt, &run, pace, host, ready);
+    let Done { texts, engine } = done;
     let report = heap.close(host);
     let outcome = Outcome {
         texts: texts?,
@@ -79,26 +76,4 @@ pub fn run_all<E: Engine + Send, P: Pace + Sync, R: Threads + Wait + Sync>(
 {
     let ran: (Outcome, E) = run_and_close(rt, alloc, program, markers, pace, false)?;
     Ok(ran.0)
-}
-
-/// Runs a program as `run_all` does, with a last cycle: the host runs it when the scripts are joined, before it
-/// announces that all is over.
-/// That engine closed the marks of that cycle.
-pub fn run_with_cycle<E: Engine + Send, P: Pace + Sync, R: Threads + Wait + Sync>(
-    rt: &R,
-    alloc: Global,
-    program: &Checked,
-    markers: u64,
-    pace: &P,
-) -> Result<(Outcome, E), NoMemory>
-    requires markers { markers ≤ 8 }
-    ensures runs { IfOk result (λ ran. IsRunOf E.on true program.now markers ran.0) }
-    ensures cycle { IfOk result (λ ran. EndsWithCycle (E.tells ran.1) (config_of program.now markers)
-        (history_of ran.0.report)) }
-    ensures reached { IfOk result (λ ran. E.sweeps ≡ false
-        → IsUnswept (config_of program.now markers) (history_of ran.0.report)) }
-    ensures begun { IfOk result (λ ran.
-        CyclesAreBegun E.begins (config_of program.now markers) (history_of ran.0.report)) }
-{
-    run_and_close(rt, alloc, program, markers, pace, true)
 }

@@ -2,18 +2,17 @@
 ghost use Rattle.std.specs.Prelude.{◌≡◌, ℕ, List, ◌+◌, [], ◌∷◌, count_by, IfOk, OnOk, true};
 ghost use Rattle.mk_core.specs.declared.events.Answer.{Answer};
 ghost use Rattle.mk_script.specs.declared.items.Item.{Item};
-ghost use Rattle.mk_check.specs.{Declarations.config_of, Feed.feed as feed_with, Feeding.IsWaiting, Laws.IsScript};
 ghost use Rattle.mk_heap.specs.{Below.Callers.States.caller_of_pass, Below.Objects.Underway.PassKeeps};
 ghost use Rattle.mk_run.specs.{Ready.IsReadyScript, Running.{answers_in, FollowsScript, EndsScript, IsTextOf}};
 ghost use Rattle.mk_run.specs.Scripts.{CountsHaveRoom, IsFedWith, ScriptTakesAnswer, script_of};
+ghost use Rattle.mk_check.specs.{Declarations.config_of, Feed.feed as feed_with, Feeding.IsWaiting, Laws.IsScript};
 
-use crate::answers::{answer_at_once, answer_put_off};
-use crate::paces::Pace;
 use crate::ready::ReadyScript;
 use mk_check::{Checked, Feed, Text, is_refusal};
 use mk_core::Answer;
 use mk_heap::lower::callers::Caller;
 use mk_heap::lower::cycles::Engine;
+use mk_heap::{Pace, answer_to};
 use mk_never::NoMemory;
 use std::alloc::Global;
 use std::sync::Wait;
@@ -116,10 +115,7 @@ pub fn run_script<E: Engine, P: Pace, R: Threads + Wait + Sync>(
         };
         let instruction = counts.ops;
         pace.before(k, instruction);
-        let answer = match answer_at_once(caller, op) {
-            Some(answer) => answer,
-            None => answer_put_off(rt, caller, &mut engine, &feed, op),
-        };
+        let answer = answer_to(rt, caller, &mut engine, op);
         pace.answered(k, instruction);
         take_answer(alloc, &mut feed, &mut counts, answer)?;
     }

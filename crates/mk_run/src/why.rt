@@ -1,15 +1,14 @@
 //! The run of a program with a last cycle, and what that cycle keeps.
 ghost use Rattle.std.specs.Prelude.{◌≡◌, ◌≤◌, IfOk, true, false};
 ghost use Rattle.mk_check.specs.Declarations.{config_of};
-ghost use Rattle.mk_heap.specs.Below.Cycles.Begun.{CyclesAreBegun};
-ghost use Rattle.mk_heap.specs.Reports.{history_of};
+ghost use Rattle.mk_heap.specs.{Below.Cycles.Begun.CyclesAreBegun, Reports.history_of, LastCycle.EndsWithCycle};
 ghost use Rattle.mk_why.specs.Chains.{AreKept};
-ghost use Rattle.mk_run.specs.{LastCycle.EndsWithCycle, Running.IsRunOf, Unswept.IsUnswept};
+ghost use Rattle.mk_run.specs.{Running.IsRunOf, Unswept.IsUnswept};
 
 use crate::outcomes::Outcome;
-use crate::paces::Pace;
-use crate::running::run_with_cycle;
+use crate::running::run_and_close;
 use mk_check::Checked;
+use mk_heap::Pace;
 use mk_heap::lower::cycles::Engine;
 use mk_never::NoMemory;
 use mk_why::{Kept, Why};
@@ -35,7 +34,7 @@ pub fn run_why<E: Engine + Send, P: Pace + Sync, R: Threads + Wait + Sync>(
     ensures begun { IfOk result (λ ran.
         CyclesAreBegun E.begins (config_of program.now markers) (history_of ran.0.report)) }
 {
-    let ran: (Outcome, Why<E>) = run_with_cycle(rt, alloc, program, markers, pace)?;
+    let ran: (Outcome, Why<E>) = run_and_close(rt, alloc, program, markers, pace, true)?;
     let (outcome, engine) = ran;
     let kept = engine.kept(alloc)?;
     Ok((outcome, kept))

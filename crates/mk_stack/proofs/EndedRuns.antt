@@ -1,24 +1,20 @@
 -- All that happened on a stack: the founding, the jobs, the reading, and the end, with markers beside them.
-use Rattle.std.proofs.{Common.{Err, IfOk, Ok, Result, ⊎_elim}, lemmas.Result.IfOk-weaker}
-use Rattle.mk_stack.proofs.Vocabulary.{AreOfOthers, Caller, CallerState, Dones, Founded, Founding, GoesToPoint, Grows}
-use Rattle.mk_stack.proofs.Vocabulary.{Has, HasHandedOut, HasStackTypes, HaveDone, Host, HostState, IsAtHome, IsHistory}
-use Rattle.mk_stack.proofs.Vocabulary.{Jobs, Joined, Leads, PassState, ReadsStack, Replied, Seat, WordsState, pass_for}
-use Rattle.mk_stack.proofs.{Vocabulary.{replied_to, with_joined}, JoinedJobs.{next_unasked, same_or_later}}
-use Rattle.mk_stack.proofs.Readers.{by_reader, callers_home, host_home, its_replies, same_callers, same_markers}
-use Rattle.mk_stack.proofs.{Readers.{same_seat, same_table}, StackRuns.{is_stack_run, run_stands}}
-use Rattle.mk_laws.proofs.Vocabulary.{List, Marker, Presence, ℕ, ap, arith, earlier_part_is_history, false}
-use Rattle.mk_laws.proofs.Vocabulary.{is_attending, length, refl, subst, sym, true, [], ◌++◌, ◌+◌, ◌<◌, ◌∙◌, ◌∷◌, ◌≡◌}
-use Rattle.mk_laws.proofs.Vocabulary.{◌≤◌}
+use Rattle.std.proofs.{Common.{Err, IfOk, Ok, Result}, lemmas.Result.IfOk-weaker}
+use Rattle.mk_stack.proofs.Vocabulary.{AreOfOthers, Caller, CallerState, Dones, Founded, Founding, GoesToPoint, Has}
+use Rattle.mk_stack.proofs.Vocabulary.{HasMade, HasStackTypes, HaveDone, Host, HostState, IsAtHome, IsHistory, Jobs}
+use Rattle.mk_stack.proofs.Vocabulary.{Joined, Leads, PassState, ReadsStack, Replied, WordsState, pass_for, replied_to}
+use Rattle.mk_stack.proofs.{JoinedJobs.next_unasked, Readers.{by_reader, callers_home, host_home, its_replies}}
+use Rattle.mk_stack.proofs.Readers.{same_callers, same_markers, same_seat, same_table}
+use Rattle.mk_stack.proofs.StackRuns.{is_stack_run, run_stands}
+use Rattle.mk_laws.proofs.Vocabulary.{List, ℕ, ap, arith, earlier_part_is_history, length, refl, subst, sym, [], ◌++◌}
+use Rattle.mk_laws.proofs.Vocabulary.{◌+◌, ◌<◌, ◌∙◌, ◌∷◌, ◌≡◌}
 use Rattle.mk_never.specs.declared.never_heap.NoMemory.{NoMemory}
-use Rattle.mk_core.specs.{declared.seats.Presence.TheVariants.{Attending, Out, Visiting}, Growing.is_same_seat}
-use Rattle.mk_core.specs.MarkerConditions.{is_out}
-use Rattle.mk_run.proofs.{Below.Heaps.ClientSteps.has_said_over, Below.Heaps.MovedHosts.MovesOn}
-use Rattle.mk_run.proofs.Below.Words.Seats.{has_first, has_left, has_right, others_own, without_keeps}
-use Rattle.mk_run.specs.Below.Heaps.Ending.{CallersAreJoined, SaysOver}
-use Rattle.mk_run.specs.{Below.Heaps.Hosts.{with_marker_made, with_seen}, Below.Markers.Markers.attends}
-use Rattle.mk_run.specs.{Below.Words.Markers.marker_in, Below.Words.Seats.{HasCallers, has_over}}
-use Rattle.mk_run.proofs.HostTurns.{comes_last, host_is_still, over_begins, still_last}
-use Rattle.mk_run.proofs.{LastTurns.{over_moves, still_behind_over}, MarkersBeside.first_marker}
+use Rattle.mk_core.specs.Growing.{is_same_seat}
+use Rattle.mk_heap.proofs.{ClientSteps.has_said_over, MovedHosts.MovesOn, Below.Words.Seats.{others_own, without_keeps}}
+use Rattle.mk_heap.proofs.HostTurns.{comes_last, host_is_still, over_begins, still_last}
+use Rattle.mk_heap.proofs.LastTurns.{over_moves, still_behind_over}
+use Rattle.mk_heap.specs.{Ending.{CallersAreJoined, SaysOver}, Crews.JoinsMarkers, Hosts.{AllAreJoined, with_seen}}
+use Rattle.mk_heap.specs.Below.Words.Seats.{HasCallers}
 use Rattle.mk_stack.specs.{Joining.{HaveEnded, HaveFoundedAndWorked, IsReader}, StackRuns.IsStackRun}
 use Rattle.mk_stack.specs.declared.working.Ended.{Ended}
 
@@ -73,10 +69,10 @@ module _ (w : WordsState) (markers : ℕ) (lists : List Jobs) (joined : Joined) 
       numbers read.all reads.own.is read_history types did.founds count done (by_reader h g reads read_history home)
       (its_replies h g reads read_history home read) read.leads read.reads)
 
-  pub have_ended : (ended : Ended) → ended.host ≡ i → ended.dones ≡ joined.dones
-      → IfOk ended.left (λ left. ReadsStack w.config h left.items g) → HaveEnded w markers lists ended
-  have_ended ended same dones left =
-      subst (λ (x : HostState). HaveEnded w markers lists (record ended { host = x })) (sym same) (record {
+  pub have_ended : (ended : Ended) → ended.dones ≡ joined.dones
+      → IfOk ended.left (λ left. ReadsStack w.config h left.items g) → HaveEnded w markers lists i ended
+  have_ended ended dones left =
+      record {
         table = ap (λ (x : HostState). x.pass.table) is ∙ table;
         own = subst (λ (x : HostState). Has x.pass.seats Host) (sym is) (host_home h g reads did.worked.own);
         over = has_said_over over;
@@ -88,18 +84,16 @@ module _ (w : WordsState) (markers : ℕ) (lists : List Jobs) (joined : Joined) 
             (let now = ap (λ (x : HostState). x.callers) is ∙ same_callers h g reads in
             let then = did.worked.count in omega (arith, now, then));
         callers = λ k lt. rw is (callers_home h g reads k (home k (omega (arith, lt, count))));
-        markers = λ j le lt.
-            (let now = ap (λ (x : HostState). x.markers) is ∙ same_markers h g reads ∙ did.worked.same_markers in
-            absurd (omega (arith, now, le, lt)));
+        same_markers = ap (λ (x : HostState). x.markers) is ∙ same_markers h g reads ∙ did.worked.same_markers;
         run =
             both_ok (λ all. HaveDone w.config h.pass.seen did.founding 0 lists all.items) (λ left. ReadsStack w.config h
             left.items g) (λ all left. IsStackRun w.config i.pass.seen lists all.items left.items) ended.dones
             ended.left (λ all left done read. runs all.items done read) (rw dones did.worked.done) left;
-      })
+      }
 
 -- What the operations of the first caller lead to, before its jobs
 pub founds_stack : {w : WordsState} {markers : ℕ} {h : HostState} (s : CallerState) {q : PassState} (r : PassState)
-    → HasHandedOut w markers 0 h → IsAtHome s (pass_for h (Caller h.callers)) → GoesToPoint s.pass Founding q Founded
+    → HasMade w markers 0 h → IsAtHome s (pass_for h (Caller h.callers)) → GoesToPoint s.pass Founding q Founded
     → r ≡ q → Leads Founding (replied_to r) Founded
 founds_stack s r made is goes same =
     rw (ap replied_to same ∙ goes.did ∙ ap (λ (l : List Replied). l ++ goes.all) (next_unasked s made is)) goes.leads
@@ -112,55 +106,39 @@ callers_are_joined {joined} {g} did reads k lt =
     let then = did.worked.count in
     callers_home joined.host g reads k (did.worked.seats k (omega arith) (omega (arith, lt, now, then)))
 
--- A marker that has done nothing doesn't attend.
+-- All stays so as markers are joined.
+module _ {w : WordsState} {markers : ℕ} {lists : List Jobs} {h g : HostState} {ended : Ended}
+    (all : length lists ≡ w.config.callers) (before : HaveEnded w markers lists h ended) (joins : JoinsMarkers 0 h g)
+  where
+    table_joined : g.pass.table ≡ w
+    table_joined = joins.table ∙ before.table
 
-not_attending : (x : Presence) → is_out x ≡ true → is_attending x ≡ false
-not_attending Out e = refl
-not_attending Attending e = absurd (cc)
-not_attending Visiting e = absurd (cc)
+    history_joined : IsHistory w.config g.pass.seen
+    history_joined = subst (λ (v : WordsState). IsHistory v.config g.pass.seen) table_joined joins.history
 
-pub is_not_attending : {w : WordsState} {j : ℕ} {h : HostState} (m : PassState) → HasHandedOut w j 0 h → j < 8
-    → m ≡ pass_for h (Marker h.markers) → attends m ≡ false
-is_not_attending {w} {j} {h} m made few is =
-    let marker = first_marker w j h m m made.table made.seen made.same_markers few is refl in
-    not_attending (marker_in m).presence marker.out
+    others_joined : (k : ℕ) → k < w.config.callers → AreOfOthers (Caller k ∷ []) joins.behind.more
+    others_joined k lt =
+        others_own h.pass.seats (Caller k) joins.behind.more (before.callers k (omega (arith, lt, all)))
+        joins.behind.of_others
 
-pub marker_made : {w : WordsState} {j : ℕ} {h : HostState} → HasHandedOut w j 0 h
-    → HasHandedOut w (j + 1) 0 (with_marker_made h)
-marker_made {h} made = grind (arith, without_keeps, same_markers)
-
--- One marker more is joined.
-pub marker_joined : {w : WordsState} (j : ℕ) {lists : List Jobs} (p : PassState) {before : Ended} (after : Ended)
-    → length lists ≡ w.config.callers → p.seats ≡ Marker j ∷ [] → HaveEnded w (j + 1) lists before
-    → after.host ≡ with_joined before.host p after.host.pass.seen
-    → Grows before.host.pass.seats before.host.pass.seen after.host.pass.seen
-    → IsHistory after.host.pass.table.config after.host.pass.seen → after.dones ≡ before.dones
-    → after.left ≡ before.left → has_over after.host.pass.seen ≡ has_over before.host.pass.seen
-    → HaveEnded w j lists after
-marker_joined {w} j {lists} p {before} after all alone ended is grows history dones left overs =
-    let h = before.host in
-    let fs = after.host.pass.seen in
-    let seats : after.host.pass.seats ≡ h.pass.seats ++ p.seats = ap (λ (x : HostState). x.pass.seats) is in
-    let mine : Has p.seats (Marker j) =
-    subst (λ (l : List Seat). Has l (Marker j)) (sym alone) (has_first (Marker j) []) in
-    let count : after.host.markers ≡ h.markers = ap (λ (x : HostState). x.markers) is in
-    let table : after.host.pass.table ≡ w = ap (λ (x : HostState). x.pass.table) is ∙ ended.table in
-    let last : IsHistory w.config fs = subst (λ (v : WordsState). IsHistory v.config fs) table history in
-    let others : (k : ℕ) → k < w.config.callers → AreOfOthers (Caller k ∷ []) grows.more =
-    λ k lt. others_own h.pass.seats (Caller k) grows.more (ended.callers k (omega (arith, lt, all))) grows.of_others in
-    record {
-      table = table;
-      own = subst (λ (l : List Seat). Has l Host) (sym seats) (has_left h.pass.seats p.seats Host ended.own);
-      over = overs ∙ ended.over;
-      last = still_last w.config h.pass ended.own (λ k lt. ended.callers k (omega (arith, lt, all))) grows last
-          ended.last;
-      count = ap (λ (x : HostState). x.callers) is ∙ ended.count;
-      callers = λ k lt. rw seats (has_left h.pass.seats p.seats (Caller k) (ended.callers k lt));
-      markers = λ i le lt. rw seats (⊎_elim (λ (e : i ≡ j). has_right h.pass.seats p.seats (Marker i)
-          (subst (λ (n : ℕ). Has p.seats (Marker n)) (sym e) mine)) (λ (later : j + 1 ≤ i). has_left h.pass.seats
-          p.seats (Marker i) (ended.markers i later (omega (arith, lt, count)))) (same_or_later j i le));
+    pub ended_joined : HaveEnded w markers lists g ended
+    ended_joined = record {
+      table = table_joined;
+      own = joins.home Host before.own;
+      over = joins.overs ∙ before.over;
+      last = still_last w.config h.pass before.own (λ k lt. before.callers k (omega (arith, lt, all))) joins.behind
+          history_joined before.last;
+      count = joins.callers ∙ before.count;
+      callers = λ k lt. joins.home (Caller k) (before.callers k lt);
+      same_markers = joins.same_markers ∙ before.same_markers;
       run =
-          rw dones (rw left (still_ok (λ all left. IsStackRun w.config h.pass.seen lists all.items left.items)
-          (λ all left. IsStackRun w.config fs lists all.items left.items) before.dones before.left
-          (λ all left run. run_stands grows.more grows.is last others run) ended.run));
+          still_ok (λ dones left. IsStackRun w.config h.pass.seen lists dones.items left.items)
+          (λ dones left. IsStackRun w.config g.pass.seen lists dones.items left.items) ended.dones ended.left
+          (λ dones left run. run_stands joins.behind.more joins.behind.is history_joined others_joined run) before.run;
+    }
+
+    pub all_joined : AllAreJoined g
+    all_joined = record {
+      callers = λ k lt. ended_joined.callers k (omega (arith, lt, ended_joined.count));
+      markers = λ i lt. joins.markers i (omega arith) lt;
     }

@@ -2,7 +2,8 @@
 use Rattle.mk_stack.proofs.Vocabulary.{CallerState, GoesToPoint, HasStackTypes, Leads, PassState, Point, Replied}
 use Rattle.mk_stack.proofs.Vocabulary.{caller_of_pass}
 use Rattle.mk_laws.proofs.Vocabulary.{List, ℕ, ap, append_assoc, arith, subst, sym, true, [], ◌++◌, ◌<◌, ◌∙◌, ◌∷◌, ◌≡◌}
-use Rattle.mk_stack.{proofs.Advances.Advances, proofs.Replies.Stays, specs.Ready.IsReady, specs.Ready.IsReadyForJobs}
+use Rattle.mk_stack.proofs.Advances.{Advances}
+use Rattle.mk_stack.specs.Ready.{IsReady, IsReadyForJobs}
 
 pub leads_through : (s : Point) (xs : List Replied) (t : Point) (ys : List Replied) (u : Point) → Leads s xs t
     → Leads t ys u → Leads s (xs ++ ys) u
@@ -21,9 +22,6 @@ goes_once on = grind arith
 
 pub goes_more : {p q r : PassState} {s t u : Point} → GoesToPoint p s q t → Advances q t r u → GoesToPoint p s r u
 goes_more goes on = goes_through goes (goes_once on)
-
-pub goes_held : {p q : PassState} (r : PassState) {s t : Point} → GoesToPoint p s q t → Stays q r → GoesToPoint p s r t
-goes_held r goes on = grind (arith, seen_then)
 
 -- A caller that has seen more is ready still.
 

@@ -1,20 +1,20 @@
 -- Callers that did their jobs, as the host joins them.
 use Rattle.std.proofs.{Common.{Err, IfOk, IsOk, Ok, OnOk, Result, slice_get}, lemmas.List.drop_more}
 use Rattle.std.proofs.lemmas.Option.{slice_get-get_or}
-use Rattle.mk_stack.proofs.Vocabulary.{Caller, CallerState, Config, DoesJobs, Done, Dones, Event, Grows, Has}
-use Rattle.mk_stack.proofs.Vocabulary.{HasHandedOut, HasStackTypes, HaveDone, HaveWorked, Host, HostState, IsAtHome}
-use Rattle.mk_stack.proofs.Vocabulary.{Job, Jobs, Joined, PassState, Replied, Seat, WordsState, caller_of_pass}
-use Rattle.mk_stack.proofs.{Vocabulary.{pass_for, replied_in, replied_to, with_joined}, OwnCalls.none_of}
-use Rattle.mk_stack.{proofs.Replies.{same_replied}, specs.declared.joining.Worked.{Worked}}
+use Rattle.mk_stack.proofs.Vocabulary.{Caller, CallerState, Config, DoesJobs, Done, Dones, Event, Grows, Has, HasMade}
+use Rattle.mk_stack.proofs.Vocabulary.{HasStackTypes, HaveDone, HaveWorked, Host, HostState, IsAtHome, Job, Jobs}
+use Rattle.mk_stack.proofs.Vocabulary.{Joined, PassState, Replied, Seat, WordsState, caller_of_pass, pass_for}
+use Rattle.mk_stack.proofs.Vocabulary.{replied_in, replied_to, with_joined}
+use Rattle.mk_stack.proofs.{OwnCalls.none_of, Replies.same_replied}
+use Rattle.mk_stack.specs.{declared.joining.Worked.Worked, Joining.{HasWorked, IsBetweenJobs}, JobLists.HasDone}
+use Rattle.mk_stack.specs.Ready.{IsReadyForJobs}
 use Rattle.mk_laws.proofs.Vocabulary.{List, Some, ℕ, ap, arith, drop, get_or, length, refl, subst, sym, true, [], ◌++◌}
 use Rattle.mk_laws.proofs.Vocabulary.{◌+◌, ◌<◌, ◌∙◌, ◌∷◌, ◌≡◌, ◌≤◌, ◌⊎◌}
 use Rattle.mk_never.specs.declared.never_heap.NoMemory.{NoMemory}
 use Rattle.mk_core.specs.History.{calls_from}
-use Rattle.mk_run.specs.{Below.Callers.States.IsIdleCaller, Below.Heaps.Hosts.with_caller_made}
-use Rattle.mk_run.specs.Below.Words.Seats.{has_over}
-use Rattle.mk_run.proofs.Below.Words.Seats.{has_first, has_left, has_right, others_own, without_keeps}
-use Rattle.mk_run.proofs.HostTurns.{host_is_still, unseen_by_host}
-use Rattle.mk_stack.specs.{Joining.{HasWorked, IsBetweenJobs}, JobLists.HasDone, Ready.IsReadyForJobs}
+use Rattle.mk_heap.proofs.Below.Words.Seats.{has_first, has_left, has_right, others_own}
+use Rattle.mk_heap.proofs.HostTurns.{host_is_still, unseen_by_host}
+use Rattle.mk_heap.specs.{Below.Callers.States.IsIdleCaller, Below.Words.Seats.has_over}
 
 -- What a caller did stands where the list goes on by events of others.
 
@@ -47,19 +47,15 @@ unasked p is = ap (replied_in p.table.config (caller_of_pass p)) is ∙ no_reply
 
 -- The host makes the next caller.
 
-pub next_made : {w : WordsState} {markers n : ℕ} {h : HostState} → HasHandedOut w markers n h
-    → HasHandedOut w markers (n + 1) (with_caller_made h)
-next_made {h} made = grind (arith, without_keeps)
-
 pub is_ready : {w : WordsState} {k : ℕ} {p q : PassState} → IsBetweenJobs w k p → q ≡ record p { seen = q.seen }
     → IsIdleCaller q → IsBetweenJobs w k q
 is_ready ready is idle = grind arith
 
-pub next_ready : {w : WordsState} {markers n : ℕ} {h : HostState} (s : CallerState) → HasHandedOut w markers n h
+pub next_ready : {w : WordsState} {markers n : ℕ} {h : HostState} (s : CallerState) → HasMade w markers n h
     → IsAtHome s (pass_for h (Caller h.callers)) → IsBetweenJobs w n s.pass
 next_ready {n} {h} s made is = let of_home = s.in_order is.home in grind arith
 
-pub next_unasked : {w : WordsState} {markers n : ℕ} {h : HostState} (s : CallerState) → HasHandedOut w markers n h
+pub next_unasked : {w : WordsState} {markers n : ℕ} {h : HostState} (s : CallerState) → HasMade w markers n h
     → IsAtHome s (pass_for h (Caller h.callers)) → replied_to s.pass ≡ []
 next_unasked s made is = unasked s.pass (ap (λ (r : PassState). r.seen) is.pass ∙ made.seen)
 
@@ -75,7 +71,7 @@ none_done : {V : Type 0} (items : V → List Dones) (c : Config) (es : List Even
     (all : Result V NoMemory) → IfOk all (λ a. items a ≡ []) → IfOk all (λ a. HaveDone c es first k [] (items a))
 none_done items c es first k x5 is = grind arith
 
-pub none_joined : {w : WordsState} {markers n : ℕ} (joined : Joined) → HasHandedOut w markers n joined.host
+pub none_joined : {w : WordsState} {markers n : ℕ} (joined : Joined) → HasMade w markers n joined.host
     → IfOk joined.dones (λ all. all.items ≡ []) → HaveWorked w markers [] n [] joined
 none_joined {w} {n} joined made none = grind (arith, none_done, unseen_by_host)
 

@@ -5,7 +5,7 @@ use Rattle.mk_stack.proofs.Vocabulary.{calls, calls_from, left}
 use Rattle.mk_laws.proofs.Vocabulary.{Bool, List, ℕ, ap, append-nil, arith, cases_eq, eq-eqb, if◌then◌else◌, inl, inr}
 use Rattle.mk_laws.proofs.Vocabulary.{refl, sym, [], ◌++◌, ◌<◌, ◌==◌, ◌∙◌, ◌∷◌, ◌≡◌, ◌≢◌, ◌⊎◌}
 use Rattle.mk_core.proofs.HistoryParts.{calls_in_parts}
-use Rattle.mk_run.proofs.Below.Callers.OwnSteps.{by_append, calls_by, others_add_none}
+use Rattle.mk_heap.proofs.Below.Callers.OwnSteps.{by_append, calls_by, others_add_none}
 
 -- Events that add none to a caller's calls decide none of them.
 pub none_since : (c : Config) (k : ℕ) (es more : List Event)

@@ -15,7 +15,7 @@ use Rattle.mk_laws.proofs.Vocabulary.{AccessIsAdmitted, Bool, IsAdmitted, IsPoin
 use Rattle.mk_laws.proofs.Vocabulary.{get_or, if◌then◌else◌, length, refl, suc, true, zero, [], ◌*◌, ◌+◌, ◌<◌, ◌∷◌, ◌≡◌}
 use Rattle.mk_laws.proofs.Vocabulary.{◌≢◌}
 use Rattle.mk_never.specs.Admitted.{OperandsAreInRange, StoreIsAdmitted}
-use Rattle.mk_run.specs.Scripts.{as_told}
+use Rattle.mk_heap.specs.Dispatching.{as_told}
 use Rattle.mk_stack.specs.Advancing.{says_full, says_yes}
 
 -- Where an operation is replied yes or no, its answer leads to this point or that.

@@ -6,8 +6,8 @@ use Rattle.mk_stack.proofs.Vocabulary.{asked, calls, calls_from, left, never_beh
 use Rattle.mk_stack.proofs.Vocabulary.{replied_in, with_joined}
 use Rattle.mk_laws.proofs.Vocabulary.{List, ℕ, ap, arith, cases_eq, ne_eqb, refl, subst, sym, [], ◌++◌, ◌<◌, ◌∙◌, ◌∷◌}
 use Rattle.mk_laws.proofs.Vocabulary.{◌≡◌, ◌≢◌}
-use Rattle.mk_run.specs.{Below.Heaps.Hosts.with_caller_out, Below.Words.Seats.{has_over, without_seat}}
-use Rattle.mk_run.proofs.Below.Words.Seats.{has_first, has_left, has_right, others_own, without_keeps}
+use Rattle.mk_heap.proofs.Below.Words.Seats.{has_first, has_left, has_right, others_own, without_keeps}
+use Rattle.mk_heap.specs.{Hosts.with_caller_out, Below.Words.Seats.{has_over, without_seat}}
 use Rattle.mk_stack.proofs.{JoinedJobs.still_replied, OwnCalls.all_by, OwnCalls.below_later, OwnCalls.none_of}
 use Rattle.mk_stack.proofs.{Replies.asked_grown, Replies.own_in_parts, StackHistories.callers_are_below}
 use Rattle.mk_stack.specs.{Joining.IsReader, declared.walking.WalkPoint.WalkPoint}

@@ -4,15 +4,16 @@ use Rattle.mk_stack.proofs.Vocabulary.{NeverState, Op, PassState, Replied, after
 use Rattle.mk_stack.proofs.Vocabulary.{caller_of_pass, calls, calls_from, flagged, left, never_behind, never_first}
 use Rattle.mk_stack.proofs.Vocabulary.{never_of, own_replied, register_at, replied_in, replied_to, reply_of, value_of}
 use Rattle.mk_stack.proofs.OwnCalls.{none_since}
-use Rattle.mk_laws.proofs.Vocabulary.{Bool, KeepsRegisters, List, Step, ℕ, ap, append-nil, append_assoc, arith}
-use Rattle.mk_laws.proofs.Vocabulary.{bases_of, eq-eqb, if◌then◌else◌, length, map-append, refl, subst, sym, [], ◌++◌}
-use Rattle.mk_laws.proofs.{Vocabulary.{◌<◌, ◌==◌, ◌∙◌, ◌∷◌, ◌≡◌}, LastEvents.{comes_last, stands}}
+use Rattle.mk_laws.proofs.Vocabulary.{Bool, KeepsRegisters, List, ℕ, ap, append-nil, arith, bases_of, eq-eqb, false}
+use Rattle.mk_laws.proofs.Vocabulary.{if◌then◌else◌, is_under_turn, length, map-append, refl, subst, sym, [], ◌++◌, ◌<◌}
+use Rattle.mk_laws.proofs.Vocabulary.{◌==◌, ◌∙◌, ◌∷◌, ◌≡◌}
+use Rattle.mk_laws.proofs.{CallSorts.flag_is, LastEvents.{comes_last, stands}}
 use Rattle.mk_never.specs.Admitted.{IsCaller}
 use Rattle.mk_core.proofs.{Histories.calls_more, HistoryParts.calls_in_parts}
-use Rattle.mk_run.proofs.Below.Objects.OneCalls.{OneCall, before_call, one_call, through_call}
-use Rattle.mk_run.proofs.Below.Callers.OwnSteps.{calls_by}
-use Rattle.mk_run.specs.{Below.Objects.TurnCalls.CalledInTurn, Below.Callers.Called.{IsDecidedIn, own_calls}}
-use Rattle.mk_run.specs.{Below.Callers.Causes.FindsGateHeld, Below.Words.States.event_of}
+use Rattle.mk_heap.proofs.Below.Objects.OneCalls.{OneCall, before_call, one_call, through_call}
+use Rattle.mk_heap.proofs.Below.Callers.OwnSteps.{calls_by}
+use Rattle.mk_heap.specs.{Below.Objects.TurnCalls.CalledInTurn, Below.Callers.Called.{IsDecidedIn, own_calls}}
+use Rattle.mk_heap.specs.Dispatching.{Answers, MakesNoCall, as_told}
 
 -- A caller's operations in two parts
 
@@ -123,21 +124,64 @@ from_turn {on} {p} {q} {o} {a} h history =
     subst (Happens p (flagged o a) a) (sym h.is) (happens (one_call (flagged_once o a)
     (subst (λ (r : PassState). IsHistory r.table.config r.seen) h.is history) h.entry h.decided))
 
--- The caller found its gate held, and asked nothing.
+-- The caller made no call, and its registers are as they were.
 pub record Stays (p q : PassState) : Type 0 where
   pub is : q ≡ record p { seen = q.seen }
   pub did : replied_to q ≡ replied_to p
   pub registers : (r : ℕ) → r < 8 → value_of q r ≡ value_of p r
 
-pub stays_held : {p q : PassState} {o : Op} → FindsGateHeld p o q → Stays p q
-stays_held {p} {q} {o} f =
-    let more : List Event = f.finds.makes.others ++ event_of p (Step.Enter o) ∷ [] in
+pub stays : {p q : PassState} → MakesNoCall p q → Stays p q
+stays {p} {q} none =
+    let c : Config = p.table.config in
+    let k : ℕ = caller_of_pass p in
+    let more : List Event = none.beside.more in
     let is : q ≡ record p { seen = p.seen ++ more } =
-    cc (f.finds.makes.is, append_assoc p.seen f.finds.makes.others (event_of p (Step.Enter o) ∷ [])) in
-    let seen : q ≡ record p { seen = q.seen } = is ∙ ap (λ (r : PassState). record p { seen = r.seen }) (sym is) in
+    none.is ∙ ap (λ (l : List Event). record p { seen = l }) none.beside.is in
+    let same : own_calls p (p.seen ++ more) ≡ own_calls p p.seen =
+    ap (λ (r : PassState). own_calls p r.seen) (sym is) ∙ none.entries in
     record {
-      is = seen;
-      did = rw is (same_replied p.table.config (caller_of_pass p) p.seen more (none_since p.table.config
-          (caller_of_pass p) p.seen more (ap (λ (r : PassState). own_calls p r.seen) (sym is) ∙ f.entries)));
-      registers = λ r lt. ap (λ (s : PassState). register_at (never_of q) (caller_of_pass s) r) seen ∙ f.registers r lt;
+      is = none.is;
+      did = rw is (same_replied c k p.seen more (none_since c k p.seen more same));
+      registers = λ r lt.
+          ap (λ (s : PassState). register_at (never_of q) (caller_of_pass s) r) none.is ∙ none.registers r lt;
+    }
+
+-- What happens then happens as it would have before.
+pub happens_later : {p w : PassState} {o : Op} {a : Answer} {q : PassState} → Stays p w → Happens w o a q
+    → Happens p o a q
+happens_later {p} {w} {o} {a} {q} still h =
+    let now : Happens (record p { seen = w.seen }) o a q = subst (λ (x : PassState). Happens x o a q) still.is h in
+    let did : replied_to (record p { seen = w.seen }) ≡ replied_to p = ap replied_to (sym still.is) ∙ still.did in
+    let here : Replied = record { op = o; reply = reply_of now.n (caller_of_pass p) o } in
+    record {
+      is = now.is;
+      n = now.n;
+      types = now.types;
+      typed = now.typed;
+      count = now.count;
+      caller = now.caller;
+      before = λ r lt.
+          now.before r lt ∙ (ap (λ (x : PassState). value_of x r) (sym still.is) ∙ still.registers r lt);
+      after = now.after;
+      bases = now.bases;
+      image = now.image;
+      did = now.did ∙ ap (λ (l : List Replied). l ++ here ∷ []) did;
+    }
+
+-- An operation that takes no turn, once its gate was open
+pub record Opened (p : PassState) (o : Op) (told : Answer) (q : PassState) : Type 0 where
+  pub answer : Answer
+  pub is_told : told ≡ as_told answer
+  pub happens : Happens p o answer q
+
+pub once_open : {on : Bool} {p : PassState} {o : Op} {told : Answer} {q : PassState} → is_under_turn o ≡ false
+    → Answers on p o told q → Opened p o told q
+once_open {o = o} beside answers =
+    let later = answers.called beside in
+    let c = later.is_called in
+    record {
+      answer = c.answer;
+      is_told = c.is_told;
+      happens =
+          happens_later (stays later.waits) (from_called c.called (flag_is o c.answer beside) c.called.pass.history);
     }

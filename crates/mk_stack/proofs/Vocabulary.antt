@@ -1,8 +1,7 @@
 -- The words that the proofs of this crate share: they import them from here.
-pub use Rattle.mk_run.specs.{Below.Callers.Called.Called, Below.Callers.States.{CallerState, IsAtHome, caller_of_pass}}
-pub use Rattle.mk_run.specs.{Below.Callers.States.{never_of, value_of}, Below.Heaps.Hosts.{HostState, pass_for}}
-pub use Rattle.mk_run.specs.{Below.Heaps.Hosts.with_joined, Below.Words.Seats.Has}
-pub use Rattle.mk_run.specs.Below.Words.States.{PassState, WordsState}
+pub use Rattle.mk_heap.specs.{Below.Callers.Called.Called, Below.Callers.States.{CallerState, IsAtHome, caller_of_pass}}
+pub use Rattle.mk_heap.specs.{Below.Callers.States.{never_of, value_of}, Hosts.{HostState, pass_for, with_joined}}
+pub use Rattle.mk_heap.specs.{Below.Words.Seats.Has, Below.Words.States.{PassState, WordsState}}
 pub use Rattle.mk_laws.proofs.Vocabulary.{Decided, asked, flagged, AreOfOthers, IsHistory, calls, calls_from, left}
 pub use Rattle.mk_laws.proofs.Vocabulary.{never_behind, answer_of, Config, Answer, Event, Seat, Caller, Host}
 pub use Rattle.mk_laws.proofs.Vocabulary.{AreAdmitted, Call, NeverState, after_calls, after_free, allocation_at, bit}
@@ -19,7 +18,8 @@ pub use Rattle.mk_stack.specs.{JobLists.{DoesJobs, HaveDone}, Jobs.{Asks, JobRun
 pub use Rattle.mk_stack.specs.Jobs.{done_without, fail, fill, find_no_room, follow, found, free, free_again, go_pop}
 pub use Rattle.mk_stack.specs.Jobs.{go_push, lack, link, look, make, meet, miss, node_kinds, peek, place, pop_again}
 pub use Rattle.mk_stack.specs.Jobs.{publish, push_again, read, start, top_kinds, unlink}
-pub use Rattle.mk_stack.specs.{Joining.{HasHandedOut, HaveWorked, ReadsStack}, Laws.{IsOneOf, freed_by, numbers_in}}
+pub use Rattle.mk_heap.specs.Crews.{HasMade}
+pub use Rattle.mk_stack.specs.{Joining.{HaveWorked, ReadsStack}, Laws.{IsOneOf, freed_by, numbers_in}}
 pub use Rattle.mk_stack.specs.{Orders.{Ordered, left_by}, Passes.{GoesToPoint, HasStackTypes, replied_in, replied_to}}
 pub use Rattle.mk_stack.specs.{Walks.{AreAllBy, HasWalked, LeadsDown, numbers_read}, declared.job_lists.Dones.Dones}
 pub use Rattle.mk_stack.specs.{declared.job_lists.Jobs.Jobs, declared.jobs.Done.Done}

@@ -2,14 +2,14 @@
 use Rattle.std.proofs.Common.{IfSome}
 use Rattle.mk_stack.proofs.Vocabulary.{Answer, CallerState, HasStackTypes, HasWalked, HoldsAt, LeadsDown, NeverState}
 use Rattle.mk_stack.proofs.Vocabulary.{Op, PassState, Point, Pop, Replied, Reply, after_op, answer_of, global_at}
-use Rattle.mk_stack.proofs.{Vocabulary.{numbers_read, register_at, reply_of, value_of}, Advances.{Steps, of_asked}}
-use Rattle.mk_stack.proofs.{Advances.{place_state, ready_state, steps_so}, NodeKinds.{IsStackState, global_kind}}
-use Rattle.mk_stack.proofs.PointSteps.{admits, kept, loads_link, loads_number, loads_top, may_follow, now_may, tested}
-use Rattle.mk_stack.proofs.{AtPoints.holds_still, Going.seen_then, Replies.{Stays, from_called}}
-use Rattle.mk_laws.proofs.Vocabulary.{IsAdmitted, List, Some, ℕ, ap, append-nil, append_assoc, arith, false}
-use Rattle.mk_laws.proofs.{Vocabulary.{is_under_turn, refl, subst, sym, [], ◌++◌, ◌∙◌, ◌∷◌, ◌≡◌}, CallSorts.flag_is}
-use Rattle.mk_run.specs.Below.Callers.States.{Admits}
-use Rattle.mk_run.specs.Scripts.{IsCalled, as_told}
+use Rattle.mk_stack.proofs.Vocabulary.{numbers_read, register_at, reply_of, value_of}
+use Rattle.mk_stack.proofs.Advances.{Steps, admitted_by_registers, of_asked, place_state, steps_so}
+use Rattle.mk_stack.proofs.{NodeKinds.{IsStackState, global_kind}, PointSteps.{admits, kept, loads_link, loads_number}}
+use Rattle.mk_stack.proofs.{PointSteps.{loads_top, may_follow, now_may, tested}, AtPoints.holds_still, Going.seen_then}
+use Rattle.mk_stack.proofs.Replies.{once_open}
+use Rattle.mk_laws.proofs.Vocabulary.{Bool, IsAdmitted, List, Some, ℕ, ap, append-nil, append_assoc, arith, false}
+use Rattle.mk_laws.proofs.Vocabulary.{is_under_turn, refl, subst, sym, [], ◌++◌, ◌∙◌, ◌∷◌, ◌≡◌}
+use Rattle.mk_heap.specs.{Below.Callers.States.Admits, Dispatching.{Answers, StaysAdmitted, as_told}}
 use Rattle.mk_stack.specs.Walks.{Walks, descend, found_down, go, lack, meet, number_read, op_down, peek, read, start}
 use Rattle.mk_stack.specs.{Walks.stop, Ready.IsReady, declared.walking.Found.Found}
 use Rattle.mk_stack.specs.declared.walking.WalkPoint.{WalkPoint}
@@ -78,17 +78,19 @@ pub beside_turns : (s : WalkPoint) {o : Op} → op_down s ≡ Some o → is_unde
 beside_turns s is = grind (arith, of_asked)
 
 pub may_go_down : {s : CallerState} (t : WalkPoint) {o : Op} → IsReady s
-    → op_down t ≡ Some o → HoldsAt (value_of s.pass) (as_pop t) → Admits s.pass o
-may_go_down {s} t ready is holds = of_asked (Admits s.pass) is (admits_down (ready_state ready) t holds)
+    → op_down t ≡ Some o → HoldsAt (value_of s.pass) (as_pop t) → StaysAdmitted s.pass o
+may_go_down t ready is holds = admitted_by_registers ready
+    (λ q state same. of_asked (Admits q) is (admits_down state t (holds_still same (as_pop t) holds)))
 
-pub steps_down : {p q : PassState} (s : WalkPoint) {f : Found} {o : Op} {told : Answer} → f ≡ found_down s told
-    → HasStackTypes p.table.config → op_down s ≡ Some o
-    → HoldsAt (value_of p) (as_pop s) → IsCalled p o told q → StepsDown p s q f
-steps_down {p} {q} s {o} leads types is holds called =
-    let h = from_called called.called (flag_is o called.answer (beside_turns s is)) called.called.pass.history in
+pub steps_down : {on : Bool} {p q : PassState} (s : WalkPoint) {f : Found} {o : Op} {told : Answer}
+    → f ≡ found_down s told → HasStackTypes p.table.config → op_down s ≡ Some o
+    → HoldsAt (value_of p) (as_pop s) → Answers on p o told q → StepsDown p s q f
+steps_down {p} {q} s leads types is holds answers =
+    let opened = once_open (beside_turns s is) answers in
+    let h = opened.happens in
     let next = of_asked _ is (goes_down (place_state types h) s (holds_still h.before (as_pop s) holds)) in
-    subst (StepsDown p s q) (ap (found_down s) (sym called.is_told) ∙ sym leads)
-    (steps_so h (next called.answer h.bases h.image))
+    subst (StepsDown p s q) (ap (found_down s) (sym opened.is_told) ∙ sym leads)
+    (steps_so h (next opened.answer h.bases h.image))
 
 -- One operation more
 
@@ -106,7 +108,3 @@ reads_more (x ∷ xs) y =
 pub walked_more : {p q r : PassState} {numbers : List ℕ} {s : WalkPoint} {f : Found} → HasWalked p numbers q s
     → StepsDown q s r f → HasWalked p (numbers ++ numbers_found f) r (next_of f)
 walked_more {p} {q} {r} {numbers} walked steps = grind (arith, seen_then, leads_more, reads_more, append_assoc)
-
-pub walked_held : {p q : PassState} (r : PassState) {numbers : List ℕ} {t : WalkPoint} → HasWalked p numbers q t
-    → Stays q r → HasWalked p numbers r t
-walked_held {p} {q} r walked on = grind (arith, seen_then)

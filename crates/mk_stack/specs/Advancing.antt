@@ -4,7 +4,7 @@ use Rattle.std.specs.Prelude.{◌≡◌, ℕ, ◌<◌, ◌==◌, Bool, true, fal
 use Rattle.mk_never.specs.{declared.operations.Op.Op, declared.types.Kind.TheVariants.To, declared.values.Value.Value}
 use Rattle.mk_never.specs.{declared.values.Value.TheVariants.{Null, Ptr}, Admitted.IsOfKind}
 use Rattle.mk_core.specs.declared.events.Answer.{Answer}
-use Rattle.mk_run.specs.{Below.Words.States.PassState, Below.Callers.States.value_of}
+use Rattle.mk_heap.specs.{Below.Words.States.PassState, Below.Callers.States.value_of}
 use Rattle.mk_stack.specs.{declared.jobs.Job.Job, declared.jobs.Job.TheVariants.{Push, Pop}, declared.jobs.Done.Done}
 use Rattle.mk_stack.specs.{declared.jobs.Done.TheVariants.{Pushed, Full, Popped, Empty}, declared.points.Point.Point}
 use Rattle.mk_stack.specs.declared.points.Point.TheVariants.{Founding, Placing, Founded, Starting, Checking, Making}

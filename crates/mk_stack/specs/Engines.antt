@@ -1,6 +1,6 @@
 -- The engines of a run. Private functions alone cite these words.
 use Rattle.std.specs.Prelude.{◌≡◌, ℕ, ◌+◌, length, All}
-use Rattle.mk_run.specs.Below.Words.States.{WordsState}
+use Rattle.mk_heap.specs.Below.Words.States.{WordsState}
 use Rattle.mk_stack.specs.{declared.engines.Engines.Engines, declared.engines.CallerEngines.CallerEngines}
 
 -- There is an engine for each caller from k on, made for the pages of the heap.

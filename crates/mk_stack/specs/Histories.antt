@@ -2,7 +2,7 @@
 use Rattle.std.specs.Prelude.{◌≡◌, ℕ, List, [], ◌∷◌, ◌++◌}
 use Rattle.mk_core.specs.{declared.config.Config.Config, declared.events.Event.Event, Decided.asked}
 use Rattle.mk_core.specs.History.{IsHistory, calls}
-use Rattle.mk_run.specs.Below.Words.States.{PassState}
+use Rattle.mk_heap.specs.Below.Words.States.{PassState}
 use Rattle.mk_stack.specs.{declared.jobs.Job.Job, declared.jobs.Done.Done}
 use Rattle.mk_stack.specs.declared.points.Point.TheVariants.{Founding, Founded}
 use Rattle.mk_stack.specs.{Interleavings.{AreJobRuns, jobs_of_first}, Jobs.{JobRun, IsJobRun, Leads, Replied, all_of}}

@@ -1,7 +1,7 @@
 -- Lists of jobs, each list done by a caller of its own.
 use Rattle.std.specs.Prelude.{◌≡◌, ℕ, ◌+◌, List, [], ◌∷◌, ◌++◌, map}
 use Rattle.mk_core.specs.{declared.config.Config.Config, declared.events.Event.Event}
-use Rattle.mk_run.specs.Below.Words.States.{PassState}
+use Rattle.mk_heap.specs.Below.Words.States.{PassState}
 use Rattle.mk_stack.specs.{declared.jobs.Job.Job, declared.jobs.Done.Done, declared.job_lists.Dones.Dones}
 use Rattle.mk_stack.specs.{declared.job_lists.Jobs.Jobs, Interleavings.AreJobRuns, Jobs.{Replied, JobRun, all_of}}
 use Rattle.mk_stack.specs.Passes.{replied_in, replied_to}

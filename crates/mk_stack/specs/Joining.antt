@@ -1,11 +1,11 @@
 -- Callers on threads of their own: what each hands back, and the host that has joined some of them.
 -- Private functions alone cite these words.
 use Rattle.std.specs.Prelude.{◌≡◌, ℕ, ◌+◌, ◌<◌, ◌≤◌, true, false, List, [], ◌∷◌, ◌++◌, length, IfOk}
-use Rattle.mk_core.specs.{declared.config.Config.Config, declared.events.Seat.TheVariants.{Caller, Marker, Host}}
+use Rattle.mk_core.specs.{declared.config.Config.Config, declared.events.Seat.TheVariants.{Caller, Host}}
 use Rattle.mk_core.specs.Growing.{AreOfOthers, Grows}
-use Rattle.mk_run.specs.{Below.Words.Seats.{Has, has_over, without_seat}, Below.Words.States.{WordsState, PassState}}
-use Rattle.mk_run.specs.{Below.Callers.States.IsIdleCaller, Below.Heaps.Hosts.{HostState, with_caller_out, with_joined}}
-use Rattle.mk_run.specs.HostTurns.{HostComesLast}
+use Rattle.mk_heap.specs.{Below.Words.Seats.{Has, has_over, without_seat}, Below.Words.States.{WordsState, PassState}}
+use Rattle.mk_heap.specs.{Below.Callers.States.IsIdleCaller, Hosts.{HostState, with_caller_out, with_joined}}
+use Rattle.mk_heap.specs.HostTurns.{HostComesLast}
 use Rattle.mk_stack.specs.{declared.job_lists.Jobs.Jobs, declared.jobs.Job.Job, declared.joining.Callers.Callers}
 use Rattle.mk_stack.specs.{declared.joining.Worked.Worked, declared.joining.Joined.Joined}
 use Rattle.mk_stack.specs.{declared.points.Point.TheVariants.{Founding, Founded}, declared.working.Ended.Ended}
@@ -30,15 +30,6 @@ pub record AreCallersFrom {E : Type 0} (made_for : E → ℕ) (w : WordsState) (
 pub record HasWorked (w : WordsState) (first : List Replied) (k : ℕ) (jobs : List Job) (worked : Worked) : Type 0 where
   pub ready : IsBetweenJobs w k worked.pass
   pub done : IfOk worked.dones (λ dones. HasDone w.config worked.pass.seen first k jobs dones.list.items)
-
--- The host has made the callers below n, and joined none.
-pub record HasHandedOut (w : WordsState) (markers n : ℕ) (h : HostState) : Type 0 where
-  pub table : h.pass.table ≡ w
-  pub seat : h.pass.seat ≡ Host
-  pub own : Has h.pass.seats Host
-  pub seen : h.pass.seen ≡ []
-  pub count : h.callers ≡ n
-  pub same_markers : h.markers ≡ markers
 
 -- The callers from k on did their jobs and are joined, and the host has made no more.
 pub record HaveWorked (w : WordsState) (markers : ℕ) (first : List Replied) (k : ℕ) (lists : List Jobs)
@@ -74,15 +65,15 @@ pub record IsReader (h : HostState) (g : HostState) : Type 0 where
   pub own : Grows (without_seat (Caller 0) h.pass.seats) h.pass.seen g.pass.seen
   pub overs : has_over g.pass.seen ≡ has_over h.pass.seen
 
--- All jobs are done, what is left on the stack was read, the host said that all is over, and the markers from j on are
--- joined.
-pub record HaveEnded (w : WordsState) (j : ℕ) (lists : List Jobs) (ended : Ended) : Type 0 where
-  pub table : ended.host.pass.table ≡ w
-  pub own : Has ended.host.pass.seats Host
-  pub over : has_over ended.host.pass.seen ≡ true
-  pub last : HostComesLast w.config.callers false ended.host.pass.seen
-  pub count : ended.host.callers ≡ length lists
-  pub callers : (k : ℕ) → k < length lists → Has ended.host.pass.seats (Caller k)
-  pub markers : (i : ℕ) → j ≤ i → i < ended.host.markers → Has ended.host.pass.seats (Marker i)
+-- All jobs are done, what is left on the stack was read, and the host said that all is over. It has made so many
+-- markers.
+pub record HaveEnded (w : WordsState) (markers : ℕ) (lists : List Jobs) (h : HostState) (ended : Ended) : Type 0 where
+  pub table : h.pass.table ≡ w
+  pub own : Has h.pass.seats Host
+  pub over : has_over h.pass.seen ≡ true
+  pub last : HostComesLast w.config.callers false h.pass.seen
+  pub count : h.callers ≡ length lists
+  pub callers : (k : ℕ) → k < length lists → Has h.pass.seats (Caller k)
+  pub same_markers : h.markers ≡ markers
   pub run : IfOk ended.dones (λ dones. IfOk ended.left (λ left.
-      IsStackRun w.config ended.host.pass.seen lists dones.items left.items))
+      IsStackRun w.config h.pass.seen lists dones.items left.items))

@@ -3,7 +3,7 @@ use Rattle.std.specs.Prelude.{◌≡◌, ℕ, List, ◌++◌, slice_get, Option,
 use Rattle.mk_never.specs.{Types.kinds_of, declared.values.Value.TheVariants.Null}
 use Rattle.mk_core.specs.{declared.config.Config.Config, declared.events.Event.Event, Decided.asked}
 use Rattle.mk_core.specs.History.{calls, never_first}
-use Rattle.mk_run.specs.{Below.Words.States.PassState, Below.Callers.States.{caller_of_pass, value_of}}
+use Rattle.mk_heap.specs.{Below.Words.States.PassState, Below.Callers.States.{caller_of_pass, value_of}}
 use Rattle.mk_stack.specs.{declared.jobs.Job.Job, declared.jobs.Job.TheVariants.{Push, Pop}, declared.jobs.Done.Done}
 use Rattle.mk_stack.specs.{declared.jobs.Done.TheVariants.{Popped, Empty}, declared.points.Point.Point}
 use Rattle.mk_stack.specs.{declared.points.Point.TheVariants.{Starting, Ended}, Jobs.{Replied, Leads, node_kinds}}

@@ -1,6 +1,6 @@
 -- Who may do jobs on a stack.
 use Rattle.std.specs.Prelude.{◌≡◌, ◌<◌, ℕ, [], ◌∷◌, true}
-use Rattle.mk_run.specs.Below.Callers.States.{CallerState, caller_of_pass}
+use Rattle.mk_heap.specs.Below.Callers.States.{CallerState, caller_of_pass}
 use Rattle.mk_stack.specs.Passes.{HasStackTypes}
 
 -- The caller exists and has its pass home, and its heap has the types of a stack.

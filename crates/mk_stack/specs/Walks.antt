@@ -3,7 +3,7 @@ use Rattle.std.specs.Prelude.{◌≡◌, ◌+◌, ◌*◌, ◌<◌, ℕ, List, [
 use Rattle.mk_core.specs.declared.events.Answer.{Answer}
 use Rattle.mk_never.specs.{declared.values.Value.Value, declared.operations.Op.Op, declared.operations.Reply.Reply}
 use Rattle.mk_never.specs.NeverHeap.{NeverState, Call, global_at}
-use Rattle.mk_run.specs.Below.Words.States.{PassState}
+use Rattle.mk_heap.specs.Below.Words.States.{PassState}
 use Rattle.mk_stack.specs.{declared.walking.Found.Found, declared.walking.WalkPoint.WalkPoint}
 use Rattle.mk_stack.specs.{Advancing.{number_answered, says_yes}, Interleavings.own_replied, Jobs.Replied}
 use Rattle.mk_stack.specs.{Laws.{AreLinked, uppermost, numbers_in}, Looks.AreLooks, Passes.replied_to}

@@ -1,8 +1,8 @@
 //! The engines of a run.
-ghost use Rattle.std.specs.Prelude.{◌≡◌, ◌+◌, length, All, IfOk};
+ghost use Rattle.std.specs.Prelude.{◌≡◌, length, All, IfOk};
 
+use mk_heap::lower::cycles::Engine;
 use mk_never::NoMemory;
-use mk_run::lower::cycles::Engine;
 use std::alloc::Global;
 
 /// An engine for a caller, and one for each caller after it.

@@ -4,10 +4,10 @@ ghost use Rattle.mk_stack.specs.{JobLists.DoesJobs, Ready.IsReadyForJobs};
 
 use crate::jobs::{Done, Job};
 use crate::stacks::do_job;
+use mk_heap::Pace;
+use mk_heap::lower::callers::Caller;
+use mk_heap::lower::cycles::Engine;
 use mk_never::NoMemory;
-use mk_run::Pace;
-use mk_run::lower::callers::Caller;
-use mk_run::lower::cycles::Engine;
 use std::alloc::Global;
 use std::sync::Wait;
 use std::thread::Threads;

@@ -1,19 +1,18 @@
 //! Callers on threads of their own, and the host that joins them.
 ghost use Rattle.std.specs.{Prelude.{◌≡◌, ◌+◌, ◌<◌, ◌∷◌, [], drop, slice_get, IfSome, List, ℕ}, Thread.IsSync};
-ghost use Rattle.mk_run.specs.Below.Callers.States.{IsIdleCaller};
-ghost use Rattle.mk_stack.specs.{Jobs.Replied, Joining.{AreCallersFrom, HasHandedOut, HasWorked, HaveWorked}};
-ghost use Rattle.mk_stack.specs.{Joining.IsBetweenJobs, Passes.replied_to};
+ghost use Rattle.mk_heap.specs.{Below.Callers.States.IsIdleCaller, Crews.HasMade};
+ghost use Rattle.mk_stack.specs.{Jobs.Replied, Joining.{AreCallersFrom, HasWorked, HaveWorked, IsBetweenJobs}};
+ghost use Rattle.mk_stack.specs.Passes.{replied_to};
 ghost use denote.Param.Send.{IsSend};
 
 use crate::engines::CallerEngines;
 use crate::job_lists::{Dones, Jobs, run_jobs};
 use crate::shared::Run;
+use mk_heap::lower::callers::Caller;
+use mk_heap::lower::cycles::Engine;
+use mk_heap::lower::words::Pass;
+use mk_heap::{Heap, Host, Pace, with_first};
 use mk_never::NoMemory;
-use mk_run::lower::callers::Caller;
-use mk_run::lower::cycles::Engine;
-use mk_run::lower::heaps::{Heap, Host};
-use mk_run::lower::words::Pass;
-use mk_run::{Pace, with_first};
 use std::sync::Wait;
 use std::thread;
 use std::thread::Threads;
@@ -97,8 +96,8 @@ pub(crate) fn run_from<E: Engine + Send, P: Pace + Sync, R: Threads + Wait + Syn
 ) -> Joined
     requires shared { IsSync R.row × IsSync P.row × IsSend E.row }
     requires callers { AreCallersFrom E.made_for run.now.heap.now k callers }
-    requires host { HasHandedOut run.now.heap.now host.markers (k + 1) host }
-    ensures joined { HaveWorked run.now.heap.now host.markers (replied_to callers.pass) k
+    requires host { HasMade run.now.heap.now run.now.markers (k + 1) host }
+    ensures joined { HaveWorked run.now.heap.now run.now.markers (replied_to callers.pass) k
         (drop k run.now.lists.now) result }
 {
     let Callers { pass, engines } = callers;
@@ -132,8 +131,8 @@ pub(crate) fn run_from<E: Engine + Send, P: Pace + Sync, R: Threads + Wait + Syn
         move || -> Joined
             requires shared { IsSync R.row × IsSync P.row × IsSend E.row }
             requires callers { AreCallersFrom E.made_for run.now.heap.now (k + 1) next }
-            requires host { HasHandedOut run.now.heap.now host.markers (k + 1 + 1) host }
-            ensures joined { HaveWorked run.entry.now.heap.now host.markers (replied_to next.pass) (k + 1)
+            requires host { HasMade run.now.heap.now run.now.markers (k + 1 + 1) host }
+            ensures joined { HaveWorked run.entry.now.heap.now run.entry.now.markers (replied_to next.pass) (k + 1)
                 (drop (k + 1) run.entry.now.lists.now) result }
         { run_from(rt, run, pace, k + 1, host, next) },
     );

@@ -1,21 +1,18 @@
 //! A stack from first to last: callers do their jobs on it, each on a thread of its own.
 ghost use Rattle.std.specs.Prelude.{◌≡◌, ◌≤◌, length, true, false, IfOk};
 ghost use Rattle.mk_core.specs.Config.{IsBetween};
-ghost use Rattle.mk_run.specs.{Below.Words.Seats.has_over, Below.Heaps.Reports.{config_of, history_of, HasCounts}};
-ghost use Rattle.mk_run.specs.Below.Heaps.Reports.{IsWhole};
-ghost use Rattle.mk_run.specs.HostTurns.{HostComesLast};
+ghost use Rattle.mk_heap.specs.{Below.Words.Seats.has_over, Reports.{config_of, history_of, HasCounts, IsWhole}};
+ghost use Rattle.mk_heap.specs.HostTurns.{HostComesLast};
 ghost use Rattle.mk_stack.specs.StackRuns.{IsStackRun, stack_config};
 
 use crate::engines::Engines;
 use crate::job_lists::{Dones, Jobs};
-use crate::marking::work_beside;
 use crate::shared::Run;
-use crate::working::Ended;
+use crate::working::{Ended, work_beside};
 use mk_core::{Config, GlobalTable};
+use mk_heap::lower::cycles::Engine;
+use mk_heap::{Heap, Pace, Report};
 use mk_never::{Kind, NoMemory, TypeTable};
-use mk_run::Pace;
-use mk_run::lower::cycles::Engine;
-use mk_run::lower::heaps::{Heap, Report};
 use std::alloc::Global;
 use std::sync::Wait;
 use std::thread::Threads;
@@ -100,7 +97,8 @@ pub fn run_stack<E: Engine + Send, P: Pace + Sync, R: Threads + Wait + Sync>(
         lists,
         markers,
     };
-    let Ended { host, dones, left } = work_beside(rt, &run, pace, 0, host, engines);
+    let (host, ended) = work_beside(rt, &run, pace, host, engines);
+    let Ended { dones, left } = ended;
     let report = heap.close(host);
     Ok(StackOutcome {
         done: dones?,

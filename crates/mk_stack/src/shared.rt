@@ -3,7 +3,7 @@ ghost use Rattle.std.specs.Prelude.{◌≡◌, ◌≤◌, length};
 ghost use Rattle.mk_stack.specs.Passes.{HasStackTypes};
 
 use crate::job_lists::Jobs;
-use mk_run::lower::heaps::Heap;
+use mk_heap::Heap;
 use std::alloc::Global;
 
 /// A run: the heap, which was made for it, and a list of jobs for each caller.

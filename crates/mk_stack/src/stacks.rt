@@ -1,6 +1,6 @@
 //! Numbers on a stack that callers share.
 ghost use Rattle.std.specs.Prelude.{◌≡◌, ◌<◌, OnOk, OnErr};
-ghost use Rattle.mk_run.specs.Below.Callers.States.{value_of};
+ghost use Rattle.mk_heap.specs.Below.Callers.States.{value_of};
 ghost use Rattle.mk_stack.specs.Advancing.{Forgets, HoldsAt, IsFit, IsGoal, StaysEnded};
 ghost use Rattle.mk_stack.specs.Passes.{DoesJob, GoesToPoint, KeepsNoNode, other_node, popped};
 ghost use Rattle.mk_stack.specs.Ready.{IsReady, IsReadyForJobs};
@@ -8,11 +8,10 @@ ghost use Rattle.mk_stack.specs.Ready.{IsReady, IsReadyForJobs};
 use crate::advancing::{BELOW, NODE, UPPERMOST, next_point, op_at};
 use crate::jobs::{Done, Job};
 use crate::points::Point;
-use crossbeam_utils::Backoff;
-use mk_run::answer_now;
-use mk_run::lower::callers::Caller;
-use mk_run::lower::cycles::Engine;
-use mk_run::lower::words::Held;
+use mk_heap::lower::callers::Caller;
+use mk_heap::lower::cycles::Engine;
+use mk_heap::{answer_to, answer_when_open};
+use mk_never::Op;
 use std::sync::Wait;
 use std::thread::Threads;
 
@@ -20,7 +19,7 @@ use std::thread::Threads;
 #[derive(Clone, Copy, Debug, PartialEq, Eq)]
 pub struct Full;
 
-/// Carries out the operations from a point to the end of the job. One that finds its gate held is tried again.
+/// Carries out the operations from a point to the end of the job.
 fn go<E: Engine, R: Threads + Wait + Sync>(
     rt: &R,
     caller: &mut Caller,
@@ -33,23 +32,24 @@ fn go<E: Engine, R: Threads + Wait + Sync>(
     ensures goes { GoesToPoint caller.old.pass from caller.new.pass result }
     ensures goal { IsGoal result }
 {
-    let backoff = Backoff::new();
     let mut point = from;
     'points: for _ in rt.forever() {
         let Some(op) = op_at(point) else {
             return point;
         };
-        match answer_now(rt, caller, engine, op) {
-            Ok(told) => point = next_point(point, told),
-            Err(Held) => backoff.snooze(),
-        }
+        let told = answer_to(rt, caller, engine, op);
+        point = next_point(point, told);
     }
     unreachable!()
 }
 
 /// Makes the top of the stack, and stores it in global 0. Where it finds no room, each push is full and each pop finds
 /// nothing. It is for the first caller alone, before its jobs.
-pub fn found_stack<E: Engine, R: Threads + Wait + Sync>(rt: &R, caller: &mut Caller, engine: &mut E)
+pub(crate) fn found_stack<E: Engine, R: Threads + Wait + Sync>(
+    rt: &R,
+    caller: &mut Caller,
+    engine: &mut E,
+)
     requires ready { IsReadyForJobs E.made_for caller.old engine.old }
     ensures ready { IsReadyForJobs E.made_for caller.new engine.new }
     ensures founds { GoesToPoint caller.old.pass Point.Founding caller.new.pass Point.Founded }
@@ -67,14 +67,7 @@ fn forget<R: Wait>(rt: &R, caller: &mut Caller, register: u8)
     ensures ended { StaysEnded caller.old.pass caller.new.pass }
     ensures forgets { Forgets caller.old.pass register caller.new.pass }
 {
-    let backoff = Backoff::new();
-    'tries: for _ in rt.forever() {
-        match caller.clear(register) {
-            Ok(()) => return,
-            Err(Held) => backoff.snooze(),
-        }
-    }
-    unreachable!()
+    answer_when_open(rt, caller, Op::Clear { d: register });
 }
 
 /// The register that has a job's other node: of a push the new one, and of a pop the one below.

@@ -6,12 +6,10 @@ ghost use Rattle.mk_stack.specs.declared.walking.WalkPoint.TheVariants as walk;
 use crate::advancing::{
     FIRST, LINK, STACK, TOP, UPPERMOST, load, load_number, number_answered, says_yes,
 };
-use crossbeam_utils::Backoff;
 use mk_core::Answer;
+use mk_heap::answer_when_open;
+use mk_heap::lower::callers::Caller;
 use mk_never::{NoMemory, Op};
-use mk_run::call;
-use mk_run::lower::callers::Caller;
-use mk_run::lower::words::Held;
 use std::alloc::Global;
 use std::sync::Wait;
 
@@ -84,22 +82,19 @@ pub(crate) fn read_stack<R: Wait>(
     ensures pass { caller.new.pass ≡ record caller.old.pass { seen = caller.new.pass.seen } }
     ensures walked { IfOk result (λ left. HasWalked caller.old.pass left.items caller.new.pass walk.Ended) }
 {
-    let backoff = Backoff::new();
     let mut left = Vec::new(alloc);
     let mut point = WalkPoint::Starting;
     'points: for _ in rt.forever() {
         let Some(op) = op_down(point) else {
             return Ok(left);
         };
-        match call(caller, op) {
-            Ok(told) => match found_down(point, told) {
-                Found::To(next) => point = next,
-                Found::Number(n) => {
-                    left.push(n)?;
-                    point = WalkPoint::Descending;
-                }
-            },
-            Err(Held) => backoff.snooze(),
+        let told = answer_when_open(rt, caller, op);
+        match found_down(point, told) {
+            Found::To(next) => point = next,
+            Found::Number(n) => {
+                left.push(n)?;
+                point = WalkPoint::Descending;
+            }
         }
     }
     unreachable!()

@@ -1,8 +1,8 @@
-//! All that happens on a stack: it is founded, callers do their jobs, and what is left is read.
+//! All that happens on a stack, with markers beside it: it is founded, callers do their jobs, and what is left is read.
 ghost use Rattle.std.specs.{Prelude.{◌≡◌, ◌<◌, IfOk, false}, Thread.IsSync};
-ghost use Rattle.mk_run.specs.Below.Words.Seats.{Has, has_over};
-ghost use Rattle.mk_stack.specs.{Engines.{AreEnginesFrom, AreEnginesOf}, Joining.{HasHandedOut, HaveEnded}};
-ghost use Rattle.mk_stack.specs.Joining.{HaveFoundedAndWorked, IsReader, ReadsStack};
+ghost use Rattle.mk_heap.specs.{Below.Words.Seats.{Has, has_over}, Crews.HasMade, Hosts.AllAreJoined};
+ghost use Rattle.mk_stack.specs.{Engines.{AreEnginesFrom, AreEnginesOf}, Joining.{HaveEnded, HaveFoundedAndWorked}};
+ghost use Rattle.mk_stack.specs.Joining.{IsReader, ReadsStack};
 ghost use denote.Param.Send.{IsSend};
 ghost use Rattle.mk_core.specs.declared.events.Seat.TheVariants as seat;
 
@@ -12,18 +12,15 @@ use crate::joining::{Callers, Joined, run_from};
 use crate::shared::Run;
 use crate::stacks::found_stack;
 use crate::walking::read_stack;
+use mk_heap::lower::cycles::Engine;
+use mk_heap::{Host, Pace, beside_markers};
 use mk_never::NoMemory;
-use mk_run::Pace;
-use mk_run::lower::cycles::Engine;
-use mk_run::lower::heaps::Host;
 use std::sync::Wait;
 use std::thread::Threads;
 
-/// The host, which has joined all callers and has said that all is over, what became of the jobs, and what is left on
-/// the stack, from the top.
+/// What became of the jobs, and what is left on the stack, from the top.
 #[derive(Drop)]
 pub(crate) struct Ended {
-    pub(crate) host: Host,
     pub(crate) dones: Result<Vec<Dones>, NoMemory>,
     pub(crate) left: Result<Vec<u64>, NoMemory>,
 }
@@ -37,9 +34,9 @@ fn found_and_work<E: Engine + Send, P: Pace + Sync, R: Threads + Wait + Sync>(
     mut engines: CallerEngines<E>,
 ) -> Joined
     requires shared { IsSync R.row × IsSync P.row × IsSend E.row }
-    requires host { HasHandedOut run.now.heap.now host.markers 0 host }
+    requires host { HasMade run.now.heap.now run.now.markers 0 host }
     requires engines { AreEnginesFrom E.made_for run.now.heap.now 0 engines }
-    ensures worked { HaveFoundedAndWorked run.now.heap.now host.markers run.now.lists.now result }
+    ensures worked { HaveFoundedAndWorked run.now.heap.now run.now.markers run.now.lists.now result }
 {
     let mut first = host.caller(run.heap);
     found_stack(rt, &mut first, &mut engines.first);
@@ -64,17 +61,17 @@ fn read_left<R: Wait>(rt: &R, run: &Run, host: &mut Host) -> Result<Vec<u64>, No
 }
 
 /// Has callers do their jobs on a stack, reads what they leave on it, and says to the markers that all is over.
-pub(crate) fn work<E: Engine + Send, P: Pace + Sync, R: Threads + Wait + Sync>(
+fn work<E: Engine + Send, P: Pace + Sync, R: Threads + Wait + Sync>(
     rt: &R,
     run: &Run,
     pace: &P,
     host: Host,
     engines: Engines<E>,
-) -> Ended
+) -> (Host, Ended)
     requires shared { IsSync R.row × IsSync P.row × IsSend E.row }
-    requires host { HasHandedOut run.now.heap.now host.markers 0 host }
+    requires host { HasMade run.now.heap.now run.now.markers 0 host }
     requires engines { AreEnginesOf E.made_for run.now.heap.now engines }
-    ensures ended { HaveEnded run.now.heap.now host.markers run.now.lists.now result }
+    ensures ended { HaveEnded run.now.heap.now run.now.markers run.now.lists.now result.0 result.1 }
 {
     let Engines {
         callers,
@@ -83,5 +80,38 @@ pub(crate) fn work<E: Engine + Send, P: Pace + Sync, R: Threads + Wait + Sync>(
     let Joined { mut host, dones } = found_and_work(rt, run, pace, host, callers);
     let left = read_left(rt, run, &mut host);
     host.over(rt, run.heap, &mut own);
-    Ended { host, dones, left }
+    (host, Ended { dones, left })
+}
+
+/// Has callers do all that on a stack, with markers beside them, each on a thread of its own, and joins all.
+pub(crate) fn work_beside<E: Engine + Send, P: Pace + Sync, R: Threads + Wait + Sync>(
+    rt: &R,
+    run: &Run,
+    pace: &P,
+    host: Host,
+    engines: Engines<E>,
+) -> (Host, Ended)
+    requires shared { IsSync R.row × IsSync P.row × IsSend E.row }
+    requires host { HasMade run.now.heap.now 0 0 host }
+    requires engines { AreEnginesOf E.made_for run.now.heap.now engines }
+    ensures ended { HaveEnded run.now.heap.now run.now.markers run.now.lists.now result.0 result.1 }
+    ensures joined { AllAreJoined result.0 }
+{
+    let heap = run.heap;
+    let markers = run.markers;
+    beside_markers(
+        rt,
+        heap,
+        pace,
+        markers,
+        0,
+        host,
+        move |host: Host| -> (Host, Ended)
+            requires shared { IsSync R.row × IsSync P.row × IsSend E.row }
+            requires host { HasMade run.now.heap.now run.now.markers 0 host }
+            requires engines { AreEnginesOf E.made_for run.now.heap.now engines }
+            ensures ended { HaveEnded run.entry.now.heap.now run.entry.now.markers run.entry.now.lists.now result.0
+                result.1 }
+        { work(rt, run, pace, host, engines) },
+    )
 }

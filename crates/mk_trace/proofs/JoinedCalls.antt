@@ -24,7 +24,7 @@ use Rattle.mk_run.proofs.{Below.Objects.OneCycles.{one_before, one_behind}, Belo
 use Rattle.mk_run.specs.Below.Objects.TurnCycles.{CallIsExact, FreeIsExact, NewIsExact, RunsOneCycle, finishes}
 use Rattle.mk_run.specs.{Below.Objects.TurnCycles.within_turn, Below.Objects.TurnCalls.CalledInTurn}
 use Rattle.mk_run.specs.Below.Words.Doing.{are_of}
-use Rattle.mk_run.specs.Scripts.{Answers, is_beside_turns}
+use Rattle.mk_run.specs.Below.Heaps.Dispatching.{Answers, is_beside_turns}
 
 -- What events of the one caller lack, and what is decided among those of its call.
 
@@ -235,7 +235,11 @@ module _ {on : Bool} {h : HostState} {o : Op} {told : Answer} {q : PassState} {f
   -- Beside the turn no allocation changes.
   pub beside_leaves : is_under_turn o ≡ false → LeavesAllocations c es fs
   beside_leaves out =
-      grind (arith, only, es, leaves_then, more, enabled, changes, beside_lacks, elsewhere, the_rest, mine)
+      let beside = j.answers.beside out in
+      let steps : are_of is_beside_turns (own_from c (Caller 0) (left c es) j.own.more) ≡ true =
+      rw (only beside.more beside.is) beside.steps in
+      subst (LeavesAllocations c es) (sym j.own.is) (leaves_then c es j.own.more enabled
+      (beside_lacks c (left c es) elsewhere j.own.more the_rest mine steps))
 
   told_by : (x : Op) (said : Answer) → on ≡ false → (is_under_turn x ≡ true → InTurn (unflagged x))
       → (is_under_turn x ≡ false → LeavesAllocations c es fs)

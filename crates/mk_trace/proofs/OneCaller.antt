@@ -11,10 +11,10 @@ use Rattle.mk_never.proofs.{Later.op_stays, Parts.{admitted_split, after_append}
 use Rattle.mk_never.specs.{Admitted.IsCaller, NeverHeap.after_op}
 use Rattle.mk_core.specs.Counts.{is_full_answer}
 use Rattle.mk_run.proofs.{Below.Callers.OwnSteps.{calls_by, others_add_none}, Below.Words.Seats.{has_all, has_right}}
-use Rattle.mk_run.specs.Below.Callers.States.{IsAtHome, caller_of_pass}
+use Rattle.mk_run.specs.Below.Callers.States.{Admits, IsAtHome, caller_of_pass}
 use Rattle.mk_run.specs.Below.Heaps.Hosts.{AllAreJoined, with_caller_made, with_caller_out, with_joined, with_seen}
 use Rattle.mk_run.specs.Below.Words.Seats.{has_over}
-use Rattle.mk_run.specs.Scripts.{IsAdmittedByOwnCalls, as_told}
+use Rattle.mk_run.specs.Below.Heaps.Dispatching.{StaysAdmitted, as_told}
 use Rattle.mk_trace.specs.Calls.{CallsAll, MayCome, SameCalls}
 
 by_test : (x : Decided) (xs ys : List Decided) (b : Bool) → b ≡ true → ys ≡ xs → (if b then x ∷ ys else ys) ≡ x ∷ xs
@@ -129,13 +129,15 @@ callers_at_home home = ap (λ (x : WordsState). x.config.callers) home.table ∙
 
 -- What may come now may come while the caller makes no call.
 admits : {w : WordsState} {h : HostState} → CallerIsHome w h → (o : Op) → MayCome w.config h.pass.seen o
-    → IsAdmittedByOwnCalls (pass_for h (Caller 0)) o
-admits {h} home o comes = λ es later same.
+    → StaysAdmitted (pass_for h (Caller 0)) o
+admits {h} home o comes = λ q later none.
     let c = h.pass.table.config in
     let history = subst (λ (x : WordsState). IsHistory x.config h.pass.seen) (sym home.table) home.history in
     let one = callers_at_home home in
-    let all : calls c es ≡ calls c h.pass.seen = sym (calls_are_own one later) ∙ same ∙ calls_are_own one history in
-    rw all (rw (← home.table) at comes)
+    let now : IsHistory c q.seen = subst (λ (p : PassState). IsHistory p.table.config q.seen) none.is later in
+    let all : calls c q.seen ≡ calls c h.pass.seen =
+    sym (calls_are_own one now) ∙ none.entries ∙ calls_are_own one history in
+    subst (λ (p : PassState). Admits p o) (sym none.is) (rw all (rw (← home.table) at comes))
 
 module _ {w : WordsState} {h : HostState} (home : CallerIsHome w h) (s : CallerState)
     (made : IsAtHome s (pass_for h (Caller 0))) where
@@ -148,7 +150,7 @@ module _ {w : WordsState} {h : HostState} (home : CallerIsHome w h) (s : CallerS
   pub made_exists : caller_of_pass s.pass < s.pass.table.config.callers
   made_exists = grind (arith, callers_at_home)
 
-  pub made_admits : (o : Op) → MayCome w.config h.pass.seen o → IsAdmittedByOwnCalls s.pass o
+  pub made_admits : (o : Op) → MayCome w.config h.pass.seen o → StaysAdmitted s.pass o
   made_admits o comes = rw made.pass (admits home o comes)
 
 -- The caller that the host makes first, and joins at once.

@@ -27,7 +27,7 @@ pub use Rattle.mk_run.specs.Below.Objects.TurnCycles.{has_step, is_grant, is_of_
 pub use Rattle.mk_run.specs.{Below.Callers.States.CallerState, Below.Heaps.Hosts.{HostState, first_host, pass_for}}
 pub use Rattle.mk_run.specs.{Below.Words.Sweeping.SweepsNothing, Below.Words.Seats.{Has, HasAll, without_seat}}
 pub use Rattle.mk_run.specs.Below.Words.States.{PassState, WordsState, event_of}
-pub use Rattle.mk_run.specs.Scripts.{unflagged}
+pub use Rattle.mk_run.specs.Below.Heaps.Dispatching.{unflagged}
 pub use Rattle.mk_script.specs.{Words.{lines_of, texts_of, words_of_line}, declared.faults.Which.Which}
 pub use Rattle.mk_trace.specs.{Calls.{CallerIsHome, Calls, HoldsMostAtEnd, most_held}, Ends.{EndsNone, EndsOne}}
 pub use Rattle.mk_trace.specs.Ends.{EndsTell, FreesNone, IsBetweenCycles, LeavesAllocations, ReleasesNone}

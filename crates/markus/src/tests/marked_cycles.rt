@@ -1,7 +1,7 @@
 //! A run that holds its script back in two cycles, until a marker has done its work there.
 
 use super::paces::{MOST_YIELDS, writes};
-use mk_outputs::lower::runs::Pace;
+use mk_outputs::lower::heaps::Pace;
 use std::sync::atomic::{AtomicU64, Ordering};
 use std::test::Fail;
 use std::thread::yield_now;

@@ -4,7 +4,7 @@
 use super::texts::behind;
 use super::{ample, run_at};
 use mk_outputs::Status;
-use mk_outputs::lower::runs::Pace;
+use mk_outputs::lower::heaps::Pace;
 use std::alloc::Global;
 use std::sync::Wait;
 use std::sync::atomic::{AtomicBool, AtomicU64, Ordering};

@@ -1,11 +1,14 @@
 use Rattle.mk_laws.proofs.Vocabulary.{Caller, Config, Host, ap, arith, length, subst, sym, ◌+◌, ◌∙◌, ◌≡◌}
 use Rattle.mk_run.proofs.Vocabulary.{AreReadyFrom, Grows, HasMade, HostState, IsFirstPass, IsReadyScript, IsScript}
-use Rattle.mk_run.{proofs.Vocabulary.{has_left, rules, script_names, with_joined}, specs.Joining.{AreJoined, HasRun}}
-use Rattle.mk_run.proofs.{HostTurns.{host_is_still, unseen_by_host}, JoinedScripts.{first_pass, next_made, one_joined}}
-use Rattle.mk_run.proofs.{JoinedScripts.texts_joined, KeptScripts.{none_joined, others_on, script_joined, scripts_on}}
-use Rattle.mk_run.proofs.{LaterLists.of_one, ReadyScripts.ready_first}
+use Rattle.mk_run.proofs.Vocabulary.{has_left, rules, script_names, with_joined}
+use Rattle.mk_run.specs.Joining.{AreJoined, HasRun}
+use Rattle.mk_heap.proofs.HostTurns.{host_is_still, unseen_by_host}
+use Rattle.mk_run.proofs.JoinedScripts.{one_joined, texts_joined}
+use Rattle.mk_run.proofs.{KeptScripts.{none_joined, others_on, script_joined, scripts_on}, LaterLists.of_one}
+use Rattle.mk_run.proofs.ReadyScripts.{ready_first}
 use denote.Param.Send.{Quiet-if}
 use mir.Syntax.{of_param}
+use Rattle.mk_heap.proofs.Crews.{caller_made, first_pass}
 use Rattle.mk_run.proofs.joining.+fn-run_from-join+arg3+run_from.Goals as goal
 
 pub join-ran-requires-after_bounds : goal.join-ran-requires-after_bounds
@@ -24,8 +27,9 @@ join-ran-requires-after_bounds g t c κs within =
     let script : IsScript c.args.run.now.program.now k =
     omega (arith, c.in-Some.ensures.cases, c.args.scripts.ok, c.requires.scripts.count, scripts) in
     let first : IsFirstPass w k c.finish-pass.result = grind (arith, first_pass) in
-    let next : HasMade w (k + 1) c.caller.new.self =
-    subst (λ (h : HostState). HasMade w (k + 1) h) (sym c.caller.ensures.host) (next_made c.requires.host) in
+    let markers = c.args.run.now.markers in
+    let next : HasMade w markers (k + 1) c.caller.new.self =
+    subst (λ (h : HostState). HasMade w markers (k + 1) h) (sym c.caller.ensures.host) (caller_made c.requires.host) in
     -- What the bounds of the type parameters say of the two closures: by hand, since a search doesn't look so far.
     let shared = c.requires.shared in (
       (
@@ -80,7 +84,7 @@ returns g t c =
     let w = c.args.run.now.heap.now in
     let k = c.args.k in
     let ran : HasRun on program w k c.join-ran.result.0 = c.join-ran.ensures.first.0 in
-    let joined : AreJoined on program w (k + 1) c.caller.new.self.markers c.join-ran.result.1 =
+    let joined : AreJoined on program w (k + 1) c.args.run.now.markers c.join-ran.result.1 =
     c.join-ran.ensures.second.0 in
     let pass = c.join-ran.result.0.pass in
     let old = c.join-ran.result.1.host in
@@ -98,9 +102,7 @@ returns g t c =
         own = rw is (has_left old.pass.seats pass.seats Host joined.own);
         without_host = host_is_still joined.own own joined.without_host;
         before_over = c.join_caller.ensures.overs ∙ joined.before_over;
-        same_markers =
-            ap (λ (h : HostState). h.markers) is ∙ joined.same_markers ∙ ap (λ (h : HostState). h.markers)
-            c.caller.ensures.host;
+        same_markers = ap (λ (h : HostState). h.markers) is ∙ joined.same_markers;
         texts =
             texts_joined k pass joined.is_host own ran.alone came (λ texts. texts.items)
             c.join-ran.result.0.text c.join-ran.result.1.texts c.with_first.result c.with_first.ensures.first

@@ -2,7 +2,8 @@ use Rattle.std.proofs.lemmas.Result.{IfOk-weaker}
 use Rattle.mk_laws.proofs.Vocabulary.{Host, ap, arith, subst, sym, ◌∙◌, ◌≡◌}
 use Rattle.mk_run.proofs.Vocabulary.{AreTextsFrom, Has, HasJoined, HostState}
 use Rattle.mk_run.proofs.WholeRuns.{all_callers_home, all_callers_joined, still_joined, still_texts}
-use Rattle.mk_run.proofs.{HostTurns.comes_last, KeptScripts.host_on, KeptScripts.scripts_on}
+use Rattle.mk_run.proofs.KeptScripts.{host_on, scripts_on}
+use Rattle.mk_heap.proofs.HostTurns.{comes_last}
 use Rattle.mk_run.proofs.marking.run_scripts.Goals as goal
 
 pub take_last_turns-requires-clause-all_home : goal.take_last_turns-requires-clause-all_home
@@ -26,19 +27,19 @@ returns g c =
     let h = c.run_from-host.result.host in
     let new = c.take_last_turns.new.host in
     let last = c.take_last_turns.ensures in
-    let count : new.markers ≡ c.args.host.markers =
+    let count : new.markers ≡ c.args.run.now.markers =
     ap (λ (x : HostState). x.markers) last.host.is ∙ joined.same_markers in
     record {
       over = record {
         is_host =
             subst (λ (x : HostState). HasJoined on program w 0 x) (sym last.host.is)
-            (still_joined new.pass.seen joined.is_host last.host.still h.pass.seats (λ k has. has));
+            (still_joined new.pass.seen joined.is_host last.host.still);
         own = subst (λ (x : HostState). Has x.pass.seats Host) (sym last.host.is) joined.own;
         last =
             comes_last w.config h.pass (all_callers_home c.args.run.now.markers c.args.run.now.made_for joined.is_host)
             joined.without_host last.host.still last.cycles;
         over = last.over;
-        markers = λ i le lt. absurd (omega arith);
+        same_markers = count;
         texts =
             IfOk-weaker c.run_from-host.result.texts (λ texts. AreTextsFrom program 0 w.config h.pass.seen texts.items)
             (λ texts. AreTextsFrom program 0 w.config new.pass.seen texts.items)

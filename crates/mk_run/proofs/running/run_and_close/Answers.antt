@@ -1,18 +1,19 @@
 use Rattle.mk_laws.proofs.Vocabulary.{arith, ◌∙◌, ◌≡◌}
 use Rattle.mk_run.proofs.{Vocabulary.{AreTextsFrom, config_of}, KeptScripts.{run_is_begun, run_is_unswept}}
-use Rattle.mk_run.proofs.{LastOvers.run_ends_with_cycle, WholeRuns.{all_joined, is_run}}
+use Rattle.mk_heap.proofs.LastOvers.{run_ends_with_cycle}
+use Rattle.mk_run.proofs.WholeRuns.{is_run}
 use Rattle.mk_run.proofs.running.run_and_close.Goals as goal
 
 pub close-report-requires-clause-joined : goal.close-report-requires-clause-joined
-close-report-requires-clause-joined g c = all_joined c.run_beside-joined.ensures.over
+close-report-requires-clause-joined g c = c.run_beside-host.ensures.joined
 
 pub returns : goal.returns
 returns g c =
     let program = c.args.program.now in
     let markers = c.args.markers in
     let w = c.in_ok-heap.heap in
-    let beside = c.run_beside-joined.ensures in
-    let h = c.run_beside-joined.result.joined.host in
+    let beside = c.run_beside-host.ensures in
+    let h = c.run_beside-host.result.0 in
     let end = c.close-report.ensures in
     let made : w.config ≡ config_of program markers = c.in_ok-heap.ensures.config ∙ c.in_ok-config.ensures.config in
     let texts : AreTextsFrom program 0 w.config h.pass.seen c.in_ok-texts.field-0.items = grind arith in
@@ -26,5 +27,5 @@ returns g c =
       begun = run_is_begun program markers made end.config end.history end.whole beside.keep;
     }
 
-pub run_beside-joined-requires-clause-ready : goal.run_beside-joined-requires-clause-ready
-run_beside-joined-requires-clause-ready g c κs within = rw c.in_ok-heap.ensures.config c.in_ok-ready.ensures.ready
+pub run_beside-host-requires-clause-ready : goal.run_beside-host-requires-clause-ready
+run_beside-host-requires-clause-ready g c κs within = rw c.in_ok-heap.ensures.config c.in_ok-ready.ensures.ready

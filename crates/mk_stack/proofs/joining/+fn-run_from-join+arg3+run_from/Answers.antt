@@ -1,8 +1,9 @@
 use Rattle.std.proofs.{Common.Ok, Common.length-drop, Common.rules, lemmas.List.Elements.All-pop}
-use Rattle.mk_stack.proofs.Vocabulary.{HasHandedOut, HaveWorked, Jobs, Joined, replied_to}
+use Rattle.mk_stack.proofs.Vocabulary.{HasMade, HaveWorked, Jobs, Joined, replied_to}
 use Rattle.mk_laws.proofs.Vocabulary.{List, Some, arith, drop, length, subst, sym, [], ◌+◌, ◌-◌, ◌<◌, ◌≡◌}
-use Rattle.mk_stack.proofs.JoinedJobs.{next_list, next_made, next_ready, next_unasked, no_lists, none_joined}
+use Rattle.mk_stack.proofs.JoinedJobs.{next_list, next_ready, next_unasked, no_lists, none_joined}
 use Rattle.mk_stack.specs.Joining.{AreCallersFrom, HasWorked, IsBetweenJobs}
+use Rattle.mk_heap.proofs.Crews.{caller_made}
 use Rattle.mk_stack.proofs.joining.+fn-run_from-join+arg3+run_from.Goals as goal
 
 pub join-worked-requires-after_bounds : goal.join-worked-requires-after_bounds
@@ -11,8 +12,9 @@ join-worked-requires-after_bounds g t c κs within =
     let k = c.args.k in
     let rest = c.pop.new.self.items in
     let given = c.requires.callers in
-    let next : HasHandedOut w c.args.host.markers (k + 1 + 1) c.caller.new.self =
-    subst (HasHandedOut w c.args.host.markers (k + 1 + 1)) (sym c.caller.ensures.host) (next_made c.requires.host) in
+    let next : HasMade w c.args.run.now.markers (k + 1 + 1) c.caller.new.self =
+    subst (HasMade w c.args.run.now.markers (k + 1 + 1)) (sym c.caller.ensures.host)
+    (caller_made c.requires.host) in
     let made = All-pop (λ engine. g.E.Engine.made_for engine ≡ w.config.pages) c.args.callers.engines.others.items rest
     (Some c.in-Some.second) c.in-Some.ensures.items given.engines.others in
     let callers : AreCallersFrom g.E.Engine.made_for w (k + 1) (record {
@@ -43,10 +45,10 @@ returns g t c =
     let list = next_list lists k (omega (arith, c.args.run.now.one_each, c.requires.callers.engines.count)) in
     let begun : replied_to c.finish-next_pass.result ≡ [] =
     cc (c.finish-next_pass.ensures.pass, next_unasked c.caller.result c.requires.host c.caller.ensures.caller) in
-    let markers = c.args.host.markers in
+    let markers = c.args.run.now.markers in
     let one = rw list.there at c.join-worked.ensures.first in
     let joined : HaveWorked w markers (replied_to c.finish-next_pass.result) (k + 1) others c.join-worked.result.1 =
-    rw c.caller.ensures.host at c.join-worked.ensures.second in
+    c.join-worked.ensures.second in
     record {
       joined = rw list.rest (c.join_worked-2.ensures markers first k list.jobs others one (rw begun at joined));
     }
@@ -56,7 +58,7 @@ pub returns-in_default : goal.returns-in_default
 returns-in_default g t c =
     let w = c.args.run.now.heap.now in
     let k = c.args.k in
-    let markers = c.args.host.markers in
+    let markers = c.args.run.now.markers in
     let lists = c.args.run.now.lists.now in
     let first = replied_to c.args.callers.pass in
     let others : List Jobs = drop (k + 1) lists in

@@ -9,10 +9,10 @@ over-requires-clause-joined g c κs within =
 pub returns : goal.returns
 returns g c = record {
   ended =
-      have_ended c.args.run.now.heap.now c.args.host.markers c.args.run.now.lists.now c.found_and_work-host.result
+      have_ended c.args.run.now.heap.now c.args.run.now.markers c.args.run.now.lists.now c.found_and_work-host.result
       c.read_left-left.new.host c.over.new.self c.args.run.now.types c.args.run.now.one_each
       c.found_and_work-host.ensures.worked
       c.read_left-left.ensures.reader c.over.ensures.over c.over.ensures.host
-      (record { host = c.over.new.self; dones = c.found_and_work-host.result.dones; left = c.read_left-left.result })
-      refl refl c.read_left-left.ensures.reads;
+      (record { dones = c.found_and_work-host.result.dones; left = c.read_left-left.result }) refl
+      c.read_left-left.ensures.reads;
 }
