@@ -1,5 +1,5 @@
-//! A heap and its host, which runs cycles and closes it; any operation of a caller; and markers beside the callers' work.
-//! The report of `Heap::close` has the whole history, to proofs, and its tallies; each operation is answered as it asks.
+//! A heap and its host, which runs cycles and closes it; any operation of a caller; and markers beside callers.
+//! The report of `Heap::close` has the whole history, to proofs, and its tallies; each operation has its answer.
 //! Start with `heaps` and `hosts`, then `dispatching` and `marking`.
 #![tactic(auto)]
 
