@@ -1,13 +1,15 @@
 -- What stands at the place of a declared name.
 use Rattle.std.proofs.{lemmas.List.Elements.filter_map-append, lemmas.Option.get_or_from_slice_get}
-use Rattle.std.specs.List.{cons_option, filter_map}
+use Rattle.std.specs.List.{cons_option, filter_map, list_any}
 use Rattle.mk_check.proofs.Vocabulary.{At, Bool, Item, List, None, Option, Some, TypeWord, ℕ, append-nil, arith}
 use Rattle.mk_check.proofs.Vocabulary.{bytes_eq, bytes_eq-Decides, get_or, global_names, global_type, globals_among}
 use Rattle.mk_check.proofs.Vocabulary.{if◌then◌else◌, kind_of, kinds_among, kinds_of, length, length-map, map}
 use Rattle.mk_check.proofs.Vocabulary.{number_of_name, option_map, option_or, pointer_at, pointer_names, refl}
 use Rattle.mk_check.proofs.Vocabulary.{same_Some, slice_get, slice_get_within, suc, sym, type_names, type_words, []}
 use Rattle.mk_check.proofs.Vocabulary.{◌++◌, ◌+◌, ◌<◌, ◌∙◌, ◌∷◌, ◌≡◌}
-use Rattle.mk_check.specs.{Declarations.{declared_type, declared_words}, Typing.{declared_place, value_of}}
+use Rattle.mk_check.specs.{Declarations.{declared_type, declared_words}, Lookups.declared_for}
+use Rattle.mk_check.specs.Typing.{declared_place, value_of}
+use Rattle.std.proofs.{Common.{nat_lt, ◌||◌}, lemmas.Bool.Decides.nat_tests}
 use Rattle.mk_script.specs.{Scopes.{declared_name, names_of}, declared.sorts.Sort.Sort}
 
 -- the name at its place
@@ -53,6 +55,19 @@ module _ {X : Type 0} where
   said_of-append says name items others =
       rw (filter_map-append says items others) (value_of-append name (filter_map says items) (filter_map says others))
 
+  -- what a name is declared for stands at its number, and nothing stands there where it isn't declared
+  value_by_number : (name : List ℕ) (declared : List (List ℕ × X)) → value_of name declared
+      ≡ slice_get (map (λ (d : List ℕ × X). d.1) declared) (number_of_name name (names_in declared))
+  value_by_number name [] = refl
+  value_by_number name (one ∷ declared) = by_test (value_by_number name declared) (bytes_eq name one.0)
+    where
+      by_test : value_of name declared
+          ≡ slice_get (map (λ (d : List ℕ × X). d.1) declared) (number_of_name name (names_in declared))
+          → (same : Bool) → (if same then Some one.1 else value_of name declared)
+          ≡ slice_get (one.1 ∷ map (λ (d : List ℕ × X). d.1) declared)
+          (if same then 0 else number_of_name name (names_in declared) + 1)
+      by_test rest x1 = grind arith
+
   -- what a name is declared for stands at its place
   pub value_place : {Y : Type 0} (f : X → Y) (name : List ℕ) (declared : List (List ℕ × X)) (x : X)
       → value_of name declared ≡ Some x
@@ -82,6 +97,10 @@ module _ {X : Type 0} where
         (number_of_name name (names_of s items)) ≡ Some (f x)
     declared_at f name items x e = rw (names_are items) (value_place f name (filter_map says items) x e)
 
+    pub value_at_number : (name : List ℕ) (items : List Item) → value_of name (filter_map says items)
+        ≡ slice_get (map (λ (d : List ℕ × X). d.1) (filter_map says items)) (number_of_name name (names_of s items))
+    value_at_number name items = rw (names_are items) (value_by_number name (filter_map says items))
+
     pub length-declared : {Y : Type 0} (f : List ℕ × X → Y) (items : List Item)
         → length (map f (filter_map says items)) ≡ length (names_of s items)
     length-declared f items = rw (names_are items) (length-map (filter_map says items) f
@@ -101,6 +120,25 @@ type_named item = grind arith
 
 pub place_named : (item : Item) → declared_name Sort.Pointer item ≡ option_map (λ d. d.0) (declared_place item)
 place_named item = grind arith
+
+pub type_words_are : (name : List ℕ) (items : List Item) → type_words name items
+    ≡ slice_get (declared_for declared_words items) (number_of_name name (type_names items))
+type_words_are name items = value_at_number Sort.Type declared_words word_named name items
+
+pub global_type_is : (name : List ℕ) (items : List Item) → global_type name items
+    ≡ slice_get (declared_for declared_type items) (number_of_name name (global_names items))
+global_type_is name items = value_at_number Sort.Global declared_type type_named name items
+
+-- a name is one of these where its number is one of theirs
+pub number_within : (name : List ℕ) (names : List (List ℕ))
+    → nat_lt (number_of_name name names) (length names) ≡ list_any (bytes_eq name) names
+number_within name [] = refl
+number_within name (other ∷ others) = by_test (bytes_eq name other) (number_within name others)
+  where
+    by_test : (same : Bool) → nat_lt (number_of_name name others) (length others) ≡ list_any (bytes_eq name) others
+        → nat_lt (if same then 0 else number_of_name name others + 1) (suc (length others))
+        ≡ (same || list_any (bytes_eq name) others)
+    by_test x0 rest = grind (arith, nat_tests)
 
 pub pointer_within : (name : List ℕ) (lines : List Item) (at : At) → pointer_at name lines ≡ Some at
     → number_of_name name (pointer_names lines) < length (pointer_names lines)

@@ -6,6 +6,7 @@ pub mod GrammarLemmas
 pub mod LookupLemmas
 pub mod NumberLemmas
 pub mod RuleLemmas
+pub mod ScriptLemmas
 pub mod Builds
 pub mod FeedLaws
 pub mod FewBlocks

@@ -1,15 +1,35 @@
 -- The parts of a script, with numbers for their names.
 use Rattle.std.proofs.Common.{slice_index_or}
-use Rattle.mk_check.proofs.Vocabulary.{Item, List, Part, Scope, ℕ, arith, drop, drop_more, element_of, length, map}
-use Rattle.mk_check.{proofs.Vocabulary.{parts_from, with_element, with_item, ◌+◌, ◌<◌, ◌≡◌}, specs.Building.{part_of}}
+use Rattle.mk_check.proofs.Vocabulary.{Element, Item, List, Part, Scope, ℕ, ap, arith, blocks_from, drop, drop_more}
+use Rattle.mk_check.proofs.Vocabulary.{element_of, length, map, numbered, outermost_blocks, parts_from, refl, sym}
+use Rattle.mk_check.proofs.Vocabulary.{with_element, with_item, [], ◌+◌, ◌<◌, ◌∙◌, ◌∷◌, ◌≡◌}
+use Rattle.mk_check.specs.Building.{innermost_steps, part_of, parts_before, steps_before}
 
-pub part_of-with_item : (scope : Scope) (line : ℕ) (item : Item) (parts : List Part) → map (part_of scope)
+part_of-with_item : (scope : Scope) (line : ℕ) (item : Item) (parts : List Part) → map (part_of scope)
     (with_item line item parts) ≡ with_element line (element_of scope item) (map (part_of scope) parts)
 part_of-with_item scope line item parts = grind arith
 
--- the parts from an item are those after it, with the item before them
-pub parts_from_more : (scope : Scope) (line i next : ℕ) (items : List Item) (item : Item) → i < length items
-    → item ≡ slice_index_or items i item → next ≡ i + 1
-    → with_element (line + i) (element_of scope item) (map (part_of scope) (parts_from (line + next) (drop next items)))
-    ≡ map (part_of scope) (parts_from (line + i) (drop i items))
-parts_from_more scope line i next items item h is more = grind (arith, drop_more, part_of-with_item)
+numbered_parts : (scope : Scope) (line : ℕ) (items : List Item)
+    → parts_before line (map (element_of scope) items) ≡ map (part_of scope) (parts_from line items)
+numbered_parts scope line [] = refl
+numbered_parts scope line (item ∷ items) =
+    ap (with_element line (element_of scope item)) (numbered_parts scope (line + 1) items)
+    ∙ sym (part_of-with_item scope line item (parts_from (line + 1) items))
+
+innermost_part : (scope : Scope) (parts : List Part)
+    → innermost_steps (map (part_of scope) parts) ≡ numbered scope (outermost_blocks parts)
+innermost_part scope [] = refl
+innermost_part scope (part ∷ parts) = refl
+
+-- the steps before lines with numbers are the blocks of the lines, with numbers
+pub numbered_steps : (scope : Scope) (line : ℕ) (items : List Item)
+    → steps_before line (map (element_of scope) items) ≡ numbered scope (blocks_from line items)
+numbered_steps scope line items =
+    ap innermost_steps (numbered_parts scope line items) ∙ innermost_part scope (parts_from line items)
+
+-- the parts from a line are those after it, with the line before them
+pub parts_before_more : (line i next : ℕ) (elements : List Element) (e : Element) → i < length elements
+    → e ≡ slice_index_or elements i e → next ≡ i + 1
+    → with_element (line + i) e (parts_before (line + next) (drop next elements))
+    ≡ parts_before (line + i) (drop i elements)
+parts_before_more line i next elements e h is more = grind (arith, drop_more)

@@ -1,6 +1,8 @@
 -- A script as a tree of blocks.
-use Rattle.std.specs.Prelude.{⊤, ℕ, zero, suc, ◌+◌, Bool, true, false, List, [], ◌∷◌, Option, Some, None}
+use Rattle.std.specs.Prelude.{⊤, ◌≡◌, ℕ, zero, suc, ◌+◌, ◌<◌, ◌≤◌, Bool, true, false, List, [], ◌∷◌, length, Option}
+use Rattle.std.specs.Prelude.{Some, None}
 use Rattle.mk_script.specs.{declared.items.Item.Item, declared.items.Item.TheVariants.{Script, Repeat, If, Else, End}}
+use Rattle.mk_script.specs.Scopes.{script_names}
 
 -- Lines to run: a plain line, a `repeat` of a body, or an `if` on a number register with its two branches, each
 -- with the lines after it.
@@ -116,3 +118,11 @@ script_from line k (item ∷ items) = script_from (line + 1) k items
 -- script k of a program, from 0 on
 abbrev pub script_of : List Item → ℕ → ScriptText
 script_of items k = script_from 1 k items
+
+-- a program has script k, which has this name, and these lines of the program from this one on
+pub record IsScriptAt (program : List Item) (k : ℕ) (name : List ℕ) (line : ℕ) (items : List Item) : Type 0 where
+  pub some : k < length (script_names program)
+  pub name_is : name ≡ (script_of program k).name
+  pub line_is : line ≡ (script_of program k).line
+  pub items_are : items ≡ (script_of program k).items
+  pub within : line + length items ≤ length program + 1

@@ -1,6 +1,6 @@
 -- A script's tree, built from its last line on.
 -- Private functions alone cite these words.
-use Rattle.std.specs.Prelude.{◌≡◌, ℕ, ◌<◌, ◌++◌, List, [], ◌∷◌, length, fold}
+use Rattle.std.specs.Prelude.{◌≡◌, ℕ, ◌+◌, ◌<◌, ◌++◌, List, [], ◌∷◌, length, fold}
 use Rattle.mk_check.specs.{declared.feeding.instructions.Element.Element, declared.feeding.tree.Node.Node}
 use Rattle.mk_check.specs.{declared.feeding.building.Part.Part, Blocks.branch, Feed.Scope, Steps.{Steps, Done, Line}}
 use Rattle.mk_check.specs.{Steps.{Rounds, Choice, numbered}, Trees.{steps_at, trees}}
@@ -35,6 +35,15 @@ with_element line element.End parts = record { steps = Done; second = Done } ∷
 abbrev pub innermost_steps : List StepPart → Steps
 innermost_steps [] = Done
 innermost_steps (part ∷ parts) = part.steps
+
+-- the open parts before the lines, the innermost first; the first line has this number
+abbrev pub parts_before : ℕ → List Element → List StepPart
+parts_before line [] = record { steps = Done; second = Done } ∷ []
+parts_before line (e ∷ elements) = with_element line e (parts_before (line + 1) elements)
+
+-- the steps of a script's lines
+abbrev pub steps_before : ℕ → List Element → Steps
+steps_before line elements = innermost_steps (parts_before line elements)
 
 -- The nodes so far, and the open parts, the outermost first.
 pub record Built : Type 0 where

@@ -7,7 +7,7 @@ pub mod Feeding
 pub mod Laws
 pub mod Lengths
 pub mod Lookups
-pub mod Numbers
+pub mod Numbering
 pub mod Rules
 pub mod AtOnce
 pub mod Spots

@@ -1,12 +1,11 @@
 -- What look-ups by name know of a program.
 -- Private functions alone cite these words.
-use Rattle.std.specs.{Prelude.{◌≡◌, ℕ, if◌then◌else◌, List, [], ◌∷◌, ◌++◌, map, take, Option, Some, None}, Borrow.Bor}
-use Rattle.std.specs.{HashMap.{HashMap, get_by}, Option.{option_copied, option_or}, Str.bytes_eq}
-use Rattle.mk_script.specs.{declared.items.At.At, declared.items.Item.Item, Scopes.{is_script, number_names}}
-use Rattle.mk_script.specs.Scopes.{this_script}
+use Rattle.std.specs.{Prelude.{◌≡◌, ℕ, if◌then◌else◌, List, [], ◌∷◌, ◌++◌, map, take, Option}, List.filter_map}
+use Rattle.mk_script.specs.{declared.items.At.At, declared.items.Item.Item, Scopes.{global_names, is_script}}
+use Rattle.mk_script.specs.Scopes.{number_names, this_script, type_names}
 use Rattle.mk_check.specs.{declared.lookups.Declarations.Declarations, declared.lookups.PointerRegister.PointerRegister}
-use Rattle.mk_check.specs.{declared.lookups.Registers.Registers, Typing.{Around, type_words, global_type, pointer_at}}
-use Rattle.mk_check.specs.Typing.{value_of}
+use Rattle.mk_check.specs.{declared.lookups.Registers.Registers, Declarations.{declared_type, declared_words}}
+use Rattle.mk_check.specs.{NamesInScope.referred_names, Typing.{Around, pointer_at, value_of}}
 
 -- A program, and how many of its lines were read.
 pub record Reading : Type 0 where
@@ -16,18 +15,9 @@ pub record Reading : Type 0 where
 abbrev pub around : Reading → Around
 around reading = record { program = reading.program; script = this_script (take reading.count reading.program) }
 
--- what a map has for a name
-abbrev pub value_for_name : {X S : Type 0} → HashMap (Bor (List ℕ)) X S → List ℕ → Option X
-value_for_name names name = get_by (λ key. bytes_eq name key.now) names
-
--- the value is added for the name, unless it has one
-abbrev pub AddsFirst : {X S : Type 0} → HashMap (Bor (List ℕ)) X S → HashMap (Bor (List ℕ)) X S → List ℕ → X → Type 0
-AddsFirst old new name value =
-    (other : List ℕ) → value_for_name new other
-    ≡ option_or (value_for_name old other) (if bytes_eq other name then Some value else None)
-
-abbrev pub KeepsValues : {X S : Type 0} → HashMap (Bor (List ℕ)) X S → HashMap (Bor (List ℕ)) X S → Type 0
-KeepsValues old new = (name : List ℕ) → value_for_name new name ≡ value_for_name old name
+-- what names are declared for, in the order of their lines
+abbrev pub declared_for : {X : Type 0} → (Item → Option (List ℕ × X)) → List Item → List X
+declared_for {X = X} says items = map (λ (d : List ℕ × X). d.1) (filter_map says items)
 
 -- the lines of the script after a line
 abbrev pub lines_behind : List Item → Item → List Item
@@ -35,8 +25,10 @@ lines_behind lines item = if is_script item then [] else lines ++ item ∷ []
 
 -- they are those of the program
 pub record AreDeclared (declarations : Declarations) (program : List Item) : Type 0 where
-  pub types : (name : List ℕ) → option_copied (value_for_name declarations.types name) ≡ type_words name program
-  pub globals : (name : List ℕ) → option_copied (value_for_name declarations.globals name) ≡ global_type name program
+  pub types : referred_names declarations.types.items ≡ type_names program
+  pub words : map (λ words. words.now) declarations.words.items ≡ declared_for declared_words program
+  pub globals : referred_names declarations.globals.items ≡ global_names program
+  pub global_types : referred_names declarations.global_types.items ≡ declared_for declared_type program
 
 -- a register with where it is declared to point
 abbrev pub place_of : PointerRegister → List ℕ × At

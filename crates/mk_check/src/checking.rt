@@ -3,8 +3,9 @@ ghost use Rattle.std.specs.Prelude.{◌≡◌, ℕ, List, IfOk, IfErr, OnOk};
 ghost use Rattle.mk_script.specs.declared.items.Item.TheVariants.{Script};
 ghost use Rattle.mk_check.specs.{Lookups.around, Typing.{Around, typing_fault, IsWellTyped, NamesFirstFault}};
 
-use crate::lengths::{items_of_script, script_length};
+use crate::lengths::script_length;
 use crate::lookups::Lookups;
+use crate::scripts::items_of_script;
 use crate::typing::unless;
 use crate::{TypeKind, TypeStop};
 use mk_never::NoMemory;

@@ -3,20 +3,18 @@ ghost use Rattle.std.specs.Prelude.{◌≡◌, ◌<◌, ◌↔◌, [], IsTrue, I
 ghost use Rattle.mk_check.specs.Laws.{IsScript};
 
 mod building;
-mod instructions;
-mod names;
+pub mod instructions;
 mod running;
-mod scripts;
 mod tree;
 
 use crate::Checked;
+use crate::numbering::NumberedScript;
+use crate::scripts::script_at;
 use building::tree_of;
 use mk_core::Answer;
 use mk_never::{NoMemory, Op};
 use mk_script::Item;
-use names::Names;
 use running::Running;
-use scripts::script_at;
 use std::alloc::Global;
 use std::marker::Model;
 use tree::{Node, Tree};
@@ -46,24 +44,36 @@ impl Feed {
     ghost use Rattle.mk_core.specs.declared.events.Answer.{Answer};
     ghost use Rattle.mk_script.specs.{declared.items.Item.Item, Grammar.IsOfSomeText};
     ghost use Rattle.mk_check.specs.{Feed.{feed, has_ended}, Feeding.{next_op, work_left, FeedStandsFor, IsWaiting}};
-    ghost use Rattle.mk_check.specs.Feeding.{TakesAnswer};
+    ghost use Rattle.mk_check.specs.{Feeding.TakesAnswer, Numbering.elements_of_script};
 
     /// Script `script` of a program, from 0 on, which has no answer yet.
     pub fn start(alloc: Global, program: &Checked, script: u64) -> Result<Feed, NoMemory>
         requires { IsScript program.now script }
         ensures { IfOk result (λ f. FeedStandsFor program.now script f []) }
     {
-        Feed::begin(alloc, program.program().items(), script)
+        Feed::begin(
+            alloc,
+            program.program().items(),
+            script,
+            program.script(script),
+        )
     }
 
-    fn begin(alloc: Global, items: &[Item], script: u64) -> Result<Feed, NoMemory>
+    fn begin(
+        alloc: Global,
+        items: &[Item],
+        script: u64,
+        numbered: &NumberedScript,
+    ) -> Result<Feed, NoMemory>
         requires exists { IsScript items.now script }
         requires text { IsOfSomeText items.now }
+        requires numbered { numbered.now ≡ elements_of_script items.now script }
         ensures { IfOk result (λ f. FeedStandsFor items.now script f []) }
     {
-        let lines = script_at(items, script);
-        let names = Names::of(alloc, items, lines.items)?;
-        let (tree, at) = tree_of(alloc, &names, lines.line, lines.items)?;
+        let Some(lines) = script_at(items, script) else {
+            unreachable!()
+        };
+        let (tree, at) = tree_of(alloc, lines.line, numbered.lines())?;
         let mut running = Running::begin(alloc, at, lines.name)?;
         running.run(alloc, &tree)?;
         Ok(Feed {

@@ -1,19 +1,11 @@
 //! How many instructions a script executes at most.
 ghost use Rattle.std.specs.Prelude.{◌≡◌, ℕ, ◌-◌, ◌^◌, [], ◌∷◌, OnOk, IfOk, min};
-ghost use Rattle.mk_check.specs.{Blocks.{blocks_from, before_next_script}, Lengths.length_of};
-ghost use Rattle.mk_script.specs.Scopes as scopes;
+ghost use Rattle.mk_check.specs.{Blocks.blocks_from, Lengths.length_of};
 
 use mk_never::NoMemory;
 use mk_script::{Item, is_declaration};
 use std::alloc::Global;
 use std::marker::Model;
-
-/// Whether a script begins at the item.
-pub fn is_script(item: &Item) -> bool
-    ensures { result ≡ scopes.is_script item.now }
-{
-    matches!(item, Item::Script { .. })
-}
 
 /// Counts of an open part of a script: of its lines, and of the branch after its `else`.
 #[derive(Clone, Copy)]
@@ -127,16 +119,4 @@ pub fn script_length(alloc: Global, items: &[Item]) -> Result<u64, NoMemory>
         parts.read(item)?;
     }
     Ok(parts.close().lines)
-}
-
-/// The items before the next script.
-pub fn items_of_script(behind: &[Item]) -> &[Item]
-    ensures { result.now ≡ before_next_script behind.now }
-{
-    for (place, item) in behind.iter().enumerate() {
-        if is_script(item) {
-            return &behind[..place];
-        }
-    }
-    behind
 }

@@ -9,13 +9,17 @@ mod feeding;
 pub mod laws;
 mod lengths;
 mod lookups;
+mod names;
+mod numbering;
 mod numbers;
 mod places;
+mod scripts;
 mod text;
 mod typing;
 mod typing_faults;
 
 pub use checked::{Checked, check};
 pub use feeding::Feed;
+pub use scripts::{ScriptLines, script_at};
 pub use text::{Text, is_refusal};
 pub use typing_faults::{TypeKind, TypeStop};

@@ -2,70 +2,63 @@
 ghost use Rattle.std.specs.Prelude.{◌≡◌, ◌+◌, ◌<◌, List, [], ◌∷◌, ◌++◌, length, map, IfOk, OnOk, OnErr};
 ghost use Rattle.std.specs.{List.list_any, Option.option_copied, Str.bytes_eq};
 ghost use Rattle.mk_script.specs.{declared.items.Item.Item, Scopes.number_names};
-ghost use Rattle.mk_check.specs.{Typing.{type_words, global_type, pointer_at}, Lookups.{around, AddsFirst}};
-ghost use Rattle.mk_check.specs.Lookups.{KeepsValues};
+ghost use Rattle.mk_check.specs.{Typing.{type_words, global_type, pointer_at}, Lookups.{around, declared_for}};
+ghost use Rattle.mk_check.specs.{Declarations.{declared_type, declared_words}, NamesInScope.referred_names};
 
+use crate::names::{names_among, number_of_name};
 use mk_never::NoMemory;
-use mk_script::{At, Item, Name, TypeWord};
+use mk_script::{At, Item, Name, Sort, TypeWord};
 use std::alloc::Global;
-use std::collections::HashMap;
 use std::marker::Model;
 
-/// Adds a value for a name that has none.
-pub fn add_first<'a, V: Copy>(
-    names: &mut HashMap<&'a [u8], V>,
-    name: &'a Name,
-    value: V,
-) -> Result<(), NoMemory>
-    ensures added { OnOk result (AddsFirst names.old names.new name.now value) }
-    ensures unchanged { OnErr result (KeepsValues names.old names.new) }
-{
-    let key = name.as_bytes();
-    if !names.contains_key(&key) {
-        names.insert(key, value)?;
-    }
-    Ok(())
-}
-
-/// The words of types and the types of globals.
+/// The words of types and the types of globals, in the order of their names.
 #[derive(Drop)]
 struct Declarations<'a> {
-    types: HashMap<&'a [u8], &'a [TypeWord]>,
-    globals: HashMap<&'a [u8], &'a Name>,
+    types: Vec<&'a Name>,
+    words: Vec<&'a [TypeWord]>,
+    globals: Vec<&'a Name>,
+    global_types: Vec<&'a Name>,
 }
 
 impl<'a> Declarations<'a> {
     ghost use Rattle.mk_check.specs.Lookups.{AreDeclared};
 
-    fn new(alloc: Global) -> Declarations<'a>
-        ensures { AreDeclared result [] }
-    {
-        Declarations {
-            types: HashMap::new(alloc),
-            globals: HashMap::new(alloc),
-        }
-    }
-
-    fn add(&mut self, item: &'a Item) -> Result<(), NoMemory>
-        ensures { OnOk result ((items : List Item) → AreDeclared self.old items
-            → AreDeclared self.new (items ++ item.now ∷ [])) }
-    {
-        match item {
-            Item::TypeLine { name, words } => add_first(&mut self.types, name, words.as_slice()),
-            Item::Global { name, ty } => add_first(&mut self.globals, name, ty),
-            _ => Ok(()),
-        }
-    }
-
     fn of_program(alloc: Global, program: &'a [Item]) -> Result<Declarations<'a>, NoMemory>
         ensures { IfOk result (λ declarations. AreDeclared declarations program.now) }
     {
-        let mut declarations = Declarations::new(alloc);
-        for item in program {
-            declarations.add(item)?;
-        }
-        Ok(declarations)
+        Ok(Declarations {
+            types: names_among(alloc, Sort::Type, program)?,
+            words: words_of_types(alloc, program)?,
+            globals: names_among(alloc, Sort::Global, program)?,
+            global_types: types_of_globals(alloc, program)?,
+        })
     }
+}
+
+/// The words of each type.
+fn words_of_types(alloc: Global, program: &[Item]) -> Result<Vec<&[TypeWord]>, NoMemory>
+    ensures { IfOk result (λ types. map (λ words. words.now) types.items ≡ declared_for declared_words program.now) }
+{
+    let mut types = Vec::new(alloc);
+    for item in program {
+        if let Item::TypeLine { words, .. } = item {
+            types.push(words.as_slice())?;
+        }
+    }
+    Ok(types)
+}
+
+/// The name of each global's type.
+fn types_of_globals(alloc: Global, program: &[Item]) -> Result<Vec<&Name>, NoMemory>
+    ensures { IfOk result (λ types. referred_names types.items ≡ declared_for declared_type program.now) }
+{
+    let mut types = Vec::new(alloc);
+    for item in program {
+        if let Item::Global { ty, .. } = item {
+            types.push(ty)?;
+        }
+    }
+    Ok(types)
 }
 
 /// A pointer register, and where it is declared to point.
@@ -127,12 +120,7 @@ impl<'a> Registers<'a> {
     fn has_number(&self, name: &Name) -> bool
         ensures { result ≡ list_any (bytes_eq name.now) (map (λ number. number.now) self.now.numbers.items) }
     {
-        for number in &self.numbers {
-            if name.is(number) {
-                return true;
-            }
-        }
-        false
+        number_of_name(&self.numbers, name) < self.numbers.len()
     }
 }
 
@@ -186,14 +174,16 @@ impl<'a> Lookups<'a> {
     pub fn type_words(&self, name: &Name) -> Option<&'a [TypeWord]>
         ensures { option_copied result ≡ type_words name.now self.now.program }
     {
-        self.declarations.types.get(&name.as_bytes()).copied()
+        let number = number_of_name(&self.declarations.types, name);
+        self.declarations.words.get(number).copied()
     }
 
     /// The type of a global.
     pub fn global_type(&self, name: &Name) -> Option<&'a Name>
         ensures { option_copied result ≡ global_type name.now self.now.program }
     {
-        self.declarations.globals.get(&name.as_bytes()).copied()
+        let number = number_of_name(&self.declarations.globals, name);
+        self.declarations.global_types.get(number).copied()
     }
 
     /// Where a pointer register of the script so far is declared to point.

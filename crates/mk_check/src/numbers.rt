@@ -3,50 +3,40 @@ ghost use Rattle.std.specs.Prelude.{◌≡◌, ◌≤◌, map, length, IfOk};
 ghost use Rattle.mk_script.specs.Scopes.{global_names, type_names};
 ghost use Rattle.mk_check.specs.Declarations.{number_of_name, kind_of, types_of, globals_of};
 
-use crate::lookups::add_first;
+use crate::names::{names_among, number_of_name};
 use mk_core::GlobalTable;
 use mk_never::{Kind, NoMemory, TypeTable};
-use mk_script::{Item, Name, TypeWord};
+use mk_script::{Item, Name, Sort, TypeWord};
 use std::alloc::Global;
-use std::collections::HashMap;
 use std::marker::Model;
 
-/// The numbers of a program's types, by name.
+/// The names of a program's types, each of which stands at its number.
 #[derive(Drop)]
 pub struct TypeNumbers<'a> {
     program: &'a [Item],
-    numbers: HashMap<&'a [u8], u64>,
-    count: u64,
+    types: Vec<&'a Name>,
 }
 
 impl<'a> Model for TypeNumbers<'a> {
     ghost use Rattle.std.specs.Prelude.{List};
     ghost use Rattle.mk_script.specs.{declared.items.Item.Item, Scopes.type_names};
-    ghost use Rattle.mk_check.specs.Numbers.{AreNumbers};
+    ghost use Rattle.std.specs.Prelude.{◌≡◌};
+    ghost use Rattle.mk_check.specs.NamesInScope.{referred_names};
 
     ghost Value = { List Item };
 
     ghost view = { λ t. t.program.now };
 
-    ghost invariant = { λ t. AreNumbers t.numbers t.count (type_names t.program.now) };
+    ghost invariant = { λ t. referred_names t.types.items ≡ type_names t.program.now };
 }
 
 impl<'a> TypeNumbers<'a> {
     pub fn of_program(alloc: Global, program: &'a [Item]) -> Result<TypeNumbers<'a>, NoMemory>
         ensures { IfOk result (λ numbers. numbers ≡ program.now) }
     {
-        let mut numbers = HashMap::new(alloc);
-        let mut count = 0;
-        for item in program {
-            if let Item::TypeLine { name, .. } = item {
-                add_first(&mut numbers, name, count)?;
-                count += 1;
-            }
-        }
         Ok(TypeNumbers {
             program,
-            numbers,
-            count,
+            types: names_among(alloc, Sort::Type, program)?,
         })
     }
 
@@ -54,10 +44,7 @@ impl<'a> TypeNumbers<'a> {
     fn number(&self, name: &Name) -> u64
         ensures { result ≡ number_of_name name.now (type_names self.now) }
     {
-        self.numbers
-            .get(&name.as_bytes())
-            .copied()
-            .unwrap_or(self.count)
+        number_of_name(&self.types, name) as u64
     }
 
     fn kind(&self, word: &TypeWord) -> Kind

@@ -1,14 +1,12 @@
 //! A script's tree, built from its last line on.
 ghost use Rattle.std.specs.Prelude.{◌≡◌, ℕ, ◌+◌, ◌<◌, ◌^◌, ◌++◌, [], ◌∷◌, length, IfOk, OnOk};
-ghost use Rattle.mk_check.specs.{Blocks.blocks_from, Steps.{Done, numbered}, NamesInScope.HasFew};
+ghost use Rattle.mk_check.specs.{Building.steps_before, Steps.Done};
 ghost use Rattle.mk_check.specs.Trees.{IsBelow, steps_at, trees};
 ghost use Rattle.mk_check.specs.declared.feeding.instructions.Element.TheVariants as element;
 
 use crate::feeding::instructions::{Element, Instruction, NumberRegister};
-use crate::feeding::names::Names;
 use crate::feeding::tree::{Node, Tree};
 use mk_never::NoMemory;
-use mk_script::Item;
 use std::alloc::Global;
 use std::marker::Model;
 
@@ -174,22 +172,15 @@ impl Builder {
     }
 }
 
-/// The tree of a script's items, the first of which stands at this line, and the node of its first
-/// line.
-pub fn tree_of(
-    alloc: Global,
-    names: &Names<'_>,
-    line: u64,
-    items: &[Item],
-) -> Result<(Tree, usize), NoMemory>
-    requires few { HasFew names.now }
-    requires lines { line + length items.now < 2 ^ 64 }
-    ensures steps { IfOk result (λ t. steps_at (trees t.0) t.1 ≡ numbered names.now (blocks_from line items.now)) }
+/// The tree of a script's lines, the first of which has this number, and the node of its first line.
+pub fn tree_of(alloc: Global, line: u64, elements: &[Element]) -> Result<(Tree, usize), NoMemory>
+    requires lines { line + length elements.now < 2 ^ 64 }
+    ensures steps { IfOk result (λ t. steps_at (trees t.0) t.1 ≡ steps_before line elements.now) }
     ensures within { IfOk result (λ t. t.1 < length t.0) }
 {
     let mut builder = Builder::start(alloc)?;
-    for index in (0..items.len()).rev() {
-        builder.add(line + index as u64, names.element(&items[index]))?;
+    for index in (0..elements.len()).rev() {
+        builder.add(line + index as u64, elements[index])?;
     }
     Ok(builder.finish())
 }

@@ -1,20 +1,11 @@
 use Rattle.std.proofs.Common.{codes}
-use Rattle.mk_check.proofs.Vocabulary.{FeedStandsFor, HasFew, Item, List, Node, Place, PlaceFits, Scope, ScriptText, ℕ}
-use Rattle.mk_check.proofs.Vocabulary.{ap, arith, blocks_from, depth_of, fed_before_lines, numbered, scope_of}
+use Rattle.mk_check.proofs.Vocabulary.{FeedStandsFor, Item, List, Node, Place, PlaceFits, ScriptText, ℕ}
+use Rattle.mk_check.proofs.Vocabulary.{ap, arith, blocks_from, depth_of, fed_before_lines, numbered}
 use Rattle.mk_check.proofs.Vocabulary.{script_of, script_scope, steps_at, subst, sym, trees, [], ◌++◌, ◌∙◌, ◌≡◌}
-use Rattle.mk_check.proofs.{Stands.{start_stands, start_stops}, feeding.Feed.begin.Goals.{In_ok-names, In_ok-run}}
-use Rattle.mk_check.proofs.{feeding.Feed.begin.Goals.In_ok-running, FewBlocks.text_has_few_blocks}
-use Rattle.mk_check.{proofs.FewNames.{text_has_few}, specs.Feed.{newline}}
+use Rattle.mk_check.proofs.{Stands.{start_stands, start_stops}, NumberedParts.numbered_steps}
+use Rattle.mk_check.proofs.{feeding.Feed.begin.Goals.{In_ok-run, In_ok-running}, FewBlocks.text_has_few_blocks}
+use Rattle.mk_check.specs.{Building.steps_before, Feed.newline, Numbering.elements_of_script}
 use Rattle.mk_check.proofs.feeding.Feed.begin.Goals as goal
-
--- the names are those that the script may use
-names : (c : In_ok-names) → c.in_ok-names.names ≡ script_scope c.args.items.now c.args.script
-names c = c.in_ok-names.ensures ∙ ap (scope_of c.args.items.now) c.script_at-lines.ensures.items
-
-pub tree_of-requires-clause-few : goal.tree_of-requires-clause-few
-tree_of-requires-clause-few c =
-    subst (λ (s : Scope). HasFew s) (sym (names ((goal.at.tree_of-requires-clause-few c).In_ok-names)))
-    (text_has_few c.args.items.now c.args.script c.requires.text)
 
 -- the tree's steps are those of the script
 abbrev HasSteps : List Item → ℕ → List Node → ℕ → Type 0
@@ -24,11 +15,12 @@ HasSteps program k nodes at = steps_at (trees nodes) at
 steps : (c : In_ok-running) → HasSteps c.args.items.now c.args.script c.in_ok-tree.tree c.in_ok-tree.at
 steps c =
     let program = c.args.items.now in
-    let lines = c.script_at-lines in
-    let scope = script_scope program c.args.script in
     let script : ScriptText = script_of program c.args.script in
-    let named : c.in_ok-names.names ≡ scope = cc (c.in_ok-names.ensures, lines.ensures.items) in
-    cc (c.in_ok-tree.ensures.steps, named, lines.ensures.line, lines.ensures.items)
+    let elements : c.lines.result.now ≡ elements_of_script program c.args.script =
+    cc (c.lines.ensures, c.requires.numbered) in
+    c.in_ok-tree.ensures.steps ∙ ap (steps_before c.in-Some.lines.line) elements
+    ∙ ap (λ n. steps_before n (elements_of_script program c.args.script)) c.in-Some.ensures.some.line_is
+    ∙ numbered_steps (script_scope program c.args.script) script.line script.items
 
 -- it has room for its blocks
 fits : (c : In_ok-running) → PlaceFits c.in_ok-tree.tree c.in_ok-running.running
@@ -48,9 +40,7 @@ begins : (c : In_ok-run) → HasSteps c.args.items.now c.args.script c.in_ok-tre
 begins c steps =
     let program = c.args.items.now in
     let k = c.args.script in
-    let lines = c.script_at-lines in
     let scope = script_scope program k in
-    let named : c.in_ok-names.names ≡ scope = cc (c.in_ok-names.ensures, c.script_at-lines.ensures.items) in
     let script : ScriptText = script_of program k in
     let at = c.in_ok-tree.at in
     let place : c.in_ok-running.running ≡ record {
@@ -64,7 +54,7 @@ begins c steps =
       frames = [];
       numbers = (fed_before_lines scope script).numbers;
       text = codes "script " ++ (name ++ newline);
-    } in p) lines.ensures.name in
+    } in p) c.in-Some.ensures.some.name_is in
     start_stands program k (record { nodes = c.in_ok-tree.tree; place = c.run.new.self }) (start_stops c.in_ok-tree.tree
     scope script c.in_ok-tree.at c.in_ok-running.running c.run.new.self steps place c.in_ok-run.ensures)
 

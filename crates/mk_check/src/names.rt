@@ -11,7 +11,7 @@ use std::alloc::Global;
 use std::marker::Model;
 
 /// The names of a sort, in the order of their lines.
-fn names_among(alloc: Global, sort: Sort, items: &[Item]) -> Result<Vec<&Name>, NoMemory>
+pub fn names_among(alloc: Global, sort: Sort, items: &[Item]) -> Result<Vec<&Name>, NoMemory>
     ensures { IfOk result (λ names. referred_names names.items ≡ names_of sort items.now) }
 {
     let mut names = Vec::new(alloc);
@@ -24,7 +24,7 @@ fn names_among(alloc: Global, sort: Sort, items: &[Item]) -> Result<Vec<&Name>, 
 }
 
 /// The place of a name among these; their count, where it isn't among them.
-fn number_of_name(names: &[&Name], name: &Name) -> usize
+pub fn number_of_name(names: &[&Name], name: &Name) -> usize
     ensures value { result ≡ number_of_name name.now (referred_names names.now) }
     ensures within { result ≤ length names.now }
 {
@@ -284,7 +284,7 @@ impl<'a> Names<'a> {
     }
 
     /// What a line adds to a script's tree.
-    pub fn element(&self, item: &Item) -> Element
+    fn element(&self, item: &Item) -> Element
         requires { HasFew self.now }
         ensures { result ≡ element_of self.now item.now }
     {
@@ -295,5 +295,13 @@ impl<'a> Names<'a> {
             Item::End => Element::End,
             _ => Element::Line(self.instruction(item)),
         }
+    }
+
+    /// What the lines add to a script's tree, one by one.
+    pub fn elements(&self, alloc: Global, lines: &[Item]) -> Result<Vec<Element>, NoMemory>
+        requires { HasFew self.now }
+        ensures { IfOk result (λ elements. elements.items ≡ map (element_of self.now) lines.now) }
+    {
+        Ok(lines.iter().map(|line| self.element(line)).collect(alloc)?)
     }
 }

@@ -1,5 +1,5 @@
 use Rattle.mk_check.proofs.Vocabulary.{before_next_script, drop, take, ◌++◌, ◌≡◌}
-use Rattle.mk_check.proofs.lengths.items_of_script.Given as goal
+use Rattle.mk_check.proofs.scripts.items_of_script.Given as goal
 
 abbrev pub invariant-loop-place : goal.invariant-loop-place
 invariant-loop-place l = before_next_script l.behind

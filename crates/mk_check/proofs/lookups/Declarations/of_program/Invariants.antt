@@ -1,5 +1,0 @@
-use Rattle.mk_check.{proofs.Vocabulary.{take}, specs.Lookups.{AreDeclared}}
-use Rattle.mk_check.proofs.lookups.Declarations.of_program.Given as goal
-
-abbrev pub invariant-loop-item : goal.invariant-loop-item
-invariant-loop-item l = AreDeclared l.declarations (take l.item-index l.program)
