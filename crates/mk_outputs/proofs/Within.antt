@@ -1,8 +1,8 @@
 -- The numbers of each command are in their bounds.
 use Rattle.std.proofs.Common.{Bool, IfSome, List, None, Option, Some, ℕ, arith, false, if◌then◌else◌, nat_lt, true, []}
 use Rattle.std.proofs.{Common.{◌∷◌, ◌≡◌, ◌≤◌}, lemmas.Bool.Decides.nat_tests}
-use Rattle.mk_outputs.specs.{Commands.{IsWithin, command_of, gen_of, gen_with, markers_of, run_of}, Given.Given}
-use Rattle.mk_outputs.specs.declared.commands.Command.{Command}
+use Rattle.mk_outputs.specs.Commands.{IsWithin, command_of, gen_of, gen_with, markers_of, run_of, run_with}
+use Rattle.mk_outputs.specs.{declared.commands.Command.Command, Given.Given}
 
 few_markers : (o : Option (List ℕ)) → IfSome (markers_of o) (λ m. m ≤ 8)
 few_markers None = omega arith
@@ -13,8 +13,15 @@ within_if : (b : Bool) (x y : Option Command) → IfSome x IsWithin → IfSome y
 within_if true x y h k = h
 within_if false x y h k = k
 
+within_options : (sweep why : Bool) (markers : ℕ) → markers ≤ 8 → (b : Bool) → nat_lt 0 markers ≡ b
+    → IfSome (run_with sweep why markers) IsWithin
+within_options true why markers few true e = rw e tt
+within_options true why markers few false e = rw e tt
+within_options false why markers few true e = rw e (grind (arith, nat_tests))
+within_options false why markers few false e = rw e tt
+
 within_run : (g : Given) → IfSome (run_of g) IsWithin
-within_run g = grind (arith, few_markers, within_if)
+within_run g = grind (arith, few_markers, within_options)
 
 within_bounds : (markers start count : ℕ) → markers ≤ 8 → (a b : Bool) → nat_lt count 48 ≡ a → nat_lt 3000000 count ≡ b
     → IfSome (gen_with markers start count) IsWithin

@@ -1,9 +1,11 @@
 -- The commands of the words.
-use Rattle.std.specs.Prelude.{ℕ, Bool, ◌≤◌, ◌&&◌, ◌||◌, nat_lt, nat_le, List, [], ◌∷◌, Option, Some, None}
-use Rattle.std.specs.{Prelude.{option_and_then, if◌then◌else◌}, Str.bytes_eq}
+use Rattle.std.specs.Prelude.{ℕ, Bool, true, false, ◌<◌, ◌≤◌, ◌||◌, nat_lt, nat_le, List, [], ◌∷◌, Option, Some, None}
+use Rattle.std.specs.{Prelude.{option_and_then, option_map, if◌then◌else◌}, Str.bytes_eq}
 use lib.Chars.{codes}
 use Rattle.mk_script.specs.Names.{number_of_word}
 use Rattle.mk_outputs.specs.{declared.commands.Command.Command, declared.commands.Command.TheVariants.{OnText, Gen}}
+use Rattle.mk_outputs.specs.declared.commands.Marking.{Marking}
+use Rattle.mk_outputs.specs.declared.commands.Marking.TheVariants.{Stop, Beside, Sweep}
 use Rattle.mk_outputs.specs.declared.commands.TextCommand.{TextCommand}
 use Rattle.mk_outputs.specs.declared.commands.TextCommand.TheVariants.{Run, Check, Print, Replay, Trace}
 use Rattle.mk_outputs.specs.Given.{Given, Numbers, no_number, one_number, two_numbers, runs, gens, bare, given_by}
@@ -13,10 +15,18 @@ abbrev pub markers_of : Option (List ℕ) → Option ℕ
 markers_of None = Some 0
 markers_of (Some digits) = option_and_then (λ n. if nat_le n 8 then Some n else None) (number_of_word digits)
 
+-- Cycles mark by tracing: beside the scripts where there are markers, and else in the stop.
+abbrev pub traced_by : ℕ → Marking
+traced_by markers = if nat_lt 0 markers then Beside markers else Stop
+
 -- A sweep goes with no markers.
+abbrev pub marking_by : Bool → ℕ → Option Marking
+marking_by true markers = if nat_lt 0 markers then None else Some Sweep
+marking_by false markers = Some (traced_by markers)
+
 abbrev pub run_with : Bool → Bool → ℕ → Option Command
-run_with sweep why markers = if sweep && nat_lt 0 markers then None
-    else Some (OnText (Run (record { markers = markers; sweep = sweep; why = why })))
+run_with sweep why markers =
+    option_map (λ marking. OnText (Run (record { marking = marking; why = why }))) (marking_by sweep markers)
 
 abbrev pub run_of : Given → Option Command
 run_of g = option_and_then (run_with g.sweep g.why) (markers_of g.markers)
@@ -56,9 +66,22 @@ command_named name words =
     else if bytes_eq name (codes "trace") then option_and_then (alone_of Trace) (given_by bare words)
     else None
 
--- There are no more markers than a heap has.
+-- how many markers there are
+abbrev pub markers_beside : Marking → ℕ
+markers_beside (Beside markers) = markers
+markers_beside _ = 0
+
+abbrev pub is_sweep : Marking → Bool
+is_sweep Sweep = true
+is_sweep _ = false
+
+-- Beside the scripts there are markers, and no more than a heap has.
+abbrev pub MarkersAreWithin : Marking → Type 0
+MarkersAreWithin (Beside markers) = (0 < markers) × (markers ≤ 8)
+MarkersAreWithin _ = Unit {0}
+
 abbrev pub AreWithin : TextCommand → Type 0
-AreWithin (Run options) = options.markers ≤ 8
+AreWithin (Run options) = MarkersAreWithin options.marking
 AreWithin Check = Unit {0}
 AreWithin Print = Unit {0}
 AreWithin Replay = Unit {0}

@@ -16,7 +16,7 @@ use Rattle.mk_outputs.specs.declared.commands.Command.{Command}
 use Rattle.mk_outputs.specs.declared.commands.Command.TheVariants as asked
 use Rattle.mk_outputs.specs.{Generated.generated_program, declared.commands.TextCommand.TextCommand}
 use Rattle.mk_outputs.specs.declared.commands.TextCommand.TheVariants.{Run, Check, Print, Replay, Trace}
-use Rattle.mk_outputs.specs.{declared.commands.Request.Request, Commands.command_of}
+use Rattle.mk_outputs.specs.{declared.commands.Request.Request, Commands.{command_of, is_sweep, markers_beside}}
 use Rattle.mk_replay.specs.{declared.schedule.Entry.Entry, declared.replaying.ReplayStop.ReplayStop}
 use Rattle.mk_replay.specs.{Schedules.replay_of, Replays.{history_of, refusal_of}}
 use Rattle.mk_trace.specs.{declared.faults.TraceStop.TraceStop, declared.peaks.Peaks.Peaks, Traces.{Contents, trace_of}}
@@ -120,7 +120,7 @@ IsOutputOfRun false program markers sweep output =
 
 abbrev pub IsOutputOf : TextCommand → List Item → List ℕ → Type 0
 IsOutputOf (Run options) program output =
-    IsOutputOfRun options.why program options.markers options.sweep output
+    IsOutputOfRun options.why program (markers_beside options.marking) (is_sweep options.marking) output
 IsOutputOf Check program output = output ≡ codes "ok\n"
 IsOutputOf Print program output = output ≡ canonical_text program
 IsOutputOf Replay program output = ⊥

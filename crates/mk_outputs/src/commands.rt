@@ -1,4 +1,6 @@
 //! What the program does.
+ghost use Rattle.std.specs.Prelude.{◌≡◌};
+ghost use Rattle.mk_outputs.specs.Commands as spec;
 
 /// What the program does.
 #[derive(Clone, Copy, Debug, PartialEq, Eq)]
@@ -26,11 +28,33 @@ pub enum TextCommand {
 /// How scripts are run.
 #[derive(Clone, Copy, Debug, PartialEq, Eq)]
 pub struct Options {
-    pub markers: u64,
-    /// Cycles mark by a sweep over the heap.
-    pub sweep: bool,
+    pub marking: Marking,
     /// What the last cycle kept is printed, and why.
     pub why: bool,
+}
+
+/// How cycles mark.
+#[derive(Clone, Copy, Debug, PartialEq, Eq)]
+pub enum Marking {
+    /// By tracing, in the stop.
+    Stop,
+    /// By tracing, beside the scripts, with this many markers.
+    Beside(u64),
+    /// By a sweep over the heap, in the stop.
+    Sweep,
+}
+
+impl Marking {
+    /// The marking by tracing with this many markers: without any it is done in the stop.
+    pub fn with_markers(markers: u64) -> Marking
+        ensures { result ≡ spec.traced_by markers }
+    {
+        if markers > 0 {
+            Marking::Beside(markers)
+        } else {
+            Marking::Stop
+        }
+    }
 }
 
 /// Which program is generated, and how it is run.

@@ -21,7 +21,7 @@ mod texts;
 mod traces;
 mod words;
 
-pub use commands::{Command, Options, Request, TextCommand};
+pub use commands::{Command, Marking, Options, Request, TextCommand};
 pub use generating::generate;
 pub use outputs::output_of;
 pub use statuses::Status;

@@ -1,8 +1,9 @@
 //! The names of scripts, globals and registers, by their numbers.
 ghost use Rattle.std.specs.Prelude.{◌≡◌, [], slice_index_or};
 ghost use Rattle.mk_script.specs.Scopes.{names_of, script_names, global_names, pointer_names};
-ghost use Rattle.mk_check.specs.Blocks.{script_of, before_next_script};
+ghost use Rattle.mk_check.specs.Blocks.{script_of};
 
+use mk_check::script_at;
 use mk_script::{Item, Sort, declared_name};
 
 /// The name of this number among those of a sort, or no byte where there are not this many.
@@ -19,34 +20,6 @@ fn name_among(sort: Sort, items: &[Item], number: u64) -> &[u8]
         }
     }
     b""
-}
-
-/// The lines before the next script.
-fn before_script(items: &[Item]) -> &[Item]
-    ensures { result.now ≡ before_next_script items.now }
-{
-    for (index, item) in items.iter().enumerate() {
-        if let Item::Script { .. } = item {
-            return &items[..index];
-        }
-    }
-    items
-}
-
-/// The lines of a script, from 0 on, after its first; none where there are not this many scripts.
-fn lines_of_script(items: &[Item], script: u64) -> &[Item]
-    ensures { result.now ≡ (script_of items.now script).items }
-{
-    let mut left = script;
-    for (index, item) in items.iter().enumerate() {
-        if let Item::Script { .. } = item {
-            if left == 0 {
-                return before_script(&items[index + 1..]);
-            }
-            left -= 1;
-        }
-    }
-    &[]
 }
 
 /// The name of a script.
@@ -67,5 +40,8 @@ pub fn global_name(items: &[Item], global: u64) -> &[u8]
 pub fn register_name(items: &[Item], script: u64, register: u64) -> &[u8]
     ensures { result.now ≡ slice_index_or (pointer_names (script_of items.now script).items) register [] }
 {
-    name_among(Sort::Pointer, lines_of_script(items, script), register)
+    match script_at(items, script) {
+        Some(lines) => name_among(Sort::Pointer, lines.items, register),
+        None => b"",
+    }
 }

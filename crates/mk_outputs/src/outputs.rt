@@ -2,7 +2,7 @@
 ghost use Rattle.std.specs.Prelude.{◌≡◌, ◌≢◌, ◌≤◌, ◌⊎◌, Ok, Err, Some, false, IfOk, IfErr, OnOk};
 ghost use Rattle.mk_io.specs.{Bytes.TakesAll, Faults.Rose};
 ghost use Rattle.mk_script.specs.Grammar.{program_of};
-ghost use Rattle.mk_outputs.specs.Commands.{AreWithin, IsWithin};
+ghost use Rattle.mk_outputs.specs.Commands.{AreWithin, IsWithin, MarkersAreWithin};
 ghost use Rattle.mk_outputs.specs.Outputs.{IsOutputOfCommand, IsOutput, IsOutputOf, IsStatusOf, HasNoRead, status_on};
 ghost use Rattle.mk_outputs.specs.{Outputs.{status_of_program, status_of_text}, Statuses.{IsBeforeWriting, IsOfText}};
 
@@ -125,7 +125,7 @@ fn run<P: Pace + Sync, R: Threads + Wait + Sync>(
     program: Program,
     pace: &P,
 ) -> Result<Vec<u8>, Status>
-    requires { options.markers ≤ 8 }
+    requires { MarkersAreWithin options.marking }
     ensures ok { IfOk result (λ output. IsOutputOf (TextCommand.Run options) program output.items) }
     ensures accepted { OnOk result (status_of_program (TextCommand.Run options) program ≡ Status.Ok) }
     ensures refused { IfErr result (λ status. (status ≡ Status.NoMemory)

@@ -5,9 +5,10 @@ ghost use Rattle.mk_trace.specs.{Below.Cycles.Begun.CyclesAreBegun, Below.Cycles
 ghost use Rattle.mk_trace.specs.{Below.Heaps.Reports.history_of, Below.Runs.Headline.cycles_go_on};
 ghost use Rattle.mk_trace.specs.{Below.Runs.Running.IsRunOf, Below.Runs.Unswept.IsUnswept};
 ghost use Rattle.mk_outputs.specs.declared.commands.TextCommand.TheVariants as TextCommand;
+ghost use Rattle.mk_outputs.specs.Commands.{MarkersAreWithin, is_sweep, markers_beside};
 ghost use Rattle.mk_outputs.specs.Outputs.{IsOutputOf, TellsKept};
 
-use crate::commands::Options;
+use crate::commands::{Marking, Options};
 use crate::kept_text::push_kept;
 use crate::texts::joined;
 use mk_check::Checked;
@@ -30,29 +31,29 @@ fn run_by<E: Engine + Send, P: Pace + Sync, R: Threads + Wait + Sync>(
     rt: &R,
     alloc: Global,
     program: &Checked,
-    options: Options,
+    markers: u64,
+    why: bool,
     pace: &P,
 ) -> Result<Ran, NoMemory>
-    requires { options.markers ≤ 8 }
-    ensures runs { IfOk result (λ ran. IsRunOf E.on options.why program.now options.markers ran.0) }
+    requires { markers ≤ 8 }
+    ensures runs { IfOk result (λ ran. IsRunOf E.on why program.now markers ran.0) }
     ensures begun { IfOk result (λ ran.
-        CyclesAreBegun E.begins (config_of program.now options.markers) (history_of ran.0.report)) }
+        CyclesAreBegun E.begins (config_of program.now markers) (history_of ran.0.report)) }
     ensures reached { IfOk result (λ ran. E.sweeps ≡ false
-        → IsUnswept (config_of program.now options.markers) (history_of ran.0.report)) }
-    ensures kept { IfOk result (λ ran. TellsKept options.why (option_map (λ kept. kept.items) ran.1)
-        (config_of program.now options.markers) (history_of ran.0.report)) }
+        → IsUnswept (config_of program.now markers) (history_of ran.0.report)) }
+    ensures kept { IfOk result (λ ran. TellsKept why (option_map (λ kept. kept.items) ran.1)
+        (config_of program.now markers) (history_of ran.0.report)) }
 {
-    if options.why {
-        let (outcome, kept) = run_why::<E, P, R>(rt, alloc, program, options.markers, pace)?;
+    if why {
+        let (outcome, kept) = run_why::<E, P, R>(rt, alloc, program, markers, pace)?;
         Ok((outcome, Some(kept)))
     } else {
-        let outcome = run_all::<E, P, R>(rt, alloc, program, options.markers, pace)?;
+        let outcome = run_all::<E, P, R>(rt, alloc, program, markers, pace)?;
         Ok((outcome, None))
     }
 }
 
-/// The run of a program's scripts. With markers a cycle goes on beside them; without, it is made in the stop, by
-/// tracing or by a sweep.
+/// The run of a program's scripts, whose cycles mark as the options say.
 pub fn outcome_of<P: Pace + Sync, R: Threads + Wait + Sync>(
     rt: &R,
     alloc: Global,
@@ -60,22 +61,23 @@ pub fn outcome_of<P: Pace + Sync, R: Threads + Wait + Sync>(
     options: Options,
     pace: &P,
 ) -> Result<Ran, NoMemory>
-    requires { options.markers ≤ 8 }
-    ensures runs { IfOk result (λ ran.
-        IsRunOf (cycles_go_on options.markers) options.why program.now options.markers ran.0) }
-    ensures begun { IfOk result (λ ran. cycles_go_on options.markers ≡ true
-        → CyclesMarkRootsFirst (config_of program.now options.markers) (history_of ran.0.report)) }
-    ensures reached { IfOk result (λ ran. options.sweep ≡ false
-        → IsUnswept (config_of program.now options.markers) (history_of ran.0.report)) }
+    requires { MarkersAreWithin options.marking }
+    ensures runs { IfOk result (λ ran. IsRunOf (cycles_go_on (markers_beside options.marking)) options.why program.now
+        (markers_beside options.marking) ran.0) }
+    ensures begun { IfOk result (λ ran. cycles_go_on (markers_beside options.marking) ≡ true
+        → CyclesMarkRootsFirst (config_of program.now (markers_beside options.marking)) (history_of ran.0.report)) }
+    ensures reached { IfOk result (λ ran. is_sweep options.marking ≡ false
+        → IsUnswept (config_of program.now (markers_beside options.marking)) (history_of ran.0.report)) }
     ensures kept { IfOk result (λ ran. TellsKept options.why (option_map (λ kept. kept.items) ran.1)
-        (config_of program.now options.markers) (history_of ran.0.report)) }
+        (config_of program.now (markers_beside options.marking)) (history_of ran.0.report)) }
 {
-    if options.markers > 0 {
-        run_by::<MostlyEngine, P, R>(rt, alloc, program, options, pace)
-    } else if options.sweep {
-        run_by::<SweepEngine, P, R>(rt, alloc, program, options, pace)
-    } else {
-        run_by::<StopEngine, P, R>(rt, alloc, program, options, pace)
+    let why = options.why;
+    match options.marking {
+        Marking::Stop => run_by::<StopEngine, P, R>(rt, alloc, program, 0, why, pace),
+        Marking::Beside(markers) => {
+            run_by::<MostlyEngine, P, R>(rt, alloc, program, markers, why, pace)
+        }
+        Marking::Sweep => run_by::<SweepEngine, P, R>(rt, alloc, program, 0, why, pace),
     }
 }
 
@@ -88,7 +90,7 @@ pub fn told<P: Pace + Sync, R: Threads + Wait + Sync>(
     options: Options,
     pace: &P,
 ) -> Result<Vec<u8>, NoMemory>
-    requires { options.markers ≤ 8 }
+    requires { MarkersAreWithin options.marking }
     ensures { IfOk result (λ bytes. IsOutputOf (TextCommand.Run options) program.now bytes.items) }
 {
     let (outcome, kept) = outcome_of(rt, alloc, program, options, pace)?;

@@ -5,7 +5,7 @@ ghost use Rattle.mk_outputs.specs.{Generated.generated_program, Commands.IsWithi
 ghost use Rattle.mk_trace.specs.Below.Runs.Headline.{StandsInOneHistory};
 ghost use Rattle.mk_outputs.specs.{Summary.{summary, total_line}, SummedTexts.{line_of_text, summary_of_texts, AreFew}};
 
-use crate::commands::{Options, Request};
+use crate::commands::{Marking, Options, Request};
 use crate::generating::generate;
 use crate::running::outcome_of;
 use mk_check::Text;
@@ -28,8 +28,7 @@ pub fn summed<P: Pace + Sync, R: Threads + Wait + Sync>(
 {
     let program = generate(alloc, request.start, request.count)?;
     let options = Options {
-        markers: request.markers,
-        sweep: false,
+        marking: Marking::with_markers(request.markers),
         why: false,
     };
     let (outcome, _) = outcome_of(rt, alloc, &program, options, pace)?;

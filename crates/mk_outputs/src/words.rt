@@ -3,11 +3,12 @@ ghost use Rattle.std.specs.Prelude.{Bool, ◌≡◌, IfOk, IfSome, Some, drop, m
 ghost use Rattle.clap.specs.{Matches.one_text, Values.bool_text, Words.{app_of, first_value, found_of, rows_of}};
 ghost use Rattle.mk_script.specs.Names.{number_of_word};
 ghost use Rattle.mk_outputs.specs.Commands.{IsWithin, command_of, gen_from, markers_of, run_with};
+ghost use Rattle.mk_outputs.specs.Commands as spec;
 ghost use Rattle.mk_outputs.specs.{Given.{Given, given_by}, Naming.{form_of, made_of}, Told.{HasGiven, app_named}};
 ghost use lib.Chars.{codes};
 
 use crate::arguments::{alone, found_in, generate, run};
-use crate::commands::{Command, Options, Request, TextCommand};
+use crate::commands::{Command, Marking, Options, Request, TextCommand};
 use clap::{ArgMatches, Command as Syntax};
 use mk_never::NoMemory;
 use mk_script::parse_number;
@@ -24,6 +25,17 @@ fn markers_in(matches: &ArgMatches<'_>) -> Option<u64>
     (markers <= 8).then_some(markers)
 }
 
+/// How cycles are asked to mark. A sweep goes with no markers.
+fn marking_by(sweep: bool, markers: u64) -> Option<Marking>
+    ensures { result ≡ spec.marking_by sweep markers }
+{
+    match (sweep, markers) {
+        (false, _) => Some(Marking::with_markers(markers)),
+        (true, 0) => Some(Marking::Sweep),
+        (true, _) => None,
+    }
+}
+
 fn run_in(matches: &ArgMatches<'_>) -> Option<Command>
     ensures { (sweep why : Bool) → one_text (found_of matches.now) (codes "sweep") ≡ Some (bool_text sweep)
         → one_text (found_of matches.now) (codes "why") ≡ Some (bool_text why)
@@ -32,15 +44,9 @@ fn run_in(matches: &ArgMatches<'_>) -> Option<Command>
 {
     let markers = markers_in(matches)?;
     let sweep = matches.get_flag("sweep");
-    if sweep && markers > 0 {
-        return None;
-    }
+    let marking = marking_by(sweep, markers)?;
     let why = matches.get_flag("why");
-    Some(Command::OnText(TextCommand::Run(Options {
-        markers,
-        sweep,
-        why,
-    })))
+    Some(Command::OnText(TextCommand::Run(Options { marking, why })))
 }
 
 /// The number that is given under a name.

@@ -5,8 +5,7 @@ use Rattle.std.{specs.HashMap.HashMap, specs.List.position_from, specs.Map.looku
 use Rattle.mk_laws.proofs.Vocabulary.{List, Some, ℕ, ap, arith, cond, drop, get_or, length, subst, sym, [], ◌+◌, ◌<◌}
 use Rattle.mk_laws.proofs.Vocabulary.{◌∙◌, ◌≡◌}
 use Rattle.mk_trace.proofs.Vocabulary.{at_drop_more, slot_number}
-use Rattle.mk_run.specs.Below.Checks.Lookups.{value_for_name}
-use Rattle.mk_trace.specs.{Reading.AreSlotNumbers, declared.lines.Slot.Slot}
+use Rattle.mk_trace.specs.{Reading.{AreSlotNumbers, value_for_name}, declared.lines.Slot.Slot}
 
 -- the map has the numbers of these slots, of which the first has the number `from`
 abbrev pub AreNumbersFrom : {S : Type 0} → HashMap (Bor (List ℕ)) ℕ S → ℕ → List Slot → Type 0

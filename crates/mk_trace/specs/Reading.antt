@@ -1,7 +1,7 @@
 -- What the reader of lines finds on its way.
 -- Private functions alone cite these words.
-use Rattle.std.specs.{Prelude.{◌≡◌, ℕ, List, Ok, Err}, declared.result.Result.Result, Borrow.Bor, HashMap.HashMap}
-use Rattle.mk_run.specs.Below.Checks.Lookups.{value_for_name}
+use Rattle.std.specs.{Prelude.{◌≡◌, ℕ, List, Ok, Err, Option}, declared.result.Result.Result, Borrow.Bor}
+use Rattle.std.specs.{HashMap.{HashMap, get_by}, Str.bytes_eq}
 use Rattle.mk_script.specs.declared.faults.LineFault.{LineFault}
 use Rattle.mk_trace.specs.{declared.faults.TraceStop.TraceStop, declared.lines.Line.Line, declared.lines.Slot.Slot}
 use Rattle.mk_trace.specs.{Grammar.text_fault_at, declared.lines.HeapPages.HeapPages, Lines.{LinesSoFar, slot_number}}
@@ -22,6 +22,10 @@ pub record ReadsTraceLine (before : LinesSoFar) (words : List (List ℕ)) (behin
 -- the heap and the lines of some text whose lines are of the grammar
 abbrev pub IsReadFrom : HeapPages → LinesSoFar → Type 0
 IsReadFrom heap written = (text : List ℕ) × (trace_of text ≡ contents_of heap written)
+
+-- what a map has for a name
+abbrev pub value_for_name : {X S : Type 0} → HashMap (Bor (List ℕ)) X S → List ℕ → Option X
+value_for_name names name = get_by (λ key. bytes_eq name key.now) names
 
 -- the map has the number of each slot, by its name
 abbrev pub AreSlotNumbers : {S : Type 0} → HashMap (Bor (List ℕ)) ℕ S → List Slot → Type 0
