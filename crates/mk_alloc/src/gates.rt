@@ -5,7 +5,6 @@ ghost use Rattle.mk_caller.specs.Below.Words.States.{now_of};
 ghost use Rattle.mk_alloc.specs.FreeParts.{HoldsOthers, MayOpen, SetsGate, SetsGates, all_others, is_settling, no_gate};
 
 use mk_caller::lower::words::{Turn, Words};
-use mk_cycle::is_caller;
 
 /// Opens a caller's gate, unless it is the holder's own.
 fn open_other(words: &Words, turn: &mut Turn, caller: u64)
@@ -15,7 +14,7 @@ fn open_other(words: &Words, turn: &mut Turn, caller: u64)
     ensures sets { SetsGate is_settling turn.old.pass caller false turn.new.pass }
     ensures gone { is_run_gone (now_of turn.new.pass).words (now_of turn.new.pass).seats.holding.freed ≡ true }
 {
-    if !is_caller(turn.seat(), caller) {
+    if !turn.seat().is_caller(caller) {
         turn.open_gate(words, caller);
     }
 }

@@ -8,13 +8,10 @@ ghost use Rattle.mk_geom.specs.Storages.{block_header, run_header};
 ghost use Rattle.mk_alloc.specs.Shapes.{object_shaped};
 
 use mk_geom::{
-    HEAP_START, Header, PAGE_WORDS, Place, WORD_BYTES, cells, class_of, class_words, encode,
-    run_pages,
+    HEAP_START, Header, PAGE_WORDS, Place, SMALL_WORDS, WORD_BYTES, cells, class_of, class_words,
+    encode, run_pages,
 };
 use mk_never::TypeTable;
-
-/// The largest object that takes a cell, in words.
-pub(crate) const SMALL_WORDS: u64 = 32;
 
 /// What a New requests: an object of this type, to which this register is to point.
 #[derive(Clone, Copy)]

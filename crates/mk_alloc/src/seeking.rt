@@ -9,10 +9,10 @@ ghost use Rattle.mk_core.specs.Words.{header_at, page_of};
 ghost use Rattle.mk_books.specs.{Laws.free_cell_on, Members.has_free_cell};
 ghost use Rattle.mk_caller.specs.Below.Words.States.{now_of};
 
-use crate::objects::{SMALL_WORDS, Shape};
+use crate::objects::Shape;
 use mk_books::the_lowest_block_has_the_place;
 use mk_caller::lower::words::{Turn, Words};
-use mk_geom::{Place, cells, class_of, run_pages};
+use mk_geom::{Place, SMALL_WORDS, cells, class_of, run_pages};
 
 /// The lowest cell of a block of the class that isn't used.
 fn lowest_free(used: u64, class: u64) -> Option<u64>

@@ -10,11 +10,8 @@ ghost use Rattle.mk_core.specs.declared.events.Word.TheVariants as word;
 
 use crate::looking::look_at;
 use mk_caller::lower::words::{Turn, Words};
-use mk_core::{Word, has_cell};
+use mk_core::{QuarantineWord, Word, has_cell};
 use mk_geom::{Cell, lookup, page_at};
-
-/// The low half of a quarantine word has the freed bits, and the high half the snapshot.
-const HALF_WORD: u64 = 4294967296;
 
 /// What a Free frees: the cell, and the header word of its page.
 #[derive(Clone, Copy)]
@@ -28,7 +25,7 @@ pub(crate) fn is_freed(quar: u64, cell: Cell) -> bool
     requires { cell.index < 32 }
     ensures { result ≡ has_bit (quar % 4294967296) cell.index }
 {
-    has_cell(quar % HALF_WORD, cell.index)
+    has_cell(QuarantineWord::of(quar).freed, cell.index)
 }
 
 /// Loads the register of a Free. Null decides it.
@@ -87,6 +84,10 @@ pub(crate) fn quarantine(words: &Words, turn: &mut Turn, cell: Cell, quar: u64)
     ensures freed { HasFreed turn.old.pass cell turn.new.pass }
     ensures once { FreesOnce turn.old.pass turn.new.pass }
 {
-    let freed = quar % HALF_WORD | 1 << cell.index;
-    turn.quar(words, cell.page, HALF_WORD * (quar / HALF_WORD) + freed);
+    let QuarantineWord { freed, snapshot } = QuarantineWord::of(quar);
+    let more = QuarantineWord {
+        freed: freed | 1 << cell.index,
+        snapshot,
+    };
+    turn.quar(words, cell.page, more.word());
 }

@@ -3,10 +3,7 @@ ghost use Rattle.std.specs.Prelude.{◌≡◌, ◌<◌, ◌≤◌, ◌^◌};
 ghost use Rattle.mk_geom.specs.{PageUses.{place_on_uses, small_place, large_place, carved}, PageWords.uses_of_pages};
 
 use crate::page_uses::{free_cell, is_free, is_resident};
-use mk_geom::{Page, Place, class_of, run_pages};
-
-/// The largest object that takes a cell, in words.
-const SMALL_WORDS: u64 = 32;
+use mk_geom::{Page, Place, SMALL_WORDS, class_of, run_pages};
 
 /// Where an object of this many words goes: a cell of a block of its class and sort, or else free pages, if no more
 /// than `resident_limit` pages are resident with them. None if there is no such place, and for an object of no words. A

@@ -89,7 +89,7 @@ pub(crate) fn offset_of(op: Op) -> u64
 }
 
 /// Whether a call of the operation begins with `take`. Others begin with `enter`.
-pub(crate) fn is_under_turn(op: Op) -> bool
+pub fn is_under_turn(op: Op) -> bool
     ensures { result ≡ is_under_turn op }
 {
     matches!(op, Op::New { .. } | Op::Free { .. })

@@ -1,5 +1,6 @@
 //! Cells and runs as the words show them.
-ghost use Rattle.std.specs.Prelude.{◌≡◌, ℕ, ◌+◌, ◌-◌, ◌*◌, ◌^◌, ◌<◌, ◌≤◌, ◌==◌, IfSome, IfNone, slice_index};
+ghost use Rattle.std.specs.Prelude.{◌≡◌, ◌≢◌, ℕ, ◌+◌, ◌-◌, ◌*◌, ◌^◌, ◌<◌, ◌≤◌, ◌==◌, true, IfSome, IfNone};
+ghost use Rattle.std.specs.Prelude.{slice_index};
 ghost use Rattle.mk_core.specs.{Words.{header_at, used_at}, Bits.{bit_for, has_bit, without}, Bounded.all_below};
 ghost use Rattle.mk_core.specs.Cells.{cells_under, words_under, run_headed, heads_run, is_leaf_header, has_no_pointers};
 ghost use Rattle.mk_core.specs.Cells.{head_page, cell_bits, first_word, cell_words, pointed_cell, is_used, is_freed};
@@ -22,6 +23,15 @@ pub fn bit(index: u64) -> u64
     ensures { result ≡ 2 ^ index }
 {
     1 << index
+}
+
+/// The place of the lowest bit that is 1.
+pub fn lowest_bit(word: u64) -> u64
+    requires { word ≢ 0 }
+    ensures within { result < 64 }
+    ensures one { has_bit word result ≡ true }
+{
+    u64::from(word.trailing_zeros())
 }
 
 /// The bit of a word that stands for a cell; none if a word has no bit for it.

@@ -13,7 +13,9 @@ use crate::seats::Object;
 use crate::table::Table;
 use crate::{Core, Flight, Phase, Placing, RunPages, Stage};
 use mk_books::first_fit;
-use mk_geom::{Cell, Header, PAGE_WORDS, Place, cells, class_of, class_words, encode, run_pages};
+use mk_geom::{
+    Cell, Header, PAGE_WORDS, Place, SMALL_WORDS, cells, class_of, class_words, encode, run_pages,
+};
 use mk_never::Op;
 
 /// The header words that neighbouring pages are to get: those of a new object, or those of an unmapped run
@@ -35,9 +37,6 @@ impl PageHeaders {
         }
     }
 }
-
-/// The largest object that takes a cell, in words.
-const SMALL_WORDS: u64 = 32;
 
 pub(crate) fn is_small(object: Object) -> bool
     ensures { result ≡ is_small_object object }

@@ -16,7 +16,7 @@ use mk_geom::{Cell, HEAP_START, PAGE_WORDS, is_unmapped};
 
 impl Seat {
     /// Whether the seat is the caller of this number.
-    fn is_caller(self, caller: u64) -> bool
+    pub fn is_caller(self, caller: u64) -> bool
         ensures { result ≡ is_number_of self caller }
     {
         match self {

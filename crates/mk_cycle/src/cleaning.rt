@@ -7,9 +7,8 @@ ghost use Rattle.mk_words.specs.{PageMaps.HasNoMarks, States.now_of};
 ghost use Rattle.mk_cycle.specs.Cleaning.{Cleans, IsUnmarked, IsUnscanned, HasTakenSnapshot, IsReadyPage, WasUndirty};
 ghost use Rattle.mk_cycle.specs.{EngineLaw.{IsTurnAmong, IsTurnAt, is_register}, Freeing.IsQuarantineWord};
 
-use crate::bits::FREED_END;
 use crate::turn_steps::look_among;
-use mk_core::Word;
+use mk_core::{QuarantineWord, Word};
 use mk_words::{Turn, Words};
 
 /// Looks at a word before the `begin`, in a table of this many pages.
@@ -74,9 +73,13 @@ fn copy_freed(turn: &mut Turn, words: &Words, pages: u64, page: u64, quarantine:
     ensures cleans { Cleans turn.old.pass turn.new.pass }
     ensures snapshot { HasTakenSnapshot turn.new.pass page }
 {
-    let freed = quarantine % FREED_END;
-    if quarantine / FREED_END != freed {
-        turn.quar_still_freed(words, pages, page, freed + FREED_END * freed);
+    let QuarantineWord { freed, snapshot } = QuarantineWord::of(quarantine);
+    if snapshot != freed {
+        let copied = QuarantineWord {
+            freed,
+            snapshot: freed,
+        };
+        turn.quar_still_freed(words, pages, page, copied.word());
     }
 }
 

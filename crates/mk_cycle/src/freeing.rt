@@ -4,14 +4,13 @@ ghost use Rattle.mk_core.specs.Cells.{left_unmarked};
 ghost use Rattle.mk_words.specs.States.{now_of};
 ghost use Rattle.mk_cycle.specs.{Freeing.{GivesBack, IsQuarantineWord, MayGiveBackOn}, ReleasedPages.WasReleasedOn};
 
-use crate::bits::FREED_END;
 use crate::counting::{self, held_words, released_cells};
 use crate::finishing::Released;
 use crate::reading::ReadHeader;
 use crate::settling::Settled;
 use crate::turn_steps::look_among;
 use crate::wiping::wipe_released;
-use mk_core::{Word, without};
+use mk_core::{QuarantineWord, Word, without};
 use mk_words::{Turn, Words};
 
 /// Gives back the released cells of a page: those of the snapshot that have no mark.
@@ -33,9 +32,12 @@ fn give_back(
     let used = look_among(turn, words, pages, Word::Used(page));
     wipe_released(turn, words, pages, page, header, used & gone);
     turn.used(words, page, without(used, gone));
-    let freed = without(quarantine % FREED_END, gone);
-    let snapshot = quarantine / FREED_END - gone;
-    turn.quar(words, page, freed + FREED_END * snapshot);
+    let QuarantineWord { freed, snapshot } = QuarantineWord::of(quarantine);
+    let left = QuarantineWord {
+        freed: without(freed, gone),
+        snapshot: snapshot - gone,
+    };
+    turn.quar(words, page, left.word());
 }
 
 /// Gives back the released cells of a page with this header word, and returns what was released on it. Where its
@@ -53,7 +55,7 @@ pub(crate) fn release_cells(
     ensures told { WasReleasedOn (now_of turn.old.pass).words page result.released result.held }
 {
     let quarantine = counting::look(turn, words, pages, Word::Quar(page));
-    let snapshot = quarantine / FREED_END;
+    let snapshot = QuarantineWord::of(quarantine).snapshot;
     if snapshot == 0 {
         let released = Released {
             count: 0,

@@ -6,22 +6,9 @@ ghost use Rattle.mk_cycle.specs.Holding.{HoldsGates, HoldsSuch, IsHeldOrOwn, May
 ghost use Rattle.mk_cycle.specs.Stops.{HolderIsLoaded};
 
 use crossbeam_utils::Backoff;
-use mk_core::{Seat, Word};
+use mk_core::{Gate, Word};
 use mk_words::{Turn, Words};
 use std::sync::Wait;
-
-/// What a gate word is while the gate is held.
-const HELD: u64 = 2;
-
-/// Whether the seat is that caller's.
-pub fn is_caller(seat: Seat, caller: u64) -> bool
-    ensures { result ≡ is_number_of seat caller }
-{
-    match seat {
-        Seat::Caller(number) => number == caller,
-        Seat::Marker(_) | Seat::Host => false,
-    }
-}
 
 /// Holds a gate that isn't held, once its caller is in no call. A call is short, so who waits for its end yields and
 /// doesn't sleep.
@@ -48,7 +35,7 @@ pub(crate) fn hold_gate<R: Wait>(rt: &R, words: &Words, turn: &mut Turn, caller:
     ensures held { is_held (now_of turn.new.pass).words caller ≡ true }
     ensures was { is_held (now_of turn.old.pass).words caller ≡ not result }
 {
-    if turn.look(words, Word::Gate(caller)) == HELD {
+    if Gate::Held.is_in(turn.look(words, Word::Gate(caller))) {
         return false;
     }
     wait_and_hold(rt, words, turn, caller);
@@ -64,7 +51,7 @@ fn hold_other<R: Wait>(rt: &R, words: &Words, turn: &mut Turn, caller: u64)
     ensures steps { HoldsSuch (all_others turn.old.pass.seat) turn.old turn.new }
     ensures held { IsHeldOrOwn turn.new.pass caller }
 {
-    if !is_caller(turn.seat(), caller) {
+    if !turn.seat().is_caller(caller) {
         hold_gate(rt, words, turn, caller);
     }
 }

@@ -4,7 +4,6 @@
 #![tactic(auto)]
 
 mod beginning;
-mod bits;
 mod cleaning;
 mod closing;
 mod counting;
@@ -44,7 +43,7 @@ pub use beginning::begin_cycle;
 pub use closing::close_marks;
 pub use engine::Engine;
 pub use finishing::{Released, finish_cycle};
-pub use gates::{hold_gates, is_caller};
+pub use gates::hold_gates;
 pub use laws::reached_marks_sweep_nothing;
 pub use mostly_engine::MostlyEngine;
 pub use roots::{GLOBALS, REGISTERS};

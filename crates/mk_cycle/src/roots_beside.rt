@@ -7,7 +7,6 @@ ghost use Rattle.mk_cycle.specs.{Stops.is_root, Beside.{GoesBeside, IsBeside, Is
 ghost use Rattle.mk_cycle.specs.Roots.{MarksRoots};
 ghost use Rattle.mk_core.specs.declared.events.Word.TheVariants as word;
 
-use crate::gates::is_caller;
 use crate::roots::{GLOBALS, REGISTERS};
 use crate::steps_beside::{hold_beside, look_at_root, open_gate};
 use crate::values_beside::mark_value;
@@ -69,7 +68,7 @@ fn mark_caller<R: Wait>(rt: &R, words: &Words, turn: &mut Turn, caller: u64)
     ensures gates { KeepsGates turn.old.pass turn.new.pass }
     ensures looked { (r : ℕ) → r < 8 → LooksAt (word.Reg caller r) turn.old.pass turn.new.pass }
 {
-    if is_caller(turn.seat(), caller) {
+    if turn.seat().is_caller(caller) {
         mark_registers_of(words, turn, caller);
     } else {
         mark_registers_held(rt, words, turn, caller);

@@ -6,9 +6,8 @@ ghost use Rattle.mk_words.specs.States.{now_of};
 ghost use Rattle.mk_cycle.specs.EngineLaw.{IsTurnAmong};
 ghost use Rattle.mk_cycle.specs.Freeing.{AreFreeCells, GivesNothingBack, IsUnmappedWord, IsZero};
 
-use crate::bits::lowest_bit;
 use crate::reading::ReadHeader;
-use mk_core::{Word, bit, without};
+use mk_core::{Word, bit, lowest_bit, without};
 use mk_words::{Turn, Words};
 
 /// How many pairs of words a page has.

@@ -9,7 +9,7 @@ pub const PAGE_WORDS: u64 = 64;
 const CLASS_WORDS: [u64; 8] = [2, 4, 6, 8, 12, 16, 24, 32];
 
 /// How many words the largest object has that has a class.
-const SMALL_WORDS: u64 = 32;
+pub const SMALL_WORDS: u64 = 32;
 
 /// The class of an object, by its size in pairs of words, rounded up. A cell has whole pairs.
 const CLASS_BY_PAIRS: [u64; 17] = [0, 0, 1, 2, 3, 4, 4, 5, 5, 6, 6, 6, 6, 7, 7, 7, 7];

@@ -12,7 +12,9 @@ mod pages;
 pub use addresses::{
     Cell, HEAP_START, PAGE_BYTES, WORD_BYTES, head_page_under, heap_page, lookup, page_at,
 };
-pub use classes::{PAGE_WORDS, cells, class_of, class_words, index_in_block, run_pages};
+pub use classes::{
+    PAGE_WORDS, SMALL_WORDS, cells, class_of, class_words, index_in_block, run_pages,
+};
 pub use headers::{Header, decode, encode, is_unmapped};
 pub use laws::{
     a_storage_has_its_cell, first_fit_finds_places, free_pages_stand_for_nothing,

@@ -4,7 +4,7 @@ ghost use Rattle.mk_core.specs.Bits.{has_bit, without};
 ghost use Rattle.mk_marker.specs.{Markers.IsBetweenScans, Steps.{IsOf, LooksInVain, SeesCell}};
 
 use crate::steps::look;
-use mk_core::Word;
+use mk_core::{Word, lowest_bit, without};
 use mk_words::{MarkerPass, Words};
 
 /// A cell that a marker has seen marked and not black, under this header word of its page.
@@ -13,21 +13,6 @@ pub(crate) struct MarkedCell {
     pub(crate) page: u64,
     pub(crate) index: u64,
     pub(crate) header: u64,
-}
-
-/// The bits of a word that another hasn't.
-fn without(word: u64, other: u64) -> u64
-    ensures { result ≡ without word other }
-{
-    word - (word & other)
-}
-
-/// The place of the lowest bit that is 1.
-fn lowest_bit(word: u64) -> u64
-    requires { word ≢ 0 }
-    ensures { has_bit word result ≡ true }
-{
-    u64::from(word.trailing_zeros())
 }
 
 /// Looks for a cell of the page that is marked and not black. A page without header has no cell yet: a `New` marks

@@ -6,11 +6,11 @@ ghost use Rattle.mk_trace.specs.{Freeing.{FreesItsSlot, FreesSlot}, Players.{Doe
 ghost use Rattle.mk_trace.specs.Traces.{slot_of};
 
 use crate::looking::{look, object_to_free};
-use crate::operations::{first_op, is_full_answer, is_under_turn, later_ops};
+use crate::operations::{first_op, is_full_answer, later_ops};
 use crate::player::Player;
 use crate::settling::settle;
 use crate::trace::TraceEvent;
-use mk_core::{Answer, Word};
+use mk_core::{Answer, Word, is_under_turn};
 use mk_never::{NoMemory, Op};
 use mk_run::lower::checks::is_refusal;
 use mk_run::lower::cycles::Engine;

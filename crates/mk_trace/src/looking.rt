@@ -10,7 +10,7 @@ ghost use Rattle.mk_trace.specs.Looking.{HostOnlyLooks, word_behind};
 ghost use Rattle.mk_core.specs.declared.events.Word.TheVariants as table_word;
 
 use crate::ledger::FreedObject;
-use mk_core::{Word, has_bit, words_under};
+use mk_core::{QuarantineWord, Word, has_bit, words_under};
 use mk_geom::{Cell, heap_page, lookup};
 use mk_never::Op;
 use mk_run::lower::heaps::{Heap, Host};
@@ -55,7 +55,7 @@ pub(crate) fn is_quarantined<R: Wait>(rt: &R, heap: &Heap, host: &mut Host, cell
 {
     if cell.page < heap.words().pages() {
         let freed = look(rt, heap, host, Word::Quar(cell.page));
-        has_bit(freed % 4294967296, cell.index)
+        has_bit(QuarantineWord::of(freed).freed, cell.index)
     } else {
         false
     }

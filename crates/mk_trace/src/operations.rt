@@ -94,10 +94,3 @@ pub(crate) fn is_full_answer(answer: Answer) -> bool
 {
     matches!(answer, Answer::Full)
 }
-
-/// Whether a call of the operation takes the turn.
-pub(crate) fn is_under_turn(op: Op) -> bool
-    ensures { result ≡ is_under_turn op }
-{
-    matches!(op, Op::New { .. } | Op::Free { .. })
-}

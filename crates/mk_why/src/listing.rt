@@ -8,12 +8,9 @@ ghost use Rattle.mk_why.specs.Stops.{IsStill, LooksWhileStill, base_at, view_by,
 use crate::found::Storage;
 use crate::stepping::look_at;
 use crate::tables::Tables;
-use mk_core::{Word, cells_under, has_bit, words_under};
+use mk_core::{QuarantineWord, Word, cells_under, has_bit, words_under};
 use mk_geom::{Cell, HEAP_START, PAGE_WORDS, WORD_BYTES};
 use mk_sweep::lower::words::{Stopped, Words};
-
-/// The bits of a quarantine word's snapshot stand after those of the freed cells.
-const SNAPSHOT: u64 = 1 << 32;
 
 /// Lists the allocation of a cell of this many words, if it is in the snapshot and marked.
 fn list_cell(tables: &mut Tables, cell: Cell, size: u64, in_snapshot: bool, marked: bool)
@@ -100,7 +97,7 @@ fn list_page(words: &Words, stop: &mut Stopped, tables: &mut Tables, page: u64)
         tables,
         page,
         header,
-        quarantine / SNAPSHOT,
+        QuarantineWord::of(quarantine).snapshot,
         marks,
     );
 }

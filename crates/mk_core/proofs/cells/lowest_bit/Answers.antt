@@ -1,6 +1,7 @@
 use Rattle.std.proofs.{Common.w64, Math.Facts.Fits-lt-pow, lemmas.Nat.Bits.bit_at-trailing_zeros}
-use Rattle.mk_words.proofs.Below.Laws.Vocabulary.{ℕ, ap, arith, bit_at, eq-eqb, ◌<◌, ◌^◌, ◌∙◌}
-use Rattle.mk_cycle.proofs.bits.lowest_bit.Goals as goal
+use Rattle.std.proofs.{Common.{ap, arith, ℕ, ◌<◌, ◌^◌, ◌∙◌}, lemmas.Bool.eq-eqb}
+use Rattle.std.specs.Int.{bit_at}
+use Rattle.mk_core.proofs.cells.lowest_bit.Goals as goal
 
 pub returns-clause-one : goal.returns-clause-one
 returns-clause-one c =
