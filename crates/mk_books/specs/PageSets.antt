@@ -7,12 +7,15 @@ use Rattle.mk_geom.specs.{PageUses.resident_pages, PageWords.{use_of_page, uses_
 use Rattle.mk_books.specs.{Members.{page_at, has_free_cell}, declared.kinds.PageKind.PageKind}
 use Rattle.mk_books.specs.declared.kinds.PageKind.TheVariants.{Free, Block, Run}
 
+-- word number word of a set: 64 pages, a bit each
 abbrev pub word_in_set : List ℕ → ℕ → ℕ → ℕ
 word_in_set sets set word = slice_index sets (65 * set + 1 + word)
 
+-- the set's summary: a bit for each of its words that isn't 0
 abbrev pub summary_of : List ℕ → ℕ → ℕ
 summary_of sets set = slice_index sets (65 * set)
 
+-- the page is in the set
 abbrev pub is_member : List ℕ → ℕ → ℕ → Bool
 is_member sets set number = bit_at (word_in_set sets set (number / 64)) (number % 64) == 1
 
@@ -99,6 +102,7 @@ use_of_kind Free used = Nothing
 use_of_kind (Block class leaf) used = Cells class leaf (bits_of (cells_of class) used)
 use_of_kind (Run mapped) used = PartOfRun mapped
 
+-- a block's class is one of the eight
 abbrev pub HasClass : PageKind → Type 0
 HasClass Free = Unit {0}
 HasClass (Block class leaf) = class < 8

@@ -18,6 +18,7 @@ is_pending_free_at (op.Free p) stage.Give = false
 is_pending_free_at (op.Free p) _ = true
 is_pending_free_at _ _ = false
 
+-- the call is a Free that isn't decided
 abbrev pub is_pending_free : Flight → Bool
 is_pending_free f = is_pending_free_at f.op f.stage
 
@@ -28,6 +29,7 @@ pub record IsFreeForCycle (p : PassState) : Type 0 where
   pub unplaced : has_place (now_of p).seats.holding.placing ≡ false
   pub gone : IsGone p
 
+-- The phase is this number.
 abbrev pub IsAtPhase : PassState → ℕ → Type 0
 IsAtPhase p n = phase_of (now_of p).words ≡ n
 
@@ -57,6 +59,7 @@ pub record ClosesMarks (p q : PassState) : Type 0 where
   pub close : IsEnabledTo q step.Close
   pub closed : MarksAreClosed q.table.config (world_of q)
 
+-- it is a register
 abbrev pub is_register : Word → Bool
 is_register (word.Reg j r) = true
 is_register _ = false

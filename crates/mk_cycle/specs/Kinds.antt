@@ -3,6 +3,7 @@ use Rattle.std.specs.Prelude.{Bool, true, false}
 use Rattle.mk_core.specs.declared.events.Step.{Step}
 use Rattle.mk_core.specs.declared.events.Step.TheVariants as step
 
+-- it is a `want`
 abbrev pub is_want : Step → Bool
 is_want step.Want = true
 is_want _ = false

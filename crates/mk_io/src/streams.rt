@@ -27,6 +27,7 @@ impl<T: Read> Model for StdinSource<T> {
 }
 
 impl<T: Read> StdinSource<T> {
+    /// A source over a reader.
     pub fn new(reader: T) -> StdinSource<T>
         ensures { result ≡ new_stream (T.remaining reader) }
     {
@@ -81,6 +82,7 @@ impl<T: Write> Model for StdoutSink<T> {
 }
 
 impl<T: Write> StdoutSink<T> {
+    /// A sink over a writer.
     pub fn new(writer: T) -> StdoutSink<T>
         ensures { result ≡ new_stream (T.contents writer) }
     {

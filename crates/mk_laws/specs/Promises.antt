@@ -17,6 +17,7 @@ use Rattle.mk_laws.specs.UnsetWords.{RegistersOfNoCallerAreZero, UnsetGlobalsAre
 abbrev pub AtEachMoment : (Config → List Event → Type 0) → Config → List Event → Type 0
 AtEachMoment claim c es = (front more : List Event) → es ≡ front ++ more → claim c front
 
+-- All that is promised of each history.
 pub record KeepsAllPromises (c : Config) (es : List Event) : Type 0 where
   -- Refined: the answers are those of the heap that never reuses storage.
   pub refined : RefinesNever c es

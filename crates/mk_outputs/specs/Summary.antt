@@ -21,6 +21,7 @@ total_line ops = codes "total " ++ (decimal ops ++ codes "\n")
 abbrev pub calls_made : Config → List Event → ℕ → ℕ
 calls_made c es k = length (answers_in c k es)
 
+-- the line of script k in the summary of a history
 abbrev pub line_of_script : List Item → Config → List Event → ℕ → List ℕ
 line_of_script program c es k =
     script_line (slice_index_or (script_names program) k []) (calls_made c es k)
