@@ -75,8 +75,8 @@ fn wipe_page(words: &Words, turn: &mut Turn, pages: u64, run: RunPages, part: u6
     requires part { part < run.count }
     ensures { WipesTo turn.old.pass run (64 * part + 64) turn.new.pass }
 {
-    for group in PAGE_GROUPS * part..PAGE_GROUPS * part + PAGE_GROUPS {
-        wipe_group(words, turn, pages, run, part, group);
+    for i in 0..PAGE_GROUPS {
+        wipe_group(words, turn, pages, run, part, PAGE_GROUPS * part + i);
     }
 }
 
