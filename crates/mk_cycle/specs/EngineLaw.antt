@@ -1,10 +1,11 @@
 -- The law of an engine: what it makes of a cycle, and what it leaves alone.
-use Rattle.std.specs.Prelude.{◌≡◌, ℕ, Bool, true, false}
+use Rattle.std.specs.Prelude.{◌≡◌, ℕ, Bool, true, false, List, ◌++◌}
 use Rattle.mk_never.specs.declared.operations.Op.{Op}
-use Rattle.mk_core.specs.{declared.events.Word.Word, declared.seats.Flight.Flight, declared.seats.Stage.Stage}
+use Rattle.mk_core.specs.{declared.events.Event.Event, declared.events.Word.Word, declared.seats.Flight.Flight}
+use Rattle.mk_core.specs.declared.seats.Stage.{Stage}
 use Rattle.mk_core.specs.{Words.phase_of, ClosedMarks.MarksAreClosed}
 use Rattle.mk_words.specs.{Below.Laws.Protocol.has_place, Doing.{Does, count_done}}
-use Rattle.mk_words.specs.{States.{PassState, WordsState, world_of, now_of, call_of}, Steps.IsEnabledTo}
+use Rattle.mk_words.specs.{States.{PassState, WordsState, world_of, now_of, call_of}, Steps.{IsEnabledTo, Makes}}
 use Rattle.mk_cycle.specs.{Kinds.{is_want, begins_marking, closes_marks}, TurnKeeps.{LeavesTurn, KeepsGates, IsGone}}
 use Rattle.mk_cycle.specs.TurnKeeps.{unchanged, but_phase}
 use Rattle.mk_never.specs.declared.operations.Op.TheVariants as op
@@ -50,9 +51,17 @@ pub record BeginsMarking (p q : PassState) : Type 0 where
   pub keeps : LeavesTurn unchanged p q
   pub gates : KeepsGates p q
 
--- What it does in `close_marks`: it wants the close, once, and then it may close, with all marks closed.
+-- Before all else that it does it wants the close.
+pub record WantsFirst (p q : PassState) : Type 0 where
+  pub wanted : PassState
+  pub want : Makes p step.Want wanted
+  pub rest : List Event
+  pub is : q.seen ≡ wanted.seen ++ rest
+
+-- What it does in `close_marks`: it wants the close, first and once, and then it may close, with all marks closed.
 pub record ClosesMarks (p q : PassState) : Type 0 where
   pub does : Does closes_marks p q
+  pub wants : WantsFirst p q
   pub one_want : count_done is_want does ≡ 1
   pub keeps : LeavesTurn but_phase p q
   pub phase : IsAtPhase q 2
