@@ -76,6 +76,7 @@ abbrev pub AreBegunUpTo : Bool → (Config → Seat → List Event → List Even
 AreBegunUpTo yet begins c s es more =
     (b : At is_begin more) → b.event.seat ≡ s → IsBegunUpTo yet begins c s (es ++ through b) b.behind
 
+-- and it has ended its part among these events,
 abbrev pub AreBegunFirst : (Config → Seat → List Event → List Event → Type 0) → Config → Seat → List Event
     → List Event
     → Type 0
@@ -88,6 +89,7 @@ pub record EachIsBegunUpTo (yet : Bool) (begins : Config → Seat → List Event
   pub is : q.seen ≡ p.seen ++ more
   pub each : AreBegunUpTo yet begins p.table.config p.seat p.seen more
 
+-- the same, where that is among them,
 abbrev pub EachIsBegun : (Config → Seat → List Event → List Event → Type 0) → PassState → PassState → Type 0
 EachIsBegun begins p q = EachIsBegunUpTo false begins p q
 
