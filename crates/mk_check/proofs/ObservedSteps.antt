@@ -3,7 +3,8 @@ use Rattle.std.proofs.Common.{eq-eqb}
 use Rattle.mk_check.proofs.Vocabulary.{Answer, Blocks, Bool, Fed, Line, List, None, Op, Option, Scope, Some, ap}
 use Rattle.mk_check.proofs.Vocabulary.{append-nil}
 use Rattle.mk_check.proofs.Vocabulary.{append_assoc, arith, fed_before_answers, feed, first_op, flagged, if◌then◌else◌}
-use Rattle.mk_check.proofs.Vocabulary.{length, length-append, map, map-append, note, op_of, refl, script_of, script_scope, sym}
+use Rattle.mk_check.proofs.Vocabulary.{length, length-append, map, map-append, note, op_of, refl, script_of}
+use Rattle.mk_check.proofs.Vocabulary.{script_scope, sym}
 use Rattle.mk_check.proofs.Vocabulary.{take_answer, take_answers, with_answer, ℕ, [], ◌++◌, ◌+◌, ◌==◌, ◌∙◌, ◌∷◌, ◌≡◌}
 use Rattle.mk_check.proofs.Vocabulary.{◌≤◌}
 use Rattle.mk_never.specs.{NeverHeap.{Call, NeverState, after_calls, after_op, reply_of}}
