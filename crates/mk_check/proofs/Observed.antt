@@ -1,47 +1,63 @@
--- What a script is told of answers does to it what they do, and is what it is told of the replies.
-use Rattle.mk_check.proofs.Vocabulary.{Answer, Blocks, Bool, Fed, List, Op, Option, Scope, ap, arith, false}
-use Rattle.mk_check.proofs.Vocabulary.{fed_before_answers, if◌then◌else◌, map, note, refl, scope_of, script_of}
-use Rattle.mk_check.proofs.Vocabulary.{take_answer, take_answers, true, ℕ, [], ◌==◌, ◌∙◌, ◌∷◌, ◌≡◌, length}
-use Rattle.mk_check.proofs.{Vocabulary.script_names, AdmittedScripts.scripts_are_admitted}
+-- What a script is told of replies does to it what their images do, and the answers of a caller are such images.
+use Rattle.mk_check.proofs.Vocabulary.{Answer, Blocks, Bool, Fed, Item, List, Op, Option, Scope, ap, arith, false}
+use Rattle.mk_check.proofs.Vocabulary.{fed_before_answers, feed, if◌then◌else◌, map, note, refl, scope_of, script_of}
+use Rattle.mk_check.proofs.Vocabulary.{length-map, take_answer, take_answers, true, ℕ, [], ◌==◌, ◌∙◌, ◌∷◌, ◌≡◌}
+use Rattle.mk_check.proofs.{Vocabulary.{length, script_names, ◌++◌}, AdmittedScripts.scripts_are_admitted}
 use Rattle.std.specs.Prelude.{filter}
-use Rattle.mk_core.specs.{Decided.{Decided, asked}, Image.answer_of}
+use Rattle.mk_core.specs.{Decided.{Decided, asked}, Image.{answer_of, answers_of, image_of}}
 use Rattle.mk_never.specs.{NeverHeap.{Call, NeverState, after_op, reply_of}, declared.operations.Reply.Reply}
-use Rattle.mk_check.specs.{Laws.{heap_of, ops_of_caller}, Observed.{AnswersAreTold, NoneIsLeftOver}}
-use Rattle.mk_check.specs.Observed.{ObservedRunsAreAdmitted, ToldIsEnough, as_told, told_of, told_to}
+use Rattle.mk_check.specs.{Laws.{heap_of, ops_of_caller}, Observed.{replies_to, told_of, told_to}}
+use Rattle.mk_check.specs.ObservedLaws.{AnswersAreImages, NoneIsLeftOver, ObservedRunsAreAdmitted, WordsAreNotTold}
 
--- A script that takes what it is told takes the answer.
+-- Which word was loaded does nothing to a script.
 
-noted_so : (fed : Fed) (o : Option Op) (line : ℕ) (w : ℕ)
-    → note fed o line (Answer.Word 0) ≡ note fed o line (Answer.Word w)
-noted_so fed x1 line w = grind arith
+noted_so : (fed : Fed) (o : Option Op) (line : ℕ) (v w : ℕ)
+    → note fed o line (Answer.Word v) ≡ note fed o line (Answer.Word w)
+noted_so fed x1 line v w = grind arith
 
-told_taken : (scope : Scope) (fed : Fed) (left : Blocks) (a : Answer)
-    → take_answer scope fed left (as_told a) ≡ take_answer scope fed left a
-told_taken scope fed left x3 = grind (arith, noted_so)
+pub word_taken : (scope : Scope) (fed : Fed) (left : Blocks) (v w : ℕ)
+    → take_answer scope fed left (Answer.Word v) ≡ take_answer scope fed left (Answer.Word w)
+word_taken scope fed x2 v w = grind (arith, noted_so)
 
-all_taken : (scope : Scope) (fed : Fed) (xs : List Answer)
-    → take_answers scope fed (map as_told xs) ≡ take_answers scope fed xs
-all_taken scope fed [] = refl
-all_taken scope fed (a ∷ xs) =
-    ap (λ (f : Fed). take_answers scope f (map as_told xs)) (told_taken scope fed fed.left a)
-    ∙ all_taken scope (take_answer scope fed fed.left a) xs
+word_among : (scope : Scope) (fed : Fed) (front more : List Answer) (v w : ℕ)
+    → take_answers scope fed (front ++ Answer.Word v ∷ more) ≡ take_answers scope fed (front ++ Answer.Word w ∷ more)
+word_among scope fed [] more v w =
+    ap (λ (f : Fed). take_answers scope f more) (word_taken scope fed fed.left v w)
+word_among scope fed (a ∷ front) more v w = word_among scope (take_answer scope fed fed.left a) front more v w
 
-pub feed_told : ToldIsEnough
-feed_told program k xs =
+pub words_are_not_told : WordsAreNotTold
+words_are_not_told program k front more v w =
     let script = script_of program k in
     let scope = scope_of program script.items in
-    all_taken scope (fed_before_answers scope script) xs
+    word_among scope (fed_before_answers scope script) front more v w
 
--- What is told of an image is what is told of its reply.
+-- So what is told of a reply does to it what the image of that does.
 
-told_image : (bases : List ℕ) (r : Reply) → as_told (answer_of bases r) ≡ told_of r
-told_image bases Reply.Done = refl
-told_image bases (Reply.Num n) = refl
-told_image bases (Reply.Val v) = refl
-told_image bases Reply.Full = refl
-told_image bases Reply.Fault = refl
-told_image bases Reply.Null = refl
-told_image bases Reply.Double = refl
+image_taken : (scope : Scope) (fed : Fed) (left : Blocks) (bases : List ℕ) (r : Reply)
+    → take_answer scope fed left (told_of r) ≡ take_answer scope fed left (answer_of bases r)
+image_taken scope fed left bases (Reply.Val v) = word_taken scope fed left 0 (image_of bases v)
+image_taken scope fed left bases Reply.Done = refl
+image_taken scope fed left bases (Reply.Num n) = refl
+image_taken scope fed left bases Reply.Full = refl
+image_taken scope fed left bases Reply.Fault = refl
+image_taken scope fed left bases Reply.Null = refl
+image_taken scope fed left bases Reply.Double = refl
+
+images_taken : (scope : Scope) (fed : Fed) (bases : List ℕ) (rs : List Reply)
+    → take_answers scope fed (map told_of rs) ≡ take_answers scope fed (answers_of bases rs)
+images_taken scope fed bases [] = refl
+images_taken scope fed bases (r ∷ rs) =
+    ap (λ (f : Fed). take_answers scope f (map told_of rs)) (image_taken scope fed fed.left bases r)
+    ∙ images_taken scope (take_answer scope fed fed.left (answer_of bases r)) bases rs
+
+pub feed_images : (program : List Item) (k : ℕ) (bases : List ℕ) (rs : List Reply)
+    → feed program k (map told_of rs) ≡ feed program k (answers_of bases rs)
+feed_images program k bases rs =
+    let script = script_of program k in
+    let scope = scope_of program script.items in
+    images_taken scope (fed_before_answers scope script) bases rs
+
+-- The answers of one caller are the images of the replies to it.
 
 abbrev first_of : List Answer → Answer
 first_of [] = Answer.Done
@@ -54,43 +70,46 @@ rest_of (a ∷ xs) = xs
 abbrev answers : List Decided → List Answer
 answers xs = map (λ (x : Decided). x.answer) xs
 
-one_told : (x : Decided) (xs : List Decided) (told : Answer) (ts : List Answer) (own : Bool) → as_told x.answer ≡ told
-    → map as_told (answers xs) ≡ ts
-    → map as_told (answers (if own then x ∷ xs else xs)) ≡ (if own then told ∷ ts else ts)
-one_told x xs told ts true a b =
-    ap (λ (t : Answer). t ∷ map as_told (answers xs)) a ∙ ap (λ (l : List Answer). told ∷ l) b
-one_told x xs told ts false a b = b
+one_image : (bases : List ℕ) (x : Decided) (xs : List Decided) (r : Reply) (rs : List Reply) (own : Bool)
+    → x.answer ≡ answer_of bases r → answers xs ≡ answers_of bases rs
+    → answers (if own then x ∷ xs else xs) ≡ answers_of bases (if own then r ∷ rs else rs)
+one_image bases x xs r rs true a b =
+    ap (λ (t : Answer). t ∷ answers xs) a ∙ ap (λ (l : List Answer). answer_of bases r ∷ l) b
+one_image bases x xs r rs false a b = b
 
-pub answers_told : AnswersAreTold
-answers_told bases k n [] same = refl
-answers_told bases k n (x ∷ xs) same =
-    let told : as_told x.answer ≡ told_of (reply_of n x.caller x.op) =
-    ap (λ (l : List Answer). as_told (first_of l)) same ∙ told_image bases (reply_of n x.caller x.op) in
-    let rest = answers_told bases k (after_op n x.caller x.op) xs (ap rest_of same) in
-    one_told x (filter (λ (y : Decided). y.caller == k) xs) (told_of (reply_of n x.caller x.op))
-    (told_to k (after_op n x.caller x.op) (asked xs)) (x.caller == k) told rest
+pub answers_are_images : AnswersAreImages
+answers_are_images bases k n [] same = refl
+answers_are_images bases k n (x ∷ xs) same =
+    let next = after_op n x.caller x.op in
+    one_image bases x (filter (λ (y : Decided). y.caller == k) xs) (reply_of n x.caller x.op)
+    (replies_to k next (asked xs)) (x.caller == k) (ap first_of same)
+    (answers_are_images bases k next xs (ap rest_of same))
 
 -- What follows of a run.
 
 pub observed_are_admitted : ObservedRunsAreAdmitted
 observed_are_admitted program bytes checked run =
-    let n = heap_of program (length (script_names program)) in
     scripts_are_admitted program (length (script_names program)) run.calls checked (omega arith) (record {
       callers = run.callers;
-      ops = λ k is. record { answers = told_to k n run.calls; are_noted = run.operations k is };
+      ops = λ k is. record { answers = told_to program run.calls k; are_noted = run.operations k is };
     })
 
-one_told_more : (k : ℕ) (n : NeverState) (x : Call) (xs : List Call) (t : Answer) (m : NeverState) (own : Bool)
-    → length (told_to k m xs) ≡ length (ops_of_caller k xs)
-    → length (if own then t ∷ told_to k m xs else told_to k m xs)
+one_reply_more : (k : ℕ) (n : NeverState) (x : Call) (xs : List Call) (r : Reply) (m : NeverState) (own : Bool)
+    → length (replies_to k m xs) ≡ length (ops_of_caller k xs)
+    → length (if own then r ∷ replies_to k m xs else replies_to k m xs)
     ≡ length (if own then x.op ∷ ops_of_caller k xs else ops_of_caller k xs)
-one_told_more k n x xs t m x6 same = grind arith
+one_reply_more k n x xs r m x6 same = grind arith
 
-pub as_many_told : (k : ℕ) (n : NeverState) (xs : List Call) → length (told_to k n xs) ≡ length (ops_of_caller k xs)
-as_many_told k n [] = refl
-as_many_told k n (x ∷ xs) =
+as_many_replies : (k : ℕ) (n : NeverState) (xs : List Call)
+    → length (replies_to k n xs) ≡ length (ops_of_caller k xs)
+as_many_replies k n [] = refl
+as_many_replies k n (x ∷ xs) =
     let m = after_op n x.caller x.op in
-    one_told_more k n x xs (told_of (reply_of n x.caller x.op)) m (x.caller == k) (as_many_told k m xs)
+    one_reply_more k n x xs (reply_of n x.caller x.op) m (x.caller == k) (as_many_replies k m xs)
+
+pub as_many_told : (k : ℕ) (n : NeverState) (xs : List Call)
+    → length (map told_of (replies_to k n xs)) ≡ length (ops_of_caller k xs)
+as_many_told k n xs = length-map (replies_to k n xs) told_of ∙ as_many_replies k n xs
 
 pub none_is_left_over : NoneIsLeftOver
 none_is_left_over program bytes run k is =

@@ -3,26 +3,38 @@ use Rattle.std.proofs.Common.{eq-eqb}
 use Rattle.mk_check.proofs.Vocabulary.{Answer, Blocks, Bool, Fed, Line, List, None, Op, Option, Scope, Some, ap}
 use Rattle.mk_check.proofs.Vocabulary.{append-nil}
 use Rattle.mk_check.proofs.Vocabulary.{append_assoc, arith, fed_before_answers, feed, first_op, flagged, if◌then◌else◌}
-use Rattle.mk_check.proofs.Vocabulary.{length, length-append, note, op_of, refl, script_of, script_scope, sym}
+use Rattle.mk_check.proofs.Vocabulary.{length, length-append, map, map-append, note, op_of, refl, script_of}
+use Rattle.mk_check.proofs.Vocabulary.{script_scope, sym}
 use Rattle.mk_check.proofs.Vocabulary.{take_answer, take_answers, with_answer, ℕ, [], ◌++◌, ◌+◌, ◌==◌, ◌∙◌, ◌∷◌, ◌≡◌}
 use Rattle.mk_check.proofs.Vocabulary.{◌≤◌}
-use Rattle.mk_never.specs.NeverHeap.{Call, NeverState, after_calls, after_op, reply_of}
+use Rattle.mk_never.specs.{NeverHeap.{Call, NeverState, after_calls, after_op, reply_of}}
+use Rattle.mk_never.specs.declared.operations.Reply.{Reply}
 use Rattle.mk_check.proofs.{AdmittedScripts.first_are_noted, Numbered.{ops-with_answer, run_agrees}}
 use Rattle.mk_check.proofs.Observed.{as_many_told}
-use Rattle.mk_check.specs.{Laws.ops_of_caller, Observed.{told_of, told_to}}
+use Rattle.mk_check.specs.{Laws.ops_of_caller, Observed.{replies_to, told_of}}
 use Rattle.mk_check.specs.ObservedSteps.{EachCallIsAskedFor, heap_before}
 
 -- Calls in two parts.
 
-told_parts : (k : ℕ) (n : NeverState) (xs ys : List Call)
-    → told_to k n (xs ++ ys) ≡ told_to k n xs ++ told_to k (after_calls n xs) ys
-told_parts k n [] ys = refl
-told_parts k n (x ∷ xs) ys =
-    by_test (x.caller == k) (told_of (reply_of n x.caller x.op)) _ _ _ (told_parts k (after_op n x.caller x.op) xs ys)
+-- what caller k is told of its own calls, from this state on
+abbrev told : ℕ → NeverState → List Call → List Answer
+told k n xs = map told_of (replies_to k n xs)
+
+replies_parts : (k : ℕ) (n : NeverState) (xs ys : List Call)
+    → replies_to k n (xs ++ ys) ≡ replies_to k n xs ++ replies_to k (after_calls n xs) ys
+replies_parts k n [] ys = refl
+replies_parts k n (x ∷ xs) ys =
+    by_test (x.caller == k) (reply_of n x.caller x.op) _ _ _ (replies_parts k (after_op n x.caller x.op) xs ys)
   where
-    by_test : (own : Bool) (t : Answer) (all front more : List Answer) → all ≡ front ++ more
-        → (if own then t ∷ all else all) ≡ (if own then t ∷ front else front) ++ more
-    by_test x0 t all front more e = grind arith
+    by_test : (own : Bool) (r : Reply) (all front more : List Reply) → all ≡ front ++ more
+        → (if own then r ∷ all else all) ≡ (if own then r ∷ front else front) ++ more
+    by_test x0 r all front more e = grind arith
+
+told_parts : (k : ℕ) (n : NeverState) (xs ys : List Call)
+    → told k n (xs ++ ys) ≡ told k n xs ++ told k (after_calls n xs) ys
+told_parts k n xs ys =
+    ap (λ (rs : List Reply). map told_of rs) (replies_parts k n xs ys)
+    ∙ map-append told_of (replies_to k n xs) (replies_to k (after_calls n xs) ys)
 
 ops_parts : (k : ℕ) (xs ys : List Call) → ops_of_caller k (xs ++ ys) ≡ ops_of_caller k xs ++ ops_of_caller k ys
 ops_parts k [] ys = refl
@@ -115,11 +127,11 @@ own_ops : (x : Call) (xs : List Call) → ops_of_caller x.caller (x ∷ xs) ≡ 
 own_ops x xs = ap (λ (own : Bool). if own then x.op ∷ ops_of_caller x.caller xs else ops_of_caller x.caller xs)
     (eq-eqb x.caller x.caller refl)
 
-own_told : (n : NeverState) (x : Call) (xs : List Call) → told_to x.caller n (x ∷ xs)
-    ≡ told_of (reply_of n x.caller x.op) ∷ told_to x.caller (after_op n x.caller x.op) xs
+own_told : (n : NeverState) (x : Call) (xs : List Call) → told x.caller n (x ∷ xs)
+    ≡ told_of (reply_of n x.caller x.op) ∷ told x.caller (after_op n x.caller x.op) xs
 own_told n x xs =
-    let rest = told_to x.caller (after_op n x.caller x.op) xs in
-    ap (λ (own : Bool). if own then told_of (reply_of n x.caller x.op) ∷ rest else rest)
+    let rest = replies_to x.caller (after_op n x.caller x.op) xs in
+    ap (λ (own : Bool). map told_of (if own then reply_of n x.caller x.op ∷ rest else rest))
     (eq-eqb x.caller x.caller refl)
 
 pub each_call_is_asked_for : EachCallIsAskedFor
@@ -131,11 +143,11 @@ each_call_is_asked_for program bytes run front more x is script =
     let next = after_op m k x.op in
     let scope = script_scope program k in
     let fed = fed_before_answers scope (script_of program k) in
-    let before = told_to k n front in
-    let after = told_to k next more in
+    let before = told k n front in
+    let after = told k next more in
     let stopped = take_answers scope fed before in
-    let all_told : told_to k n run.calls ≡ before ++ t ∷ after =
-    ap (λ (cs : List Call). told_to k n cs) is
+    let all_told : told k n run.calls ≡ before ++ t ∷ after =
+    ap (λ (cs : List Call). told k n cs) is
     ∙ (told_parts k n front (x ∷ more) ∙ ap (λ (l : List Answer). before ++ l) (own_told m x more)) in
     let own : ops_of_caller k run.calls ≡ ops_of_caller k front ++ x.op ∷ ops_of_caller k more =
     ap (λ (cs : List Call). ops_of_caller k cs) is

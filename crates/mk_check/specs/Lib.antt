@@ -13,6 +13,7 @@ pub mod AtOnce
 pub mod Spots
 pub mod NamesInScope
 pub mod Observed
+pub mod ObservedLaws
 pub mod ObservedSteps
 pub mod Output
 pub mod Steps

@@ -12,7 +12,7 @@ heap_before program = heap_of program (length (script_names program))
 -- Told the replies to its calls before this one its caller's script asks for it. Whether a New is full says its reply.
 pub record IsAskedFor (program : List Item) (front : List Call) (x : Call) : Type 0 where
   pub op : Op
-  pub asked : next_op program x.caller (told_to x.caller (heap_before program) front) ≡ Some op
+  pub asked : next_op program x.caller (told_to program front x.caller) ≡ Some op
   pub is : x.op ≡ flagged op (told_of (reply_of (after_calls (heap_before program) front) x.caller x.op))
 
 -- Each call of an observed run is what its script asks for, told the replies before it.

@@ -6,7 +6,8 @@ ghost use Rattle.mk_script.specs.{declared.items.Item.Item, Scopes.script_names}
 ghost use Rattle.mk_check.specs.Laws.{IsChecked, IsScript, AreNotedBy, AnswersAreNoted, OthersAreIgnored};
 ghost use Rattle.mk_check.specs.{Laws.{AreAdmittedFor, NextIsAdmitted, AreOfScripts}, Output.EndedCallsAreAnswered};
 ghost use Rattle.mk_check.specs.ObservedSteps.{EachCallIsAskedFor};
-ghost use Rattle.mk_check.specs.Observed.{ToldIsEnough, AnswersAreTold, ObservedRunsAreAdmitted, NoneIsLeftOver};
+ghost use Rattle.mk_check.specs.ObservedLaws.{AnswersAreImages, NoneIsLeftOver, ObservedRunsAreAdmitted};
+ghost use Rattle.mk_check.specs.ObservedLaws.{WordsAreNotTold};
 ghost use Rattle.mk_check.specs.WrittenBlocks.{ScriptsAreTheirLines};
 
 /// What a script asks for next is admitted: after any admitted calls, whatever their other callers did, if
@@ -49,15 +50,14 @@ pub fn ended_calls_are_answered()
     ensures { EndedCallsAreAnswered }
 {}
 
-/// What a script is told of answers does to it what they do.
-#[tactic(auto, using(crate::proofs::Observed::feed_told))]
-pub fn told_is_enough()
-    ensures { ToldIsEnough }
+/// A script does the same whichever word it loaded: it isn't told which.
+pub fn words_are_not_told()
+    ensures { WordsAreNotTold }
 {}
 
-/// Where the answers are the images of the replies, a script is told the same of both.
-pub fn answers_are_told()
-    ensures { AnswersAreTold }
+/// Where the answers are the images of the replies, a caller's answers are those of the replies to it.
+pub fn answers_are_images()
+    ensures { AnswersAreImages }
 {}
 
 /// The calls of a run that can be observed are admitted, and no script is told more than it asked for.

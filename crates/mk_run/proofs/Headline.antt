@@ -1,15 +1,18 @@
 -- The history of a run keeps all promises, and its texts are all that is printed of it.
 use Rattle.std.proofs.{Common.slice_get, Common.take_all, lemmas.Bool.Decides.nat_tests}
 use Rattle.std.specs.List.{flat_map, range_with_len}
-use Rattle.mk_laws.proofs.Vocabulary.{Bool, Caller, Config, Decided, Event, List, Some, ℕ, ap, arith, asked, calls}
-use Rattle.mk_laws.proofs.Vocabulary.{length, refl, seat_exists, suc, true, [], ◌++◌, ◌+◌, ◌<◌, ◌==◌, ◌∙◌, ◌∷◌, ◌≡◌}
+use Rattle.mk_laws.proofs.Vocabulary.{Answer, Bool, Caller, Config, Decided, Event, List, Op, Some, ℕ, ap, arith, asked}
+use Rattle.mk_laws.proofs.Vocabulary.{calls, length, refl, seat_exists, subst, suc, sym, true, [], ◌++◌, ◌+◌, ◌<◌, ◌==◌}
+use Rattle.mk_laws.proofs.Vocabulary.{◌∙◌, ◌∷◌, ◌≡◌}
 use Rattle.mk_run.proofs.Vocabulary.{IsRunOf, IsScript, IsWhole, Item, Outcome, Text, answers_in, config_of}
-use Rattle.mk_run.proofs.Vocabulary.{slice_get_within}
+use Rattle.mk_run.proofs.Vocabulary.{feed, slice_get_within}
 use Rattle.mk_laws.proofs.Promises.{histories_keep_all_promises}
-use Rattle.mk_check.{proofs.GivenAnswers.serves, specs.Laws.ops_of_caller, specs.Output.answers_among}
+use Rattle.mk_check.{proofs.GivenAnswers.serves, specs.Feed.has_ended, specs.Laws.AreNotedBy}
+use Rattle.mk_check.{specs.Laws.ops_of_caller, specs.Output.answers_among}
 use Rattle.mk_check.{specs.Output.answers_given, specs.Output.ended_calls, specs.Output.text_behind}
-use Rattle.mk_run.proofs.{BoundedRuns.quarantine_of_run_is_bounded, UnsweptHistories.unswept_is_precise}
-use Rattle.mk_run.specs.Headline.{RunsPrintTheirTexts, RunsStandInOneHistory, RunsToItsEnd, cycles_go_on}
+use Rattle.mk_run.proofs.{BoundedRuns.quarantine_is_bounded, UnsweptHistories.unswept_is_precise}
+use Rattle.mk_run.specs.Headline.{NoAnswerIsLeft, RunsKeepTheirPromises, RunsPrintTheirTexts, RunsStandInOneHistory}
+use Rattle.mk_run.specs.Headline.{cycles_go_on}
 use Rattle.mk_heap.specs.Reports as report
 
 -- A caller has as many answers among the calls as operations.
@@ -45,30 +48,62 @@ pieces f g a (x ∷ xs) each =
     let rest = pieces f g (a + 1) xs (λ k y is. each (suc k) y is ∙ ap g (omega arith)) in
     ap (λ piece. piece ++ flat_map f xs) first ∙ ap (λ more. g a ++ more) rest
 
--- A script of a run has used all its answers.
-pub runs_to_its_end : (on with_cycle : Bool) (program : List Item) (markers : ℕ) (outcome : Outcome) (k : ℕ)
-    → IsRunOf on with_cycle program markers outcome → IsScript program k
-    → RunsToItsEnd program k (answers_in (config_of program markers) k (report.history_of outcome.report))
-runs_to_its_end on with_cycle program markers outcome k runs is = grind (arith, as_many)
+-- What a script noted and where it stands, by the answers that its ended calls have.
+
+module _ {on with_cycle : Bool} {program : List Item} {markers : ℕ} {outcome : Outcome}
+    (runs : IsRunOf on with_cycle program markers outcome) (k : ℕ) (is : IsScript program k) where
+  abbrev c : Config
+  c = config_of program markers
+
+  abbrev es : List Event
+  es = report.history_of outcome.report
+
+  given : answers_in c k es ≡ answers_given c es k
+  given = sym (all_given k runs.whole is)
+
+  pub noted_of_run : AreNotedBy program k (answers_given c es k) (asked (calls c es))
+  noted_of_run = subst (λ (xs : List Answer). AreNotedBy program k xs (asked (calls c es))) given
+      (runs.follows k is).noted
+
+  pub ends_of_run : has_ended (feed program k (answers_given c es k)) ≡ true
+  ends_of_run = subst (λ (xs : List Answer). has_ended (feed program k xs) ≡ true) given (runs.ends k is)
+
+-- It has used all of them.
+pub none_is_left : (program : List Item) (markers : ℕ) {es : List Event} (k : ℕ)
+    → IsWhole (config_of program markers) es → IsScript program k
+    → AreNotedBy program k (answers_given (config_of program markers) es k)
+    (asked (calls (config_of program markers) es))
+    → length (feed program k (answers_given (config_of program markers) es k)).ops
+    ≡ length (answers_given (config_of program markers) es k)
+none_is_left program markers {es} k whole is noted =
+    ap (λ (os : List Op). length os) (sym noted)
+    ∙ (as_many k (calls (config_of program markers) es)
+    ∙ ap (λ (xs : List Answer). length xs) (sym (all_given k whole is)))
+
+pub no_answer_is_left : NoAnswerIsLeft
+no_answer_is_left program markers sweep last_cycle es k h is =
+    none_is_left program markers k h.whole is (h.operations k is)
 
 unfoldable pub runs_stand_in_one_history : RunsStandInOneHistory
-runs_stand_in_one_history program markers sweep last_cycle outcome tell bytes runs begun unswept told =
+runs_stand_in_one_history program markers sweep last_cycle outcome runs begun unswept = record {
+  whole = runs.whole;
+  operations = noted_of_run runs;
+  ends = ends_of_run runs;
+  cycles = λ k is. (runs.follows k is).exact;
+  roots = begun;
+  host = runs.host;
+  over = runs.over;
+  unswept = unswept;
+}
+
+pub runs_keep_their_promises : RunsKeepTheirPromises
+runs_keep_their_promises program markers sweep last_cycle es h =
     let c = config_of program markers in
-    let es = report.history_of outcome.report in
-    let kept = histories_keep_all_promises c es runs.whole.history in
+    let kept = histories_keep_all_promises c es h.whole.history in
     record {
-      history = es;
-      whole = runs.whole;
       promises = kept;
-      operations = λ k is. (runs.follows k is).noted;
-      ends = λ k is. runs_to_its_end (cycles_go_on markers) last_cycle program markers outcome k runs is;
-      cycles = λ k is. (runs.follows k is).exact;
-      roots = begun;
-      host = runs.host;
-      over = runs.over;
-      precise = λ none. unswept_is_precise c es kept (unswept none);
-      bounded = quarantine_of_run_is_bounded runs;
-      told = told;
+      releases = λ none. unswept_is_precise c es kept (h.unswept none);
+      bounded = quarantine_is_bounded (cycles_go_on markers) c h.whole.history h.cycles h.host;
     }
 
 pub runs_print_their_texts : RunsPrintTheirTexts

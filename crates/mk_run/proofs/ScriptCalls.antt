@@ -1,7 +1,7 @@
 -- A script's caller makes one call more, and what is known then.
 use Rattle.std.proofs.{Common.length-append, lemmas.List.Sums.{count_by-le-length, sum_by_push}}
 use Rattle.mk_laws.proofs.Vocabulary.{Answer, Bool, Caller, Config, Decided, Event, IsAdmitted, IsHistory, List, Op}
-use Rattle.mk_laws.proofs.Vocabulary.{Option, Seat, Some, ℕ, ap, arith, asked, caller_number, calls, entry_of}
+use Rattle.mk_laws.proofs.Vocabulary.{Seat, Some, ℕ, ap, arith, asked, caller_number, calls, entry_of}
 use Rattle.mk_laws.proofs.Vocabulary.{if◌then◌else◌, length, map, map-append, never_behind, refl, subst, sym, [], ◌++◌}
 use Rattle.mk_laws.proofs.Vocabulary.{◌+◌, ◌<◌, ◌==◌, ◌∙◌, ◌∷◌, ◌≡◌, ◌≤◌}
 use Rattle.mk_run.proofs.Vocabulary.{Answers, FollowsScript, IsChecked, IsFedWith, IsHomePass, IsScript, Item}
@@ -11,8 +11,8 @@ use Rattle.mk_heap.{proofs.Dispatched.then_seen, specs.Dispatching.as_told}
 use Rattle.mk_heap.specs.Below.Objects.TurnCycles.{TurnsOfAreExact}
 use Rattle.mk_heap.specs.Below.Callers.States.{Admits, caller_of_pass}
 use Rattle.mk_run.specs.Scripts.{IsRunning, Script, ScriptTakesAnswer}
-use Rattle.mk_check.proofs.{AdmittedScripts.next_is_admitted, FeedLaws.{feed_push, ops-feed_push}}
-use Rattle.mk_check.specs.{Feed.{Fed, Scope, note, take_answer}, Blocks.Blocks, Declarations.globals_of}
+use Rattle.mk_check.proofs.{AdmittedScripts.next_is_admitted, FeedLaws.{feed_push, ops-feed_push}, Observed.word_taken}
+use Rattle.mk_check.specs.{Feed.{Fed, Scope, take_answer}, Blocks.Blocks, Declarations.globals_of}
 use Rattle.mk_check.specs.{Feeding.{FeedStandsFor, FeedState}, Laws.{AreNotedBy, ops_of_caller}, Output.answers_among}
 
 -- The calls of one caller among all: what its script notes of them, and what one call more makes of that.
@@ -81,13 +81,10 @@ next_admitted {program} {c} k {es = es} answers o checked is_script is history n
 
 -- What is said of an answer does to a script what the answer does.
 
-noted_so : (fed : Fed) (o : Option Op) (line : ℕ) (w : ℕ)
-    → note fed o line (Answer.Word 0) ≡ note fed o line (Answer.Word w)
-noted_so fed x1 line w = grind arith
-
-told_taken : (scope : Scope) (fed : Fed) (left : Blocks) (a : Answer)
+taken_as_told : (scope : Scope) (fed : Fed) (left : Blocks) (a : Answer)
     → take_answer scope fed left (as_told a) ≡ take_answer scope fed left a
-told_taken scope fed left x3 = grind (arith, noted_so)
+taken_as_told scope fed left (Answer.Word w) = word_taken scope fed left 0 w
+taken_as_told scope fed left _ = refl
 
 told_refuses : (a : Answer) → is_refusal (as_told a) ≡ is_refusal a
 told_refuses x0 = grind arith
@@ -100,7 +97,7 @@ same_feed : {program : List Item} {k : ℕ} {s : FeedState} {xs : List Answer} (
     → length xs ≡ length ys → FeedStandsFor program k s xs → FeedStandsFor program k s ys
 same_feed ys same long h = grind arith
 
-ruleset fed_as_told_facts = (same_feed, same_length, told_refuses, sum_by_push, feed_push, told_taken)
+ruleset fed_as_told_facts = (same_feed, same_length, told_refuses, sum_by_push, feed_push, taken_as_told)
 
 -- one answer more, as it was told
 pub fed_as_told : (program : List Item) (k : ℕ) (answers : List Answer) (a : Answer) (s : Script)

@@ -1,8 +1,8 @@
 //! The run of a program.
 ghost use Rattle.std.specs.Prelude.{◌≡◌, ◌≤◌, IfOk, true, false};
-ghost use Rattle.mk_check.specs.Declarations.{config_of};
+ghost use Rattle.mk_check.specs.{Declarations.config_of, Observed.ObservedRun};
 ghost use Rattle.mk_heap.specs.{Below.Cycles.Begun.CyclesAreBegun, Reports.history_of, LastCycle.EndsWithCycle};
-ghost use Rattle.mk_run.specs.{Running.IsRunOf, Unswept.IsUnswept};
+ghost use Rattle.mk_run.specs.{Headline.printed, Running.IsRunOf, Unswept.IsUnswept};
 
 use crate::marking::{Done, run_beside};
 use crate::outcomes::Outcome;
@@ -68,6 +68,7 @@ pub fn run_all<E: Engine + Send, P: Pace + Sync, R: Threads + Wait + Sync>(
     pace: &P,
 ) -> Result<Outcome, NoMemory>
     requires markers { markers ≤ 8 }
+    ensures seen { IfOk result (λ outcome. ObservedRun program.now (printed outcome)) }
     ensures runs { IfOk result (IsRunOf E.on false program.now markers) }
     ensures reached { IfOk result (λ outcome. E.sweeps ≡ false
         → IsUnswept (config_of program.now markers) (history_of outcome.report)) }

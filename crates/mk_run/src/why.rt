@@ -1,9 +1,9 @@
 //! The run of a program with a last cycle, and what that cycle keeps.
 ghost use Rattle.std.specs.Prelude.{◌≡◌, ◌≤◌, IfOk, true, false};
-ghost use Rattle.mk_check.specs.Declarations.{config_of};
+ghost use Rattle.mk_check.specs.{Declarations.config_of, Observed.ObservedRun};
 ghost use Rattle.mk_heap.specs.{Below.Cycles.Begun.CyclesAreBegun, Reports.history_of, LastCycle.EndsWithCycle};
 ghost use Rattle.mk_why.specs.Chains.{AreKept};
-ghost use Rattle.mk_run.specs.{Running.IsRunOf, Unswept.IsUnswept};
+ghost use Rattle.mk_run.specs.{Headline.printed, Running.IsRunOf, Unswept.IsUnswept};
 
 use crate::outcomes::Outcome;
 use crate::running::run_and_close;
@@ -26,6 +26,7 @@ pub fn run_why<E: Engine + Send, P: Pace + Sync, R: Threads + Wait + Sync>(
     pace: &P,
 ) -> Result<(Outcome, Vec<Kept>), NoMemory>
     requires markers { markers ≤ 8 }
+    ensures seen { IfOk result (λ ran. ObservedRun program.now (printed ran.0)) }
     ensures runs { IfOk result (λ ran. IsRunOf E.on true program.now markers ran.0) }
     ensures kept { IfOk result (λ ran. EndsWithCycle (λ c w. AreKept c w ran.1.items) (config_of program.now markers)
         (history_of ran.0.report)) }
