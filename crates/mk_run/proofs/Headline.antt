@@ -8,7 +8,8 @@ use Rattle.mk_run.proofs.Vocabulary.{slice_get_within}
 use Rattle.mk_laws.proofs.Promises.{histories_keep_all_promises}
 use Rattle.mk_check.{proofs.GivenAnswers.serves, specs.Laws.ops_of_caller, specs.Output.answers_among}
 use Rattle.mk_check.{specs.Output.answers_given, specs.Output.ended_calls, specs.Output.text_behind}
-use Rattle.mk_run.proofs.{BoundedRuns.quarantine_of_run_is_bounded, UnsweptHistories.unswept_is_precise}
+use Rattle.mk_run.proofs.BoundedRuns.{quarantine_of_run_is_bounded}
+use Rattle.mk_heap.proofs.UnsweptHistories.{unswept_is_precise}
 use Rattle.mk_run.specs.Headline.{RunsPrintTheirTexts, RunsStandInOneHistory, RunsToItsEnd, cycles_go_on}
 use Rattle.mk_heap.specs.Reports as report
 

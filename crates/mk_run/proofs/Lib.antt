@@ -8,7 +8,5 @@ mod WholeRuns
 pub mod BoundedRuns
 pub mod Headline
 pub mod ObservedRuns
-pub mod UnsweptHistories
-pub mod UnsweptScripts
 pub mod KeptScripts
 pub mod Vocabulary
