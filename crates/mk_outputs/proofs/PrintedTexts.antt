@@ -3,13 +3,13 @@ use Rattle.std.specs.List.{flat_map, range_with_len}
 use Rattle.mk_laws.proofs.Vocabulary.{Bool, Event, List, ℕ, ap, arith, false, length, refl, slice_index_or, subst, suc}
 use Rattle.mk_laws.proofs.Vocabulary.{sym, true, [], ◌++◌, ◌+◌, ◌<◌, ◌∙◌, ◌∷◌, ◌≡◌}
 use Rattle.mk_check.specs.{Declarations.config_of, Output.output, Output.text_behind, declared.text.Text.Text}
-use Rattle.mk_trace.specs.Below.Cycles.Roots.{CyclesMarkRootsFirst}
-use Rattle.mk_trace.specs.{Below.Runs.Headline.{StandsInOneHistory, cycles_go_on}, Below.Heaps.LastCycle.EndsWithCycle}
-use Rattle.mk_trace.specs.{Below.Runs.Running.IsRunOf, Below.Runs.Unswept.IsUnswept}
-use Rattle.mk_trace.specs.{Below.Runs.declared.outcomes.Outcome.Outcome, Below.Chains.Chains.AreKept}
-use Rattle.mk_trace.specs.Below.Heaps.Reports as report
-use Rattle.mk_trace.specs.Below.Chains.declared.kept.Kept.{Kept}
-use Rattle.mk_trace.proofs.Below.Runs.Headline.{runs_print_their_texts, runs_stand_in_one_history}
+use Rattle.mk_run.specs.Below.Cycles.Roots.{CyclesMarkRootsFirst}
+use Rattle.mk_run.specs.{Headline.{StandsInOneHistory, cycles_go_on}, Below.Heaps.LastCycle.EndsWithCycle}
+use Rattle.mk_run.specs.{Running.IsRunOf, Below.Heaps.Unswept.IsUnswept}
+use Rattle.mk_run.specs.{declared.outcomes.Outcome.Outcome, Below.Chains.Chains.AreKept}
+use Rattle.mk_run.specs.Below.Heaps.Reports as report
+use Rattle.mk_run.specs.Below.Chains.declared.kept.Kept.{Kept}
+use Rattle.mk_run.proofs.Headline.{runs_print_their_texts, runs_stand_in_one_history}
 use Rattle.mk_outputs.specs.{KeptText.kept_text, Outputs.IsOutputOfRun, Outputs.TellsWhatIsKept}
 use Rattle.mk_replay.specs.Replays.{AreTextsOf}
 use Rattle.mk_script.specs.declared.items.Item.{Item}

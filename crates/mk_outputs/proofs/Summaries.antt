@@ -6,14 +6,14 @@ use Rattle.mk_laws.proofs.Vocabulary.{Config, Event, List, Some, ℕ, ap, append
 use Rattle.mk_laws.proofs.Vocabulary.{get_or, length, refl, slice_index_or, suc, sym, true, [], ◌++◌, ◌+◌, ◌<◌, ◌∙◌}
 use Rattle.mk_laws.proofs.Vocabulary.{◌∷◌, ◌≡◌, ◌≤◌}
 use Rattle.mk_check.specs.{Declarations.config_of, Laws.IsScript, declared.text.Text.Text}
-use Rattle.mk_trace.specs.Below.Cycles.Roots.{CyclesMarkRootsFirst}
-use Rattle.mk_trace.specs.Below.Runs.Headline.{StandsInOneHistory, cycles_go_on}
-use Rattle.mk_trace.specs.{Below.Runs.Running.{IsRunOf, answers_in}, Below.Runs.Unswept.IsUnswept}
-use Rattle.mk_trace.specs.Below.Heaps.Reports as report
-use Rattle.mk_trace.specs.Below.Runs.declared.outcomes.Outcome.{Outcome}
+use Rattle.mk_run.specs.Below.Cycles.Roots.{CyclesMarkRootsFirst}
+use Rattle.mk_run.specs.Headline.{StandsInOneHistory, cycles_go_on}
+use Rattle.mk_run.specs.{Running.{IsRunOf, answers_in}, Below.Heaps.Unswept.IsUnswept}
+use Rattle.mk_run.specs.Below.Heaps.Reports as report
+use Rattle.mk_run.specs.declared.outcomes.Outcome.{Outcome}
 use Rattle.mk_outputs.proofs.GeneratedLaws.{generated_declares_nodes, generated_makes_turns}
 use Rattle.mk_outputs.specs.Generated.{all_names, generated_program}
-use Rattle.mk_trace.proofs.Below.Runs.Headline.{runs_stand_in_one_history, runs_to_its_end}
+use Rattle.mk_run.proofs.Headline.{runs_stand_in_one_history, runs_to_its_end}
 use Rattle.mk_outputs.specs.SummedTexts.{AreFew, all_ops, line_of_text, lines_from, summary_of_texts}
 use Rattle.mk_outputs.specs.Summary.{calls_made, line_of_script, summary}
 use Rattle.mk_script.{proofs.Spacing.drop_next, specs.Scopes.script_names, specs.declared.items.Item.Item}

@@ -10,8 +10,8 @@ use Rattle.mk_check.specs.{declared.typing_faults.TypeStop.TypeStop, Typing.{Typ
 use Rattle.mk_check.specs.Declarations.{config_of}
 use Rattle.mk_core.specs.{declared.config.Config.Config, declared.events.Event.Event, History.AreEnabled}
 use Rattle.mk_laws.specs.Promises.{KeepsAllPromises}
-use Rattle.mk_trace.specs.{Below.Runs.Headline.StandsInOneHistory, Below.Heaps.LastCycle.EndsWithCycle}
-use Rattle.mk_trace.specs.{Below.Chains.declared.kept.Kept.Kept, Below.Chains.Chains.AreKept}
+use Rattle.mk_run.specs.{Headline.StandsInOneHistory, Below.Heaps.LastCycle.EndsWithCycle}
+use Rattle.mk_run.specs.{Below.Chains.declared.kept.Kept.Kept, Below.Chains.Chains.AreKept}
 use Rattle.mk_outputs.specs.declared.commands.Command.{Command}
 use Rattle.mk_outputs.specs.declared.commands.Command.TheVariants as asked
 use Rattle.mk_outputs.specs.{Generated.generated_program, declared.commands.TextCommand.TextCommand}

@@ -5,7 +5,7 @@ use lib.Chars.{codes}
 use Rattle.mk_check.specs.Feed.{is_refusal}
 use Rattle.mk_core.specs.{declared.config.Config.Config, declared.events.Event.Event}
 use Rattle.mk_script.specs.{declared.items.Item.Item, Scopes.script_names}
-use Rattle.mk_trace.specs.Below.Runs.Running.{answers_in}
+use Rattle.mk_run.specs.Running.{answers_in}
 
 -- a script's line: how many calls it made, and how many of them were refused
 abbrev pub script_line : List ℕ → ℕ → ℕ → List ℕ

@@ -2,7 +2,7 @@
 ghost use Rattle.std.specs.Prelude.{◌≡◌, ◌≤◌, ◌++◌, length, string_bytes, IfOk, OnOk, false};
 ghost use Rattle.mk_outputs.specs.declared.commands.Command.TheVariants as Command;
 ghost use Rattle.mk_outputs.specs.{Generated.generated_program, Commands.IsWithin};
-ghost use Rattle.mk_trace.specs.Below.Runs.Headline.{StandsInOneHistory};
+ghost use Rattle.mk_run.specs.Headline.{StandsInOneHistory};
 ghost use Rattle.mk_outputs.specs.{Summary.{summary, total_line}, SummedTexts.{line_of_text, summary_of_texts, AreFew}};
 
 use crate::commands::{Marking, Options, Request};
@@ -10,7 +10,7 @@ use crate::generating::generate;
 use crate::running::outcome_of;
 use mk_check::Text;
 use mk_never::NoMemory;
-use mk_trace::lower::heaps::Pace;
+use mk_run::lower::heaps::Pace;
 use std::alloc::Global;
 use std::sync::Wait;
 use std::thread::Threads;

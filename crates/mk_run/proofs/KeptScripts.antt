@@ -8,9 +8,9 @@ use Rattle.mk_run.proofs.Vocabulary.{PassState, WordsState, config_of, has_first
 use Rattle.mk_core.specs.History.{AreEnabledFrom}
 use Rattle.mk_heap.proofs.Below.Cycles.Begun.{begun_append, others_begin_none}
 use Rattle.mk_heap.specs.Below.Cycles.Begun.{AreBegunFirst, CyclesAreBegun, IsBegunFirst}
-use Rattle.mk_run.proofs.{JoinedScripts.same_or_later, UnsweptHistories.{markers_sweep, none_sweeps}}
-use Rattle.mk_run.specs.{Keeping.{ScriptsKeep, SeatKeeps}, Unswept.IsUnswept}
-use Rattle.mk_run.proofs.UnsweptScripts.{first_sweeps, others_on as others_sweep_on, seat_on as seat_sweeps_on}
+use Rattle.mk_heap.{proofs.UnsweptHistories.{markers_sweep, none_sweeps}, specs.Unswept.{IsUnswept}}
+use Rattle.mk_heap.proofs.UnsweptSeats.{first_sweeps, others_on as others_sweep_on, seat_on as seat_sweeps_on}
+use Rattle.mk_run.{proofs.JoinedScripts.{same_or_later}, specs.Keeping.{ScriptsKeep, SeatKeeps}}
 
 nowhere : (before : List Event) (e : Event) (behind : List Event) → [] ≡ before ++ e ∷ behind → ⊥
 nowhere [] e behind is = cc

@@ -6,7 +6,7 @@ use Rattle.mk_core.specs.declared.events.Seat.TheVariants.{Caller, Host}
 use Rattle.mk_heap.specs.Below.Cycles.Begun.{AreBegunFirst}
 use Rattle.mk_script.specs.declared.items.Item.{Item}
 use Rattle.mk_check.specs.Laws.{IsScript}
-use Rattle.mk_run.specs.UnsweptSeats.{SeatSweepsNothing}
+use Rattle.mk_heap.specs.UnsweptSeats.{SeatSweepsNothing}
 
 -- in a history, as `PassKeeps` of mk_alloc says of what its pass saw since,
 pub record SeatKeeps (sweeps : Bool) (begins : Config → Seat → List Event → List Event → Type 0) (c : Config) (s : Seat)

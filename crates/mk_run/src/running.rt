@@ -2,7 +2,8 @@
 ghost use Rattle.std.specs.Prelude.{◌≡◌, ◌≤◌, IfOk, true, false};
 ghost use Rattle.mk_check.specs.{Declarations.config_of, Observed.ObservedRun};
 ghost use Rattle.mk_heap.specs.{Below.Cycles.Begun.CyclesAreBegun, Reports.history_of, LastCycle.EndsWithCycle};
-ghost use Rattle.mk_run.specs.{Headline.printed, Running.IsRunOf, Unswept.IsUnswept};
+ghost use Rattle.mk_heap.specs.Unswept.{IsUnswept};
+ghost use Rattle.mk_run.specs.{Headline.printed, Running.IsRunOf};
 
 use crate::marking::{Done, run_beside};
 use crate::outcomes::Outcome;

@@ -4,7 +4,7 @@ use Rattle.mk_check.specs.declared.text.Text.{Text}
 use Rattle.mk_outputs.{proofs.PrintedTexts.told_texts, proofs.PrintedTexts.told_why, specs.KeptText.kept_text}
 use Rattle.mk_outputs.specs.Commands.{is_sweep, markers_beside}
 use Rattle.mk_script.specs.declared.items.Item.{Item}
-use Rattle.mk_trace.specs.Below.Chains.declared.kept.Kept.{Kept}
+use Rattle.mk_run.specs.Below.Chains.declared.kept.Kept.{Kept}
 use Rattle.mk_outputs.proofs.running.told.Goals as goal
 
 pub returns-in-Some : goal.returns-in-Some
