@@ -1,0 +1,13 @@
+pub mod Vocabulary
+pub mod OwnCalls
+pub mod Replies
+pub mod Holds
+pub mod Meeting
+pub mod Stepping
+pub mod Leading
+pub mod Walking
+pub mod Clearing
+pub mod JobLists
+pub mod JoinedJobs
+pub mod JobRuns
+pub mod EndedRuns
