@@ -1,0 +1,6 @@
+pub mod Plans
+pub mod Typing
+pub mod Jobs
+pub mod Orders
+pub mod Laws
+pub mod Keeping
