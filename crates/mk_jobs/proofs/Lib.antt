@@ -1,0 +1,9 @@
+pub mod Vocabulary
+pub mod Holds
+pub mod Meeting
+pub mod Stepping
+pub mod Ways
+pub mod Losses
+pub mod Owners
+pub mod Passed
+pub mod Granted
