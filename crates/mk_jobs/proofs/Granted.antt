@@ -5,7 +5,7 @@ use Rattle.mk_jobs.proofs.Vocabulary.{gives, hold_of, if◌then◌else◌, inl, 
 use Rattle.mk_jobs.proofs.Vocabulary.{is_private, ne_eqb, refl, sym, true, with_hold, ℕ, ◌<◌, ◌==◌, ◌∙◌, ◌≡◌, ◌≢◌}
 use Rattle.mk_jobs.proofs.Holds.{all_so, hold_other, hold_set}
 use Rattle.mk_jobs.proofs.Owners.{Finds, IsOwner, RoleMoves, frees, grants, own_owed, own_private, own_role}
-use Rattle.mk_jobs.proofs.Owners.{own_unborn, private_taken, unmoved}
+use Rattle.mk_jobs.proofs.Owners.{own_unborn, passes_on, private_taken, unmoved}
 
 gives_private : (h g : Hold) → gives h g ≡ true → is_private g ≡ is_private h
 gives_private x0 x1 e = grind arith
@@ -43,11 +43,11 @@ else_own other r ne own = own_flags _ _ (other.private r ne) (other.owed r ne) o
 granted_role : (b : Bool) (k : ℕ) (r : Role) → (b ≡ true → r ≡ Unborn)
     → RoleMoves k r (if b then Private k else r)
 granted_role true k r unborn = grants (unborn refl) refl
-granted_role false k r unborn = unmoved refl
+granted_role false k r unborn = passes_on (unmoved refl)
 
 freed_role : (b : Bool) (k : ℕ) (r : Role) → (b ≡ true → IsOf k r) → RoleMoves k r (if b then Gone else r)
 freed_role true k r own = frees (own refl) refl
-freed_role false k r own = unmoved refl
+freed_role false k r own = passes_on (unmoved refl)
 
 chosen_false : (b : Bool) (x r : Role) → (b ≡ true → ⊥) → (if b then x else r) ≡ r
 chosen_false true x r isnt = absurd (isnt refl)

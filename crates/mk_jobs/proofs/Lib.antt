@@ -7,3 +7,6 @@ pub mod Losses
 pub mod Owners
 pub mod Passed
 pub mod Granted
+pub mod Asked
+pub mod Allocations
+pub mod Left

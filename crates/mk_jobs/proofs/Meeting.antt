@@ -1,5 +1,5 @@
 -- An access through a register that holds a pointer meets a word of its kind.
-use Rattle.mk_jobs.proofs.Vocabulary.{Anything, Bool, Has, Hold, IsCaller, IsOfKind, IsSound, IsTyped, Kind, List}
+use Rattle.mk_jobs.proofs.Vocabulary.{Anything, Bool, Has, HasTypes, Hold, IsCaller, IsOfKind, IsSound, Kind, List}
 use Rattle.mk_jobs.proofs.Vocabulary.{MayPoint, Meets, NeverState, None, Null, Num, Number, Option, Owes, Owns}
 use Rattle.mk_jobs.proofs.Vocabulary.{Points, Ptr, Some, Suits, To, Unmapped, Value, WordOf, [], allocation_at, ap}
 use Rattle.mk_jobs.proofs.Vocabulary.{arith, eqb-true, false, false≢true, global_type, if◌then◌else◌, is_number_there}

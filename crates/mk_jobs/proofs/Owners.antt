@@ -81,12 +81,16 @@ idle_owner {hs = hs} gs idle still owner = record {
 pub nothing_idle : IsIdle []
 nothing_idle = record { none = λ r. refl }
 
--- How one operation of caller k may change a role
+-- How an operation of caller k that creates and frees nothing may change a role,
+pub data RolePasses (k : ℕ) (r r' : Role) : Type 0 where
+  unmoved : r' ≡ r → RolePasses k r r'
+  publishes : r ≡ Private k → r' ≡ Public → RolePasses k r r'
+  takes_out : r ≡ Public → r' ≡ Taken k → RolePasses k r r'
+
+-- and how any may
 pub data RoleMoves (k : ℕ) (r r' : Role) : Type 0 where
-  unmoved : r' ≡ r → RoleMoves k r r'
+  passes_on : RolePasses k r r' → RoleMoves k r r'
   grants : r ≡ Unborn → r' ≡ Private k → RoleMoves k r r'
-  publishes : r ≡ Private k → r' ≡ Public → RoleMoves k r r'
-  takes_out : r ≡ Public → r' ≡ Taken k → RoleMoves k r r'
   frees : IsOf k r → r' ≡ Gone → RoleMoves k r r'
 
 -- What it leaves to another caller
@@ -103,18 +107,18 @@ of_one j k Public one other = absurd one
 of_one j k Gone one other = absurd one
 
 pub leaves_role : {j k : ℕ} (r r' : Role) → j ≢ k → RoleMoves k r r' → LeavesRole j r r'
-leaves_role r r' ne (unmoved is) = record { own = λ o. is; before = λ o. is; shown = λ s. rw is s }
+leaves_role r r' ne (passes_on (unmoved is)) = record { own = λ o. is; before = λ o. is; shown = λ s. rw is s }
 leaves_role r r' ne (grants was is) = record {
   own = λ o. absurd (rw was at o);
   before = λ o. absurd (ne (sym (rw is at o)));
   shown = λ s. absurd (rw was at s);
 }
-leaves_role r r' ne (publishes was is) = record {
+leaves_role r r' ne (passes_on (publishes was is)) = record {
   own = λ o. absurd (ne (sym (rw was at o)));
   before = λ o. absurd (rw is at o);
   shown = λ s. rw is tt;
 }
-leaves_role r r' ne (takes_out was is) = record {
+leaves_role r r' ne (passes_on (takes_out was is)) = record {
   own = λ o. absurd (rw was at o);
   before = λ o. absurd (ne (sym (rw is at o)));
   shown = λ s. rw is tt;

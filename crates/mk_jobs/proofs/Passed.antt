@@ -6,7 +6,7 @@ use Rattle.mk_jobs.proofs.Vocabulary.{is_pointer_to, is_private, leads, refl, sh
 use Rattle.mk_jobs.proofs.Vocabulary.{◌⊎◌}
 use Rattle.mk_jobs.proofs.Ways.{Goes, Takes}
 use Rattle.mk_jobs.proofs.Losses.{Loses, loses}
-use Rattle.mk_jobs.proofs.Owners.{Finds, IsOwner, RoleMoves, own_is, own_owed, own_private, own_public, own_role}
+use Rattle.mk_jobs.proofs.Owners.{Finds, IsOwner, RolePasses, own_is, own_owed, own_private, own_public, own_role}
 use Rattle.mk_jobs.proofs.Owners.{private_not_owed, private_public, private_taken, publishes, taken_public, takes_out}
 use Rattle.mk_jobs.proofs.Owners.{unmoved}
 
@@ -44,7 +44,7 @@ taken_either false false k r published (inl e) = absurd (false≢true e)
 taken_either false false k r published (inr is) = is
 
 role_passes : (p t : Bool) (k : ℕ) (r : Role) → (p ≡ true → r ≡ Private k) → (t ≡ true → r ≡ Public)
-    → RoleMoves k r (passed_role p t k r)
+    → RolePasses k r (passed_role p t k r)
 role_passes true t k r private public = publishes (private refl) refl
 role_passes false true k r private public = takes_out (public refl) refl
 role_passes false false k r private public = unmoved refl
@@ -113,7 +113,7 @@ module _ {role : ℕ → Role} {k : ℕ} {v v' : ℕ → Value} {hs gs : List Ho
     abbrev now : ℕ → Role
     now a = passed_role (P a) (T a) k (role a)
 
-    pub passes_roles : (a : ℕ) → RoleMoves k (role a) (now a)
+    pub passes_roles : (a : ℕ) → RolePasses k (role a) (now a)
     passes_roles a = role_passes (P a) (T a) k (role a) (λ e. published_was a (loses a e)) (λ e. got_was a (gets a e))
 
     private_now : (r a : ℕ) → is_private (hold_of gs r) ≡ true → is_pointer_to a (v' r) ≡ true → now a ≡ Private k

@@ -1,6 +1,6 @@
 -- The words that the proofs of this crate share: they import them from here.
 pub use Rattle.std.proofs.Common.{Bool, IfSome, List, [], ap, append-nil, append_assoc, arith, drop, false, get_or, inl, inr}
-pub use Rattle.std.proofs.Common.{length, length-set, map, refl, subst, suc, sym, take, true, zero, ℕ, ◌%◌, ◌*◌, ◌++◌}
+pub use Rattle.std.proofs.Common.{length, length-append, length-set, map, refl, subst, suc, sym, take, true, zero, ℕ, ◌%◌, ◌*◌, ◌++◌}
 pub use Rattle.std.{proofs.Common.{◌+◌, ◌-◌, ◌/◌, ◌<◌, ◌^◌, ◌↔◌, ◌∙◌, ◌∷◌, ◌≡◌, ◌≢◌, ◌≤◌, ◌⊎◌}}
 pub use Rattle.std.proofs.lemmas.Bool.{and_from, and_parts, cases_Bool, cases_eq, cases_lt, eq-eqb, eqb-false, eqb-true}
 pub use Rattle.std.proofs.lemmas.Bool.{false_from_ne_true, false≢true, lt-ltb, ltb-true, ne_eqb, not-true, or_cases}
@@ -12,6 +12,7 @@ pub use Rattle.mk_never.specs.Admitted.{AccessIsAdmitted, IsAdmitted, IsBase, Is
 pub use Rattle.mk_never.specs.{Admitted.{Meets, OperandsAreInRange, StoreIsAdmitted}, Laws.{Continues, StoresTo}}
 pub use Rattle.mk_never.specs.NeverHeap.{Allocation, Call, NeverState, after_calls, after_free, after_op, allocation_at}
 pub use Rattle.mk_never.specs.NeverHeap.{bit, global_at, is_same, is_unmapped, left_at, no_allocation, register_at}
+pub use Rattle.mk_never.specs.NeverHeap.{free_reply, lea_reply, reply_at}
 pub use Rattle.mk_never.specs.NeverHeap.{replies_of, reply_of, start_of, target_of, with_freed, with_global, with_new}
 pub use Rattle.mk_never.specs.NeverHeap.{with_register, with_word, word_at, words_of}
 pub use Rattle.mk_never.specs.{Typed.{IsSound, IsTyped as HasTypes, Suits}, Types.kinds_of}
