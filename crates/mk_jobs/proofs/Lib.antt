@@ -10,3 +10,4 @@ pub mod Granted
 pub mod Asked
 pub mod Allocations
 pub mod Left
+pub mod Waiting

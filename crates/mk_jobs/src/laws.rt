@@ -1,5 +1,5 @@
 //! What is proved of every object.
 
 /// To have the lemmas checked.
-#[tactic(auto, using(crate::proofs::Left::leaves))]
+#[tactic(auto, using(crate::proofs::Waiting::waits))]
 pub fn explained_by_keeping() {}
