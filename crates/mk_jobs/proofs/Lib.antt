@@ -11,3 +11,8 @@ pub mod Asked
 pub mod Allocations
 pub mod Left
 pub mod Waiting
+pub mod Puts
+pub mod Owing
+pub mod Interleaving
+pub mod Running
+pub mod Beginning

@@ -1,5 +1,5 @@
 //! What is proved of every object.
 
 /// To have the lemmas checked.
-#[tactic(auto, using(crate::proofs::Waiting::waits))]
+#[tactic(auto, using(crate::proofs::Running::goes_on))]
 pub fn explained_by_keeping() {}
