@@ -16,3 +16,5 @@ pub mod Owing
 pub mod Interleaving
 pub mod Running
 pub mod Beginning
+pub mod Runs
+pub mod Explained

@@ -38,7 +38,7 @@ module _ {Job Done Point State : Type 0} (p : Plan Job Done Point) (left_by : St
     pub frees : (a : ℕ) → bit (is_gone (end.role a)) ≡ bit (is_gone (w.role a)) + times_freed a w.n calls
     pub single : NoneIsDouble (replies_of w.n calls)
 
-  abbrev RunsOn : ℕ → List Call → Type 0
+  abbrev pub RunsOn : ℕ → List Call → Type 0
   RunsOn callers calls =
       (w : World) (x : State) (W : ℕ → Work p left_by) → Inv p left_by typed K callers w x W
       → ((k : ℕ) → IsWork p left_by typed K callers w.n calls k (W k)) → Ran w x W calls
