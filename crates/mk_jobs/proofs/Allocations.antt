@@ -10,9 +10,8 @@ use Rattle.mk_jobs.proofs.Vocabulary.{if◌then◌else◌, inl, inr, is_pointer_
 use Rattle.mk_jobs.proofs.Vocabulary.{length-append, length-set, ne_eqb, no_allocation, refl, register_at, reply_at}
 use Rattle.mk_jobs.proofs.Vocabulary.{reply_of, subst, sym, target_of, true, with_freed, with_new, with_register}
 use Rattle.mk_jobs.proofs.Vocabulary.{with_word, word_at, ℕ, ◌+◌, ◌==◌, ◌∙◌, ◌≡◌, ◌≢◌, ◌⊎◌}
-use Rattle.mk_jobs.proofs.Meeting.{sound}
 use Rattle.mk_jobs.proofs.Owners.{RolePasses, publishes, takes_out, unmoved}
-use Rattle.mk_jobs.proofs.Asked.{is_quiet}
+use Rattle.mk_jobs.proofs.Ways.{is_quiet}
 
 abbrev pub is_gone : Role → Bool
 is_gone Gone = true

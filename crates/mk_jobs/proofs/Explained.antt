@@ -2,29 +2,29 @@
 use Rattle.mk_never.proofs.TypedCalls.{start_is_typed}
 use Rattle.mk_jobs.proofs.Vocabulary.{AreDecidedOnce, Call, Gone, IsAlwaysExplained, IsExplained, IsInterleaved}
 use Rattle.mk_jobs.proofs.Vocabulary.{IsTyped, JobRun, Keeps, List, NeverState, None, Null, Option, Plan, Private}
-use Rattle.mk_jobs.proofs.Vocabulary.{Public, Replied, Role, Some, Taken, Unborn, World, [], after_calls, ap, arith}
-use Rattle.mk_jobs.proofs.Vocabulary.{bit, drop, false≢true, first_world, found, freed, jobs_of_first, leads, length}
+use Rattle.mk_jobs.proofs.Vocabulary.{Public, Replied, Role, Taken, Unborn, World, [], after_calls, ap, arith, bit}
+use Rattle.mk_jobs.proofs.Vocabulary.{drop, false≢true, first_world, found, freed, jobs_of_first, leads, length}
 use Rattle.mk_jobs.proofs.Vocabulary.{length-replicate, order_of, own_decisions, refl, start_of, subst, suc, sym}
 use Rattle.mk_jobs.proofs.Vocabulary.{take, taken, times_freed, zero, ℕ, ◌*◌, ◌<◌, ◌∙◌, ◌≡◌}
 use Rattle.mk_jobs.proofs.Owners.{frees}
 use Rattle.mk_jobs.proofs.Allocations.{is_gone}
 use Rattle.mk_jobs.proofs.Waiting.{Holding, Standing, born_below}
-use Rattle.mk_jobs.proofs.Owing.{Work, holds_at}
+use Rattle.mk_jobs.proofs.Owing.{Work, clears, does, holds_at}
 use Rattle.mk_jobs.proofs.Interleaving.{Inv, IsLocal, IsWork}
 use Rattle.mk_jobs.proofs.Running.{Ran}
-use Rattle.mk_jobs.proofs.Beginning.{runs}
-use Rattle.mk_jobs.proofs.Runs.{run_all}
+use Rattle.mk_jobs.proofs.AllCalls.{run_all}
 
 module _ {Job Done Point State : Type 0} (p : Plan Job Done Point) (left_by : State → Job → Done → Option State)
-    {first : State} {content : NeverState → List ℕ → State → Type 0} (typed : IsTyped p)
-    (K : Keeps p left_by first content) where
+    {first : State} {content : NeverState → List ℕ → State → Type 0} {Shared : World → State → Type 0}
+    {Local : World → ℕ → Point → Option Done → Type 0} {Rely : ℕ → World → World → Type 0} {job_at : Point → Option Job}
+    (typed : IsTyped p) (K : Keeps p left_by first content Shared Local Rely job_at) where
   -- The first caller makes the object; each other one begins with its first job.
   first_work : List Replied → Point → (ℕ → List (JobRun Job Done)) → ℕ → Work p left_by
   first_work founding found runs zero = record {
-    now = Some (record { point = p.founding; decided = None; rest = founding; goal = found; run = None });
+    now = does (record { point = p.founding; decided = None; rest = founding; goal = found; run = None });
     later = runs zero;
   }
-  first_work founding found runs (suc k) = record { now = None; later = runs (suc k) }
+  first_work founding found runs (suc k) = record { now = clears []; later = runs (suc k) }
 
   module _ {callers : ℕ} {founding : List Replied} {runs : ℕ → List (JobRun Job Done)} {calls : List Call}
       (h : IsInterleaved p (start_of p.types callers) callers founding runs calls) where
@@ -146,4 +146,4 @@ module _ {Job Done Point State : Type 0} (p : Plan Job Done Point) (left_by : St
 
   -- What a client keeps explains all interleavings of its jobs.
   pub explained : IsAlwaysExplained p first left_by content
-  explained callers founding runs calls h = explained_by h (all h)
+  explained callers founding done calls h = explained_by h (all h)

@@ -9,12 +9,12 @@ use Rattle.mk_jobs.proofs.Vocabulary.{is_pointer_to, is_private, leads, length, 
 use Rattle.mk_jobs.proofs.Vocabulary.{role_after, subst, sym, true, with_hold, ℕ, ◌*◌, ◌+◌, ◌<◌, ◌==◌, ◌∙◌, ◌≡◌, ◌≢◌}
 use Rattle.mk_jobs.proofs.Holds.{HoldsIn, lead_so, same_so, set_so, shares_so}
 use Rattle.mk_jobs.proofs.Stepping.{freed_has}
-use Rattle.mk_jobs.proofs.Ways.{Goes}
 use Rattle.mk_jobs.proofs.Losses.{loses, lost_so}
 use Rattle.mk_jobs.proofs.Owners.{IsOwner, RoleMoves, RolePasses, own_role, passes_on}
+use Rattle.mk_jobs.proofs.Passing.{Goes}
 use Rattle.mk_jobs.proofs.Passed.{passed_role, passes_owner, passes_roles}
 use Rattle.mk_jobs.proofs.Granted.{freed_owner, freed_roles, granted_owner, granted_roles, is_else}
-use Rattle.mk_jobs.proofs.Asked.{Way, creates, frees_own, is_quiet, passes}
+use Rattle.mk_jobs.proofs.Ways.{Way, creates, frees_own, is_quiet, passes}
 use Rattle.mk_jobs.proofs.Allocations.{fits_free, fits_new, fits_pass, gone_passes, is_gone, quiet_frees_none}
 use Rattle.mk_jobs.proofs.Allocations.{quiet_keeps, quiet_single}
 
@@ -34,7 +34,7 @@ pub record Left (w : World) (k : ℕ) (o : Op) (hs gs : List Hold) : Type 0 wher
   pub single : reply_of w.n k o ≡ Reply.Double → ⊥
 
 -- owners with the same roles
-same_owner : {role role' : ℕ → Role} {k : ℕ} {v : ℕ → Value} {hs : List Hold} → ((a : ℕ) → role' a ≡ role a)
+pub same_owner : {role role' : ℕ → Role} {k : ℕ} {v : ℕ → Value} {hs : List Hold} → ((a : ℕ) → role' a ≡ role a)
     → IsOwner role k v hs → IsOwner role' k v hs
 same_owner same owner = record {
   below = owner.below;

@@ -5,7 +5,7 @@ use Rattle.mk_jobs.proofs.Vocabulary.{Replied, Some, [], ap, drop, left_by_all, 
 use Rattle.mk_jobs.proofs.Vocabulary.{settles, sym, take, ℕ, ◌∙◌, ◌∷◌, ◌≡◌}
 
 module _ {Job Done Point State : Type 0} (p : Plan Job Done Point) (left_by : State → Job → Done → Option State) where
-  -- what a caller is at: its point, what its job was decided as, what it still does until its goal, and which job it is.
+  -- a job that a caller is at: its point, what it was decided as, what it still does until its goal, and which it is.
   -- What makes the object is no job.
   pub record Doing : Type 0 where
     pub point : Point
@@ -14,17 +14,22 @@ module _ {Job Done Point State : Type 0} (p : Plan Job Done Point) (left_by : St
     pub goal : Point
     pub run : Option (JobRun Job Done)
 
+  -- A caller sets registers to null, or has nothing left to do; or it is at a job.
+  pub data Now : Type 0 where
+    clears : List Replied → Now
+    does : Doing → Now
+
   pub record Work : Type 0 where
-    pub now : Option Doing
+    pub now : Now
     pub later : List (JobRun Job Done)
 
-  abbrev pub rest_of : Option Doing → List Replied
-  rest_of None = []
-  rest_of (Some d) = d.rest
+  abbrev pub rest_of : Now → List Replied
+  rest_of (clears xs) = xs
+  rest_of (does d) = d.rest
 
-  abbrev pub holds_at : Option Doing → List Hold
-  holds_at None = []
-  holds_at (Some d) = p.holds d.point
+  abbrev pub holds_at : Now → List Hold
+  holds_at (clears xs) = []
+  holds_at (does d) = p.holds d.point
 
   abbrev pub job_of : Option (JobRun Job Done) → Option Job
   job_of None = None
@@ -34,9 +39,9 @@ module _ {Job Done Point State : Type 0} (p : Plan Job Done Point) (left_by : St
   IsJob None = ⊥
   IsJob (Some r) = Unit {0}
 
-  abbrev pub IsAtJob : Option Doing → Type 0
-  IsAtJob None = ⊥
-  IsAtJob (Some d) = IsJob d.run
+  abbrev pub IsAtJob : Now → Type 0
+  IsAtJob (clears xs) = ⊥
+  IsAtJob (does d) = IsJob d.run
 
   abbrev pub IsGoal : Option (JobRun Job Done) → Point → Type 0
   IsGoal None g = p.step g ≡ step.End
@@ -51,18 +56,18 @@ module _ {Job Done Point State : Type 0} (p : Plan Job Done Point) (left_by : St
   owed_by k (Some r) None = entry k r ∷ []
   owed_by k (Some r) (Some y) = []
 
-  abbrev pub owed_now : ℕ → Option Doing → List (Ordered Job Done)
-  owed_now k None = []
-  owed_now k (Some d) = owed_by k d.run d.decided
+  abbrev pub owed_now : ℕ → Now → List (Ordered Job Done)
+  owed_now k (clears xs) = []
+  owed_now k (does d) = owed_by k d.run d.decided
 
   -- What was decided is what the job ends with.
   abbrev pub Agrees : Option (JobRun Job Done) → Option Done → Type 0
   Agrees (Some r) (Some y) = y ≡ r.done
   Agrees r u = Unit {0}
 
-  abbrev pub AgreesNow : Option Doing → Type 0
-  AgreesNow None = Unit {0}
-  AgreesNow (Some d) = Agrees d.run d.decided
+  abbrev pub AgreesNow : Now → Type 0
+  AgreesNow (clears xs) = Unit {0}
+  AgreesNow (does d) = Agrees d.run d.decided
 
   pub record IsOnce (k : ℕ) (w : Work) (ds : List (Option (Ordered Job Done))) : Type 0 where
     pub agrees : AgreesNow w.now

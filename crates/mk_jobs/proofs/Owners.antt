@@ -65,9 +65,9 @@ own_public k r own is = rw is at own
 pub record IsIdle (hs : List Hold) : Type 0 where
   pub none : (r : ℕ) → is_own (hold_of hs r) ≡ false
 
-pub idle_owner : {role : ℕ → Role} {k : ℕ} {v : ℕ → Value} {hs : List Hold} (gs : List Hold) → IsIdle hs → IsIdle gs
-    → IsOwner role k v hs → IsOwner role k v gs
-idle_owner {hs = hs} gs idle still owner = record {
+pub idle_owner : {role : ℕ → Role} {k : ℕ} {v : ℕ → Value} (v' : ℕ → Value) {hs : List Hold} (gs : List Hold)
+    → IsIdle hs → IsIdle gs → IsOwner role k v hs → IsOwner role k v' gs
+idle_owner v' {hs} gs idle still owner = record {
   below = λ r own. absurd (false≢true (sym (still.none r) ∙ own));
   privates = λ r a private points. absurd (false≢true (sym (still.none r) ∙ own_private (hold_of gs r) private));
   owed = λ r a owed points. absurd (false≢true (sym (still.none r) ∙ own_owed (hold_of gs r) owed));

@@ -4,11 +4,11 @@ use Rattle.mk_jobs.proofs.Vocabulary.{Bool, Hold, List, Private, Public, Role, T
 use Rattle.mk_jobs.proofs.Vocabulary.{false, false≢true, hold_of, if◌then◌else◌, inl, inr, is_owed, is_own}
 use Rattle.mk_jobs.proofs.Vocabulary.{is_pointer_to, is_private, leads, refl, shares, sym, true, ℕ, ◌<◌, ◌∙◌, ◌≡◌}
 use Rattle.mk_jobs.proofs.Vocabulary.{◌⊎◌}
-use Rattle.mk_jobs.proofs.Ways.{Goes, Takes}
 use Rattle.mk_jobs.proofs.Losses.{Loses, loses}
 use Rattle.mk_jobs.proofs.Owners.{Finds, IsOwner, RolePasses, own_is, own_owed, own_private, own_public, own_role}
 use Rattle.mk_jobs.proofs.Owners.{private_not_owed, private_public, private_taken, publishes, taken_public, takes_out}
 use Rattle.mk_jobs.proofs.Owners.{unmoved}
+use Rattle.mk_jobs.proofs.Passing.{Goes, Takes}
 
 -- the role, by whether it is published, or taken
 abbrev pub passed_role : Bool → Bool → ℕ → Role → Role

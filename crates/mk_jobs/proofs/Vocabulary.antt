@@ -33,4 +33,4 @@ pub use Rattle.mk_jobs.specs.{Plans.{Anything, Hold, MayPoint, Owes, Owns, Plan,
 pub use Rattle.mk_jobs.specs.Typing.{IsTyped, IsTypedStep, all_give, found, freed, gives, global_type, hold_of, is_freed}
 pub use Rattle.mk_jobs.specs.Typing.{is_number_there, is_own, is_there, kind_of, kind_there, leads, leads_shared, loaded}
 pub use Rattle.mk_jobs.specs.Typing.{may_go, may_set, shares, taken, there, type_there, with_hold}
-pub use Rattle.mk_jobs.specs.Going.{op_of}
+pub use Rattle.mk_jobs.specs.{Advancing.{AreClears, op_of}, Jobs.IsClear, Keeping.Covers}

@@ -41,9 +41,11 @@ pub record Waits (k : ℕ) (w w' : World) : Type 0 where
 pub record Covers (w w' : World) : Type 0 where
   pub globals : (g : ℕ) → global_at w'.n g ≡ global_at w.n g
   pub words : (a : ℕ) → IsShown (w.role a) → words_of w'.n a ≡ words_of w.n a
+  pub types : (a : ℕ) → IsShown (w.role a) → (allocation_at w'.n a).ty ≡ (allocation_at w.n a).ty
   pub public : (a : ℕ) → w'.role a ≡ Public → w.role a ≡ Public
   pub still : (a : ℕ) → w.role a ≡ Public → w'.role a ≡ Public
   pub shown : (a : ℕ) → IsShown (w'.role a) → IsShown (w.role a)
+  pub stays : (a : ℕ) → IsShown (w.role a) → IsShown (w'.role a)
 
 abbrev pub is_private : Hold → Bool
 is_private (Owns t) = true
@@ -124,11 +126,9 @@ module _ {Job Done Point State : Type 0} (p : Plan Job Done Point) (left_by : St
 
   -- What a client states and shows: what holds of the object, what holds of a caller at a point of its job, decided so
   -- or not yet, and what the callers may rely on of each other.
-  pub record Keeps (first : State) (content : NeverState → List ℕ → State → Type 0) : Type 1 where
-    pub Shared : World → State → Type 0
-    pub Local : World → ℕ → Point → Option Done → Type 0
-    pub Rely : ℕ → World → World → Type 0  -- what an operation of this caller leaves to the others
-    pub job_at : Point → Option Job
+  pub record Keeps (first : State) (content : NeverState → List ℕ → State → Type 0) (Shared : World → State → Type 0)
+      (Local : World → ℕ → Point → Option Done → Type 0) (Rely : ℕ → World → World → Type 0)
+      (job_at : Point → Option Job) : Type 0 where
     pub founding : (callers : ℕ) → Shared (first_world callers) first × Local (first_world callers) 0 p.founding None
         × (job_at p.founding ≡ None)
     pub begins : (w : World) (k : ℕ) (j : Job) → Local w k (p.starting j) None × (job_at (p.starting j) ≡ Some j)

@@ -4,4 +4,4 @@ pub mod Jobs
 pub mod Orders
 pub mod Laws
 pub mod Keeping
-pub mod Going
+pub mod Advancing

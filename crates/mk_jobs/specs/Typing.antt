@@ -1,5 +1,6 @@
 -- Whether the registers hold at each point what its operation asks, and hold afterwards what the next point says.
-use Rattle.std.specs.Prelude.{◌≡◌, ℕ, ◌==◌, nat_lt, Bool, true, false, ◌&&◌, ◌||◌, not, List, [], ◌∷◌, length, slice_index_or}
+use Rattle.std.specs.Prelude.{◌≡◌, ℕ, ◌==◌, nat_lt, Bool, true, false, ◌&&◌, not, List, [], ◌∷◌, length}
+use Rattle.std.specs.Prelude.{slice_index_or}
 use Rattle.std.specs.Prelude.{if◌then◌else◌, Option, Some, None, IsTrue, suc, zero}
 use Rattle.mk_never.specs.{declared.types.Kind.Kind, declared.types.Kind.TheVariants.{Num as Number, To}, Types.kinds_of}
 use Rattle.mk_jobs.specs.{Plans.{Plan, Hold, Anything, MayPoint, Points, Owns, Owes}, declared.steps.Step.Step}

@@ -1,7 +1,7 @@
--- The operation of a step.
-use Rattle.std.specs.Prelude.{Option, Some, None, false}
+-- The operation of a step, and operations that set registers to null.
+use Rattle.std.specs.Prelude.{Option, Some, None, false, List, [], ◌∷◌}
 use Rattle.mk_never.specs.{declared.operations.Op.Op}
-use Rattle.mk_jobs.specs.declared.steps.Step.{Step}
+use Rattle.mk_jobs.specs.{declared.steps.Step.Step, Jobs.{IsClear, Replied}}
 use Rattle.mk_jobs.specs.declared.steps.Step.TheVariants as step
 use Rattle.mk_never.specs.declared.operations.Op.TheVariants as op
 
@@ -19,3 +19,7 @@ op_of (step.Clear d to) = Some (op.Clear d)
 op_of (step.Same p q so not_so) = Some (op.Same p q)
 op_of (step.IsNull p so not_so) = Some (op.IsNull p)
 op_of step.End = None
+
+abbrev pub AreClears : List Replied → Type 0
+AreClears [] = Unit {0}
+AreClears (x ∷ xs) = IsClear x.op × AreClears xs

@@ -1,7 +1,8 @@
 -- A function with another value in one place; and a caller's own operations and decisions, and those of others.
 use Rattle.mk_jobs.proofs.Vocabulary.{Bool, Call, List, NeverState, Op, Option, Ordered, Replied, [], after_op, ap}
-use Rattle.mk_jobs.proofs.Vocabulary.{arith, cond, eq-eqb, eqb-false, eqb-true, if◌then◌else◌, ne_eqb, own_decisions}
-use Rattle.mk_jobs.proofs.Vocabulary.{own_replied, refl, reply_of, sym, there, ℕ, ◌++◌, ◌==◌, ◌∷◌, ◌≡◌, ◌≢◌}
+use Rattle.mk_jobs.proofs.Vocabulary.{arith, cases_eq, cond, eq-eqb, eqb-false, eqb-true, if◌then◌else◌, inl, inr}
+use Rattle.mk_jobs.proofs.Vocabulary.{ne_eqb, own_decisions, own_replied, refl, reply_of, subst, sym, there, ℕ, ◌++◌}
+use Rattle.mk_jobs.proofs.Vocabulary.{◌==◌, ◌∷◌, ◌≡◌, ◌≢◌}
 
 -- a function with another value in one place
 abbrev pub put : {A : Type 0} → (ℕ → A) → ℕ → A → ℕ → A
@@ -17,6 +18,14 @@ put_other f a x b other = ap (λ (t : Bool). cond t x (f b)) (ne_eqb b a other)
 pub put_by : {A : Type 0} (P : ℕ → A → Type 0) (f : ℕ → A) (a : ℕ) (x : A) → P a x → ((b : ℕ) → b ≢ a → P b (f b))
     → (b : ℕ) → P b (put f a x b)
 put_by x0 f a x here there b = grind (arith, eqb-true, eqb-false)
+
+-- What holds of the old value if it holds of the new one holds of all.
+pub put_back : {A : Type 0} (P Q : ℕ → A → Type 0) (f : ℕ → A) (a : ℕ) (x : A) → (P a x → Q a (f a))
+    → ((b : ℕ) → b ≢ a → P b (f b) → Q b (f b)) → ((b : ℕ) → P b (put f a x b)) → (b : ℕ) → Q b (f b)
+put_back P Q f a x here there all b = elim (cases_eq b a) [
+  | inl e ↦ subst (λ (c : ℕ). Q c (f c)) (sym e) (here (subst (P a) (put_same f a x) (all a)))
+  | inr ne ↦ there b ne (subst (P b) (put_other f a x b ne) (all b))
+]
 
 pub mine : (c : ℕ) (o : Op) (n : NeverState) (xs : List Call) → own_replied c n (record { caller = c; op = o } ∷ xs)
     ≡ record { op = o; reply = reply_of n c o } ∷ own_replied c (after_op n c o) xs
@@ -41,3 +50,9 @@ pub nothing_left : (xs ys : List Replied) → [] ≡ xs ++ ys → (xs ≡ []) ×
 nothing_left [] [] e = (refl, refl)
 nothing_left [] (y ∷ ys) e = absurd (cc)
 nothing_left (x ∷ xs) ys e = let same : [] ≡ x ∷ (xs ++ ys) = e in absurd (cc)
+
+pub cons_tail : (a b : Replied) (xs ys : List Replied) → a ∷ xs ≡ b ∷ ys → xs ≡ ys
+cons_tail a b xs ys e = cc
+
+pub cons_head : (a b : Replied) (xs ys : List Replied) → a ∷ xs ≡ b ∷ ys → a ≡ b
+cons_head a b xs ys e = cc

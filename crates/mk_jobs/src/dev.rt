@@ -1,0 +1,2 @@
+#[tactic(auto, using(crate::proofs::Explained::explained))]
+pub fn lemmas() {}
