@@ -146,9 +146,9 @@ module _ {Job Done Point State : Type 0} (p : Plan Job Done Point) (left_by : St
     -- One that has nothing left to do begins its next job.
     pub begins_at : (r : JobRun Job Done) (rs : List (JobRun Job Done)) → (W c).now ≡ clears [] → (W c).later ≡ r ∷ rs
         → c < callers → (run : IsJobRun p r) → AreJobRuns p rs → Renews callers w W calls c (record {
-      now = does (record { point = p.starting r.job; decided = None; rest = r.all; goal = run.0; run = Some r });
-      later = rs;
-    })
+          now = does (record { point = p.starting r.job; decided = None; rest = r.all; goal = run.0; run = Some r });
+          later = rs;
+        })
     begins_at r rs is later_is lt run runs =
         let holding = subst (λ (e : Now p left_by). Holding w c (holds_at p left_by e)) is (inv.holding c) in
         record {

@@ -93,8 +93,12 @@ module _ {Job Done Point State : Type 0} (p : Plan Job Done Point) (left_by : St
         explained = explained_more p left_by stepped.decision x stepped.state ran.left ran.decisions stepped.left
             ran.explained;
         once = once_each;
-        frees = λ a. omega (arith, ran.frees a, stepped.frees a,
-            ap (λ (m : NeverState). times_freed a m xs) stepped.after_it);
+        frees = λ a. omega (
+          arith,
+          ran.frees a,
+          stepped.frees a,
+          ap (λ (m : NeverState). times_freed a m xs) stepped.after_it,
+        );
         single = (
           stepped.single,
           subst (λ (m : NeverState). NoneIsDouble (replies_of m xs)) stepped.after_it ran.single,

@@ -1,7 +1,6 @@
 //! Jobs that callers do on a heap: what a client states, and what is proved of it once.
 #![tactic(auto)]
 
-pub mod dev;
 pub mod laws;
 mod steps;
 

@@ -1,2 +1,0 @@
-#[tactic(auto, using(crate::proofs::Explained::explained))]
-pub fn lemmas() {}
