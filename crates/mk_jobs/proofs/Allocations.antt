@@ -25,7 +25,8 @@ pub record KeepsFreed (n m : NeverState) : Type 0 where
 word_keeps : (n : NeverState) (b i : ℕ) (v : Value) → KeepsFreed n (with_word n b i v)
 word_keeps n b i v = record {
   count = length-set _ _ _;
-  freed = λ a. set_by (λ x. x.freed ≡ (allocation_at n a).freed) n.allocations b a _ no_allocation (λ e. rw e refl) refl;
+  freed = λ a. set_by (λ x. x.freed ≡ (allocation_at n a).freed) n.allocations b a _ no_allocation (λ e. rw e refl)
+      refl;
 }
 
 all_keep : (n : NeverState) → KeepsFreed n n
@@ -72,9 +73,12 @@ quiet_single n k (op.New d ty true) e double = cc
 quiet_single n k (op.New d ty false) e double = cc
 quiet_single n k (op.Free r) e double = false≢true e
 quiet_single n k (op.GetNum q i) e double = access_single (target_of n (register_at n k q) i) _ (λ a j f. (cc f)) double
-quiet_single n k (op.SetNum q i m) e double = access_single (target_of n (register_at n k q) i) _ (λ a j f. (cc f)) double
-quiet_single n k (op.GetPtr d q i) e double = access_single (target_of n (register_at n k q) i) _ (λ a j f. (cc f)) double
-quiet_single n k (op.SetPtr q i r) e double = access_single (target_of n (register_at n k q) i) _ (λ a j f. (cc f)) double
+quiet_single n k (op.SetNum q i m) e double =
+    access_single (target_of n (register_at n k q) i) _ (λ a j f. (cc f)) double
+quiet_single n k (op.GetPtr d q i) e double =
+    access_single (target_of n (register_at n k q) i) _ (λ a j f. (cc f)) double
+quiet_single n k (op.SetPtr q i r) e double =
+    access_single (target_of n (register_at n k q) i) _ (λ a j f. (cc f)) double
 quiet_single n k (op.CasPtr q i x r) e double =
     access_single (target_of n (register_at n k q) i) _ (λ a j f. (cc f)) double
 quiet_single n k (op.Lea d q i) e double = by (register_at n k q) double
@@ -160,7 +164,8 @@ fits_free n (Ptr b ty offset) a r is_sound fits = by (cases_eq b a)
           unborn = λ ge. absurd (omega (arith, ge, count, e, is_sound.0));
           born = λ lt f. (cc f);
           freed = λ f. refl;
-          gone = λ f. rw (sym e) (ap (λ (x : Allocation). x.freed) (get_or-set_same n.allocations b _ no_allocation is_sound.0));
+          gone = λ f. rw (sym e) (ap (λ (x : Allocation). x.freed)
+              (get_or-set_same n.allocations b _ no_allocation is_sound.0));
         })
     by (inr ne) =
         let same : allocation_at (with_freed n b) a ≡ allocation_at n a =

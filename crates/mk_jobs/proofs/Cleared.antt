@@ -31,11 +31,11 @@ none_holding {k = k} owner w' same = record {
   owner = same_owner same (idle_owner (register_at w'.n k) [] nothing_idle nothing_idle owner);
 }
 
-module _ {Job Done Point State : Type 0} (p : Plan Job Done Point) (left_by : State → Job → Done → Option State)
+module _ {Job Done Point State : Type 0} {p : Plan Job Done Point} {left_by : State → Job → Done → Option State}
     {first : State} {content : NeverState → List ℕ → State → Type 0} {Shared : World → State → Type 0}
     {Local : World → ℕ → Point → Option Done → Type 0} {Rely : ℕ → World → World → Type 0} {job_at : Point → Option Job}
     (typed : IsTyped p) (K : Keeps p left_by first content Shared Local Rely job_at) where
-  module _ {callers : ℕ} {w : World} {x : State} {W : ℕ → Work p left_by} (inv : Inv p left_by typed K callers w x W)
+  module _ {callers : ℕ} {w : World} {x : State} {W : ℕ → Work p} (inv : Inv typed K callers w x W)
       (c : ℕ) (lt : c < callers) (d : ℕ) (below : d < 8) (y : Replied) (ys : List Replied)
       (now_is : (W c).now ≡ clears (y ∷ ys)) (are : AreClears ys) where
     abbrev o : Op
@@ -79,8 +79,8 @@ module _ {Job Done Point State : Type 0} (p : Plan Job Done Point) (left_by : St
           (registers_stay k other) holding.owner;
     }
 
-    others_local : (k : ℕ) → k ≢ c → k < callers → (e : Now p left_by) → Holding w k (holds_at p left_by e)
-        → IsLocal p left_by typed K w k e → IsLocal p left_by typed K w' k e
+    others_local : (k : ℕ) → k ≢ c → k < callers → (e : Now p) → Holding w k (holds_at e)
+        → IsLocal typed K w k e → IsLocal typed K w' k e
     others_local k other there (clears xs) holding local = tt
     others_local k other there (does e) holding local =
         K.waits callers c k e.point e.decided w w' (λ f. other (sym f))
@@ -92,17 +92,17 @@ module _ {Job Done Point State : Type 0} (p : Plan Job Done Point) (left_by : St
         }) both.1 local
 
     mine_holding : Holding w c []
-    mine_holding = subst (λ (e : Now p left_by). Holding w c (holds_at p left_by e)) now_is (inv.holding c)
+    mine_holding = subst (λ (e : Now p). Holding w c (holds_at e)) now_is (inv.holding c)
 
-    abbrev work : Work p left_by
+    abbrev work : Work p
     work = record { now = clears ys; later = (W c).later }
 
-    once_so : (ds : List (Option (Ordered Job Done))) → IsOnce p left_by c work ds
-        → IsOnce p left_by c (record { now = clears (y ∷ ys); later = (W c).later }) (None ∷ ds)
+    once_so : (ds : List (Option (Ordered Job Done))) → IsOnce c work ds
+        → IsOnce {p = p} c (record { now = clears (y ∷ ys); later = (W c).later }) (None ∷ ds)
     once_so ds once = record { agrees = tt; first = once.first; later = once.later }
 
     -- Its caller has one thing less to do.
-    pub clears_one : Stepped p left_by typed K callers w x W c o work
+    pub clears_one : Stepped typed K callers w x W c o work
     clears_one = record {
       world = w';
       after_it = refl;
@@ -110,15 +110,15 @@ module _ {Job Done Point State : Type 0} (p : Plan Job Done Point) (left_by : St
       decision = None;
       left = refl;
       doing = are;
-      once = λ ds once. subst (λ (e : Now p left_by). IsOnce p left_by c (record { now = e; later = (W c).later })
+      once = λ ds once. subst (λ (e : Now p). IsOnce {p = p} c (record { now = e; later = (W c).later })
           (None ∷ ds)) (sym now_is) (once_so ds once);
       inv = record {
         stands = stands;
         shared = both.0;
-        holding = put_by (λ (j : ℕ) (v : Work p left_by). Holding w' j (holds_at p left_by v.now)) W c work
+        holding = put_by (λ (j : ℕ) (v : Work p). Holding w' j (holds_at v.now)) W c work
             (none_holding mine_holding.owner w' (λ a. refl))
-            (λ j other. others_hold j other (holds_at p left_by (W j).now) (inv.holding j));
-        local = put_by (λ (j : ℕ) (v : Work p left_by). j < callers → IsLocal p left_by typed K w' j v.now) W c work
+            (λ j other. others_hold j other (holds_at (W j).now) (inv.holding j));
+        local = put_by (λ (j : ℕ) (v : Work p). j < callers → IsLocal typed K w' j v.now) W c work
             (λ there. tt) (λ j other there. others_local j other there (W j).now (inv.holding j) (inv.local j there));
       };
       frees = λ a. omega arith;

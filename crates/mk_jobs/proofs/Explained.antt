@@ -14,12 +14,12 @@ use Rattle.mk_jobs.proofs.Interleaving.{Inv, IsLocal, IsWork}
 use Rattle.mk_jobs.proofs.Running.{Ran}
 use Rattle.mk_jobs.proofs.AllCalls.{run_all}
 
-module _ {Job Done Point State : Type 0} (p : Plan Job Done Point) (left_by : State → Job → Done → Option State)
+module _ {Job Done Point State : Type 0} {p : Plan Job Done Point} {left_by : State → Job → Done → Option State}
     {first : State} {content : NeverState → List ℕ → State → Type 0} {Shared : World → State → Type 0}
     {Local : World → ℕ → Point → Option Done → Type 0} {Rely : ℕ → World → World → Type 0} {job_at : Point → Option Job}
     (typed : IsTyped p) (K : Keeps p left_by first content Shared Local Rely job_at) where
   -- The first caller makes the object; each other one begins with its first job.
-  first_work : List Replied → Point → (ℕ → List (JobRun Job Done)) → ℕ → Work p left_by
+  first_work : List Replied → Point → (ℕ → List (JobRun Job Done)) → ℕ → Work p
   first_work founding found runs zero = record {
     now = does (record { point = p.founding; decided = None; rest = founding; goal = found; run = None });
     later = runs zero;
@@ -37,7 +37,7 @@ module _ {Job Done Point State : Type 0} (p : Plan Job Done Point) (left_by : St
     abbrev w : World
     w = first_world p left_by callers
 
-    abbrev W : ℕ → Work p left_by
+    abbrev W : ℕ → Work p
     W = first_work founding h.found runs
 
     stands : Standing p callers w
@@ -68,21 +68,21 @@ module _ {Job Done Point State : Type 0} (p : Plan Job Done Point) (left_by : St
       };
     }
 
-    first_holding : (k : ℕ) → Holding w k (holds_at p left_by (W k).now)
+    first_holding : (k : ℕ) → Holding w k (holds_at (W k).now)
     unfolding first_work
     first_holding zero = subst (Holding w 0) (sym typed.founding) (none_held 0)
     first_holding (suc k) = none_held (suc k)
 
-    first_local : (k : ℕ) → k < callers → IsLocal p left_by typed K w k (W k).now
+    first_local : (k : ℕ) → k < callers → IsLocal typed K w k (W k).now
     unfolding first_work
     first_local zero lt = (K.founding callers).1
     first_local (suc k) lt = tt
 
-    first_inv : Inv p left_by typed K callers w first W
+    first_inv : Inv typed K callers w first W
     first_inv =
         record { stands = stands; shared = (K.founding callers).0; holding = first_holding; local = first_local }
 
-    first_works : (k : ℕ) → IsWork p left_by typed K callers n calls k (W k)
+    first_works : (k : ℕ) → IsWork typed K callers n calls k (W k)
     unfolding first_work
     first_works zero = record {
       own = h.own zero;
@@ -97,10 +97,10 @@ module _ {Job Done Point State : Type 0} (p : Plan Job Done Point) (left_by : St
       exists = λ at_job. absurd at_job;
     }
 
-    abbrev all : Ran p left_by typed K w first W calls
-    all = run_all p left_by typed K callers calls h.exist w first W first_inv first_works
+    abbrev all : Ran typed K w first W calls
+    all = run_all typed K callers calls h.exist w first W first_inv first_works
 
-    module _ (ran : Ran p left_by typed K w first W calls) where
+    module _ (ran : Ran typed K w first W calls) where
       once : (k : ℕ) → AreDecidedOnce k (runs k)
           (drop (length (jobs_of_first k founding)) (own_decisions k calls ran.decisions))
       unfolding first_work

@@ -181,7 +181,8 @@ module _ {role : ℕ → Role} {k : ℕ} {v v' : ℕ → Value} {hs gs : List Ho
           ∙ owner.privates r a (sym (other.private r (elsewhere r own)) ∙ private) (before r a own points);
       owed = λ r a owes points.
           let own = own_owed _ owes in
-          left_else r a own points ∙ owner.owed r a (sym (other.owed r (elsewhere r own)) ∙ owes) (before r a own points);
+          left_else r a own points
+          ∙ owner.owed r a (sym (other.owed r (elsewhere r own)) ∙ owes) (before r a own points);
       alone = λ r q a own own' points also. owner.alone r q a (was r own) (was q own') (before r a own points)
           (before q a own' also);
       has_private = λ a is.

@@ -68,8 +68,8 @@ counted_so n (Ptr b ty offset) k a r own fits = by (b == a) refl ((allocation_at
     by true e false g = omega (arith, ap bit (own_not_gone k r (own e)))
     by true e true g = absurd (own_is_not_gone k r (own e) (fits.freed (rw (eqb-true b a e) at g)))
 
-single_so : (n : NeverState) (v : Value) (k : ℕ) → ((a : ℕ) → is_pointer_to a v ≡ true → (allocation_at n a).freed ≡ false)
-    → free_reply n v ≡ Reply.Double → ⊥
+single_so : (n : NeverState) (v : Value) (k : ℕ)
+    → ((a : ℕ) → is_pointer_to a v ≡ true → (allocation_at n a).freed ≡ false) → free_reply n v ≡ Reply.Double → ⊥
 single_so n Null k held double = cc
 single_so n (Num m) k held double = cc
 single_so n (Ptr b ty offset) k held double = by ((allocation_at n b).freed) (held b (eq-eqb b b refl)) double
@@ -98,7 +98,8 @@ module _ (w : World) (k : ℕ) (hs gs : List Hold) (h : HoldsIn (register_at w.n
       let here : register_at m k d ≡ Ptr N ty 0 =
       get_or-set_same w.n.registers (8 * k + d) (Ptr N ty 0) Null (omega (arith, lt, room)) in
       let same : (r : ℕ) → r < 8 → r ≢ d → register_at m k r ≡ v r =
-      λ r below ne. get_or-set_other w.n.registers (8 * k + d) (8 * k + r) (Ptr N ty 0) Null (λ f. ne (omega (arith, f))) in
+      λ r below ne. get_or-set_other w.n.registers (8 * k + d) (8 * k + r) (Ptr N ty 0) Null
+      (λ f. ne (omega (arith, f))) in
       let unborn : w.role N ≡ Unborn = (fits N).unborn (omega arith) in
       let other = is_else hs gs d (Owns ty) e in
       record {
@@ -134,10 +135,12 @@ module _ (w : World) (k : ℕ) (hs gs : List Hold) (h : HoldsIn (register_at w.n
             (set_so v v hs r (freed (hold_of hs r)) (freed_has (hold_of hs r) (v r) (h r lt)) (λ x below ne. refl) h));
         fits = λ a. fits_free w.n (v r) a (w.role a) (sounds r) (fits a);
         frees = λ a. counted_so w.n (v r) k a (w.role a) (own_role owner r a own) (fits a);
-        single = single_so w.n (v r) k (λ a points. unfreed w.n k a (w.role a) (own_role owner r a own points) (fits a));
+        single = single_so w.n (v r) k
+            (λ a points. unfreed w.n k a (w.role a) (own_role owner r a own points) (fits a));
       }
 
-  left_by_pass : (o : Op) → is_quiet o ≡ true → Goes w.role v (register_at (after_op w.n k o) k) hs gs → Left w k o hs gs
+  left_by_pass : (o : Op) → is_quiet o ≡ true → Goes w.role v (register_at (after_op w.n k o) k) hs gs
+      → Left w k o hs gs
   left_by_pass o quiet goes =
       let P = λ (a : ℕ). is_held_no_more is_private w.n k a 0 hs gs in
       let T = λ (a : ℕ). is_held_no_more is_owed w.n k a 0 gs hs in

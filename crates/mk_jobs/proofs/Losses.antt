@@ -31,7 +31,10 @@ module _ (f : Hold → Bool) (n : NeverState) (k a : ℕ) where
   loses_from r [] gs e = absurd (false≢true e)
   loses_from r (h ∷ hs) gs e =
       elim (or_cases ((f h && not (f (hold_of gs r))) && is_pointer_to a (register_at n k r))
-      (is_held_no_more f n k a (r + 1) hs gs) e) [ inl here ↦ at here | inr there ↦ later (loses_from (r + 1) hs gs there) ]
+      (is_held_no_more f n k a (r + 1) hs gs) e) [
+        | inl here ↦ at here
+        | inr there ↦ later (loses_from (r + 1) hs gs there)
+      ]
     where
       at : ((f h && not (f (hold_of gs r))) && is_pointer_to a (register_at n k r)) ≡ true
           → LosesFrom f n k a r (h ∷ hs) gs

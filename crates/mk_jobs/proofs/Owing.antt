@@ -4,7 +4,7 @@ use Rattle.mk_jobs.proofs.Vocabulary.{AreDecidedOnce, Decides, Hold, JobRun, Lis
 use Rattle.mk_jobs.proofs.Vocabulary.{Replied, Some, [], ap, drop, left_by_all, length, nothing, order_of, refl}
 use Rattle.mk_jobs.proofs.Vocabulary.{settles, sym, take, ℕ, ◌∙◌, ◌∷◌, ◌≡◌}
 
-module _ {Job Done Point State : Type 0} (p : Plan Job Done Point) (left_by : State → Job → Done → Option State) where
+module _ {Job Done Point : Type 0} (p : Plan Job Done Point) where
   -- a job that a caller is at: its point, what it was decided as, what it still does until its goal, and which it is.
   -- What makes the object is no job.
   pub record Doing : Type 0 where
@@ -23,14 +23,15 @@ module _ {Job Done Point State : Type 0} (p : Plan Job Done Point) (left_by : St
     pub now : Now
     pub later : List (JobRun Job Done)
 
-  abbrev pub rest_of : Now → List Replied
-  rest_of (clears xs) = xs
-  rest_of (does d) = d.rest
+  -- where a job begins that ends there
+  abbrev pub first_of_job : JobRun Job Done → Point → Doing
+  first_of_job r t = record { point = p.starting r.job; decided = None; rest = r.all; goal = t; run = Some r }
 
-  abbrev pub holds_at : Now → List Hold
-  holds_at (clears xs) = []
-  holds_at (does d) = p.holds d.point
+  abbrev pub IsGoal : Option (JobRun Job Done) → Point → Type 0
+  IsGoal None g = p.step g ≡ step.End
+  IsGoal (Some r) g = p.ended g ≡ Some r.done
 
+module _ {Job Done : Type 0} where
   abbrev pub job_of : Option (JobRun Job Done) → Option Job
   job_of None = None
   job_of (Some r) = Some r.job
@@ -39,41 +40,47 @@ module _ {Job Done Point State : Type 0} (p : Plan Job Done Point) (left_by : St
   IsJob None = ⊥
   IsJob (Some r) = Unit {0}
 
-  abbrev pub IsAtJob : Now → Type 0
-  IsAtJob (clears xs) = ⊥
-  IsAtJob (does d) = IsJob d.run
-
-  abbrev pub IsGoal : Option (JobRun Job Done) → Point → Type 0
-  IsGoal None g = p.step g ≡ step.End
-  IsGoal (Some r) g = p.ended g ≡ Some r.done
-
-  -- what its present job is still to be decided as
-  abbrev pub entry : ℕ → JobRun Job Done → Ordered Job Done
-  entry k r = record { caller = k; job = r.job; done = r.done }
-
+  -- what a job is still to be decided as
   abbrev pub owed_by : ℕ → Option (JobRun Job Done) → Option Done → List (Ordered Job Done)
   owed_by k None u = []
-  owed_by k (Some r) None = entry k r ∷ []
+  owed_by k (Some r) None = record { caller = k; job = r.job; done = r.done } ∷ []
   owed_by k (Some r) (Some y) = []
-
-  abbrev pub owed_now : ℕ → Now → List (Ordered Job Done)
-  owed_now k (clears xs) = []
-  owed_now k (does d) = owed_by k d.run d.decided
 
   -- What was decided is what the job ends with.
   abbrev pub Agrees : Option (JobRun Job Done) → Option Done → Type 0
   Agrees (Some r) (Some y) = y ≡ r.done
   Agrees r u = Unit {0}
 
-  abbrev pub AgreesNow : Now → Type 0
+module _ {Job Done Point : Type 0} {p : Plan Job Done Point} where
+  abbrev pub rest_of : Now p → List Replied
+  rest_of (clears xs) = xs
+  rest_of (does d) = d.rest
+
+  abbrev pub holds_at : Now p → List Hold
+  holds_at (clears xs) = []
+  holds_at (does d) = p.holds d.point
+
+  abbrev pub IsAtJob : Now p → Type 0
+  IsAtJob (clears xs) = ⊥
+  IsAtJob (does d) = IsJob d.run
+
+  abbrev pub owed_now : ℕ → Now p → List (Ordered Job Done)
+  owed_now k (clears xs) = []
+  owed_now k (does d) = owed_by k d.run d.decided
+
+  abbrev pub AgreesNow : Now p → Type 0
   AgreesNow (clears xs) = Unit {0}
   AgreesNow (does d) = Agrees d.run d.decided
 
-  pub record IsOnce (k : ℕ) (w : Work) (ds : List (Option (Ordered Job Done))) : Type 0 where
+  pub record IsOnce (k : ℕ) (w : Work p) (ds : List (Option (Ordered Job Done))) : Type 0 where
     pub agrees : AgreesNow w.now
     pub first : order_of (take (length (rest_of w.now)) ds) ≡ owed_now k w.now
     pub later : AreDecidedOnce k w.later (drop (length (rest_of w.now)) ds)
 
+none_job : {Job : Type 0} (j : Job) → None ≡ Some j → ⊥
+none_job j e = cc
+
+module _ {Job Done State : Type 0} (left_by : State → Job → Done → Option State) where
   -- what a decision leaves
   abbrev pub IsLeft : Option (Ordered Job Done) → State → State → Type 0
   IsLeft None x y = x ≡ y
@@ -96,12 +103,10 @@ module _ {Job Done Point State : Type 0} (p : Plan Job Done Point) (left_by : St
     pub first : (ds : List (Option (Ordered Job Done))) → Agrees run u' → order_of ds ≡ owed_by c run u'
         → order_of (decision ∷ ds) ≡ owed_by c run u
 
-  none_job : (j : Job) → None ≡ Some j → ⊥
-  none_job j e = cc
-
+module _ {Job Done Point State : Type 0} {p : Plan Job Done Point} {left_by : State → Job → Done → Option State} where
   pub decided_so : (c : ℕ) (run : Option (JobRun Job Done)) (job : Option Job) (u : Option Done) (x : State)
       (u' : Option Done) (y : State) → (u ≡ None → job ≡ job_of run) → Decides p left_by job u x u' y
-      → IsDecided c run u x u' y
+      → IsDecided left_by c run u x u' y
   decided_so c run job u x u' y same nothing =
       record { decision = None; left = refl; agrees = λ a. a; first = λ ds a e. e }
   decided_so c None job None x (Some d) y same (settles {j} is left) = absurd (none_job j (sym (same refl) ∙ is))

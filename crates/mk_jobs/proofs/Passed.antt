@@ -60,7 +60,8 @@ data OwnBefore (role : ℕ → Role) (v v' : ℕ → Value) (hs gs : List Hold) 
   kept : is_own (hold_of hs r) ≡ true → v' r ≡ v r
       → (is_private (hold_of gs r) ≡ true → is_private (hold_of hs r) ≡ true)
       → (is_owed (hold_of gs r) ≡ is_owed (hold_of hs r)) → OwnBefore role v v' hs gs x r
-  took : r ≡ x → r < 8 → v' r ≡ v r → is_owed (hold_of gs r) ≡ true → ((a : ℕ) → is_pointer_to a (v r) ≡ true → role a ≡ Public)
+  took : r ≡ x → r < 8 → v' r ≡ v r → is_owed (hold_of gs r) ≡ true
+      → ((a : ℕ) → is_pointer_to a (v r) ≡ true → role a ≡ Public)
       → OwnBefore role v v' hs gs x r
 
 module _ {role : ℕ → Role} {k : ℕ} {v v' : ℕ → Value} {hs gs : List Hold} (owner : IsOwner role k v hs)

@@ -1,4 +1,4 @@
--- What an operation that creates and frees nothing leaves in the registers: which of them own something before and after.
+-- What an operation that creates and frees nothing leaves in the registers, and which of them own something then.
 use Rattle.mk_jobs.proofs.Vocabulary.{Has, Hold, List, Public, Role, Value, all_give, ap, arith, cases_eq, false}
 use Rattle.mk_jobs.proofs.Vocabulary.{false≢true, gives, hold_of, inl, inr, is_owed, is_own, is_pointer_to, refl}
 use Rattle.mk_jobs.proofs.Vocabulary.{shares, sym, true, with_hold, ℕ, ◌<◌, ◌∙◌, ◌≡◌, ◌≢◌, ◌⊎◌}

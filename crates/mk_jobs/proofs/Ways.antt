@@ -120,7 +120,8 @@ module _ {Job Done Point : Type 0} (p : Plan Job Done Point) (w : World) {k : �
   at : (o o' : Op) (t t' : Point) → o ≡ o' → t ≡ t' → Leads o' t' → Leads o t
   at o o' t t' e f way = subst (λ (y : Point). Leads o y) (sym f) (subst (λ (x : Op). Leads x t') (sym e) way)
 
-  quiet_to : (m : NeverState) (t : Point) → ((r : ℕ) → r < 8 → register_at m k r ≡ v r) → leads p hs t ≡ true → GoesOn m t
+  quiet_to : (m : NeverState) (t : Point) → ((r : ℕ) → r < 8 → register_at m k r ≡ v r) → leads p hs t ≡ true
+      → GoesOn m t
   quiet_to m t same e = goes_quiet h same (leads_by hs (p.holds t) e)
 
   -- a register that is set to what holds so
@@ -209,12 +210,14 @@ module _ {Job Done Point : Type 0} (p : Plan Job Done Point) (w : World) {k : �
       (leads p hs other) five.1 in
       let same = stored (target_of w.n (v q) i) _
       (λ a y z. cond_registers (is_same (word_at w.n a y) (v x)) w.n a y (v r) k z) in
-      let known : TakesPublic w k (op.CasPtr q i x r) hs (p.holds t) = subst (λ (y : Op). TakesPublic w k y hs (p.holds t))
-      asks.0 public in
+      let known : TakesPublic w k (op.CasPtr q i x r) hs (p.holds t) =
+      subst (λ (y : Op). TakesPublic w k y hs (p.holds t)) asks.0 public in
       elim (asks.1) [
-        | inl is ↦ at o (op.CasPtr q i x r) t so asks.0 is.1 (passes refl (exchanged (after_op w.n k (op.CasPtr q i x r)) x so (ltb-true x 8 two.0) same
+        | inl is ↦ at o (op.CasPtr q i x r) t so asks.0 is.1 (passes refl
+            (exchanged (after_op w.n k (op.CasPtr q i x r)) x so (ltb-true x 8 two.0) same
             (subst (λ (y : Point). TakesPublic w k (op.CasPtr q i x r) hs (p.holds y)) is.1 known) six.0))
-        | inr is ↦ at o (op.CasPtr q i x r) t other asks.0 is.1 (passes refl (quiet_to (after_op w.n k (op.CasPtr q i x r)) other same six.1))
+        | inr is ↦ at o (op.CasPtr q i x r) t other asks.0 is.1 (passes refl
+            (quiet_to (after_op w.n k (op.CasPtr q i x r)) other same six.1))
       ]
   asks_way (step.GetGlobal d g to) typed o t asks public =
       let one = and_parts (may_set hs d) _ typed in
@@ -243,7 +246,8 @@ module _ {Job Done Point : Type 0} (p : Plan Job Done Point) (w : World) {k : �
       elim (asks.1) [
         | inl is ↦ at o (op.IsNull r) t so asks.0 is.1 (passes refl (quiet_to w.n so (λ x below. refl) two.0))
         | inr is ↦ at o (op.IsNull r) t other asks.0 is.1 (passes refl (goes_change h r (found (hold_of hs r)) lt
-            (found_change (hold_of hs r)) (found_has (hold_of hs r) (v r) (h r lt) (λ null. is.0 (ap (reply_of w.n k) asks.0
+            (found_change (hold_of hs r)) (found_has (hold_of hs r) (v r) (h r lt)
+            (λ null. is.0 (ap (reply_of w.n k) asks.0
             ∙ ap (λ (x : Value). Reply.Num (bit (is_same x Null))) null))) (λ x below. refl)
             (λ none owed. absurd (false≢true (sym (found_owes (hold_of hs r) none) ∙ owed)))
             (leads_by (with_hold hs r (found (hold_of hs r))) (p.holds other) two.1)))

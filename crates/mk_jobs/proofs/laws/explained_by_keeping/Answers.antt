@@ -3,4 +3,4 @@ use Rattle.mk_jobs.proofs.laws.explained_by_keeping.Goals as goal
 use Rattle.mk_jobs.proofs.Explained.{explained}
 
 pub returns : goal.returns
-returns g c = explained g.O.Kept.plan g.O.Kept.left_by g.met.O.Kept.typed c.keeps.ensures
+returns g c = explained g.met.O.Kept.typed c.keeps.ensures
