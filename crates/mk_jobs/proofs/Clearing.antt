@@ -1,7 +1,8 @@
 -- A caller sets its registers to null, one after the other.
-use Rattle.mk_jobs.proofs.Vocabulary.{Answer, Answers, CallerState, Clears, GoesToPoint, IsMadeFor, NeverState, Null}
-use Rattle.mk_jobs.proofs.Vocabulary.{Leads, Op, PassState, Plan, Replied, StaysAdmitted, caller_of_pass, register_at}
-use Rattle.mk_jobs.proofs.Vocabulary.{never_of, replied_to, reply_of, value_of}
+use Rattle.mk_jobs.proofs.RunVocabulary.{Answer, Answers, CallerState, Clears, GoesToPoint, IsMadeFor, NeverState, Null}
+use Rattle.mk_jobs.proofs.RunVocabulary.{Leads, Op, PassState, Plan, Replied, StaysAdmitted, caller_of_pass}
+use Rattle.mk_jobs.proofs.RunVocabulary.{register_at}
+use Rattle.mk_jobs.proofs.RunVocabulary.{never_of, replied_to, reply_of, value_of}
 use Rattle.mk_jobs.proofs.{Replies.once_open, Stepping.may_clear, Walking.{admitted_by_registers, goes_through}}
 use Rattle.mk_jobs.proofs.Walking.{seen_then}
 use Rattle.mk_laws.proofs.Vocabulary.{Bool, List, ℕ, ap, append-nil, append_assoc, arith, cases_eq, get_or-set_other}

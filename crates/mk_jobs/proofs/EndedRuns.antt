@@ -1,10 +1,12 @@
 -- All that happened on an object: it was made, the jobs were done, and the host came last, with markers beside them.
 use Rattle.std.proofs.{Common.{IfOk, Ok, ⊎_elim}, lemmas.Result.IfOk-weaker}
-use Rattle.mk_jobs.proofs.Vocabulary.{AreOfOthers, Caller, CallerState, Config, Dones, Event, Grows, Has, HasCallers}
-use Rattle.mk_jobs.proofs.Vocabulary.{NeverState}
-use Rattle.mk_jobs.proofs.Vocabulary.{HasMade, HaveDone, Host, HostState, IsAtHome, IsBetweenJobs, IsHistory, IsMadeFor}
-use Rattle.mk_jobs.proofs.Vocabulary.{Jobs, Joined, Leads, PassState, Plan, Replied, Seat, TurnsOfAreExact, WordsState}
-use Rattle.mk_jobs.proofs.Vocabulary.{pass_for, replied_to}
+use Rattle.mk_jobs.proofs.RunVocabulary.{AreOfOthers, Caller, CallerState, Config, Dones, Event, Grows, Has, HasCallers}
+use Rattle.mk_jobs.proofs.RunVocabulary.{NeverState}
+use Rattle.mk_jobs.proofs.RunVocabulary.{HasMade, HaveDone, Host, HostState, IsAtHome, IsBetweenJobs, IsHistory}
+use Rattle.mk_jobs.proofs.RunVocabulary.{IsMadeFor}
+use Rattle.mk_jobs.proofs.RunVocabulary.{Jobs, Joined, Leads, PassState, Plan, Replied, Seat, TurnsOfAreExact}
+use Rattle.mk_jobs.proofs.RunVocabulary.{WordsState}
+use Rattle.mk_jobs.proofs.RunVocabulary.{pass_for, replied_to}
 use Rattle.mk_jobs.proofs.{JobRuns.are_jobs_of, JoinedJobs.{exact_on, next_unasked, still_have}}
 use Rattle.mk_laws.proofs.Vocabulary.{Bool, List, ℕ, ap, arith, false, Option, is_begin, is_one_of, length, subst, sym}
 use Rattle.mk_laws.proofs.Vocabulary.{true}
@@ -154,7 +156,7 @@ module _ {Job Done Point : Type 0} (p : Plan Job Done Point) where
         jobs =
             are_jobs_of p c es lists outcome.done.items whole_so.history for_it.types before.founds count
             (rw history (subst (λ
-                (d : Config). HaveDone p d h.pass.seen before.founding 0 lists outcome.done.items) made
+            (d : Config). HaveDone p d h.pass.seen before.founding 0 lists outcome.done.items) made
             done));
         exact = exact;
         bounded = quarantines_are_bounded on c es whole_so.history exact (host_begins_last c host);

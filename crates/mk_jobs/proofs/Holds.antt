@@ -1,9 +1,8 @@
 -- What registers hold, from one list of holds to the next.
-use Rattle.mk_laws.proofs.Vocabulary.{Bool, List, Value, ℕ, ap, cases_eq, eqb-true, false, false≢true, inl, inr, refl}
-use Rattle.mk_laws.proofs.Vocabulary.{subst, suc, sym, true, zero, To, [], ◌<◌, ◌∙◌, ◌∷◌, ◌≡◌, ◌≢◌, ◌⊎◌, ◌&&◌}
-use Rattle.mk_never.specs.Admitted.{IsOfKind}
-use Rattle.mk_jobs.specs.{Plans.{Hold, Anything, MayPoint, Points, Owns, Owes}, Jobs.{Has, IsPointerTo}}
-use Rattle.mk_jobs.specs.Typing.{all_give, gives, hold_of, shares, with_hold}
+use Rattle.mk_jobs.proofs.Vocabulary.{Anything, Bool, Has, Hold, IsOfKind, IsPointerTo, List, MayPoint, Owes, Owns}
+use Rattle.mk_jobs.proofs.Vocabulary.{Points, To, Value, [], all_give, ap, cases_eq, eqb-true, false, false≢true}
+use Rattle.mk_jobs.proofs.Vocabulary.{gives, hold_of, inl, inr, refl, shares, subst, suc, sym, true, with_hold, zero}
+use Rattle.mk_jobs.proofs.Vocabulary.{ℕ, ◌&&◌, ◌<◌, ◌∷◌, ◌≡◌, ◌≢◌, ◌⊎◌}
 
 pub both : (a b : Bool) → (a && b) ≡ true → (a ≡ true) × (b ≡ true)
 both true b e = (refl, e)
@@ -38,7 +37,7 @@ shares_so v (MayPoint t) g e has = gives_so v (MayPoint t) g e has
 shares_so v (Points t) g e has = gives_so v (Points t) g e has
 shares_so v (Owes t) g e has = gives_so v (Owes t) g e has
 
-all_so : (f : Hold → Hold → Bool) → f Anything Anything ≡ true → (hs gs : List Hold) → all_give f hs gs ≡ true
+pub all_so : (f : Hold → Hold → Bool) → f Anything Anything ≡ true → (hs gs : List Hold) → all_give f hs gs ≡ true
     → (r : ℕ) → f (hold_of hs r) (hold_of gs r) ≡ true
 all_so f none [] [] e r = none
 all_so f none (h ∷ hs) [] e zero = (both (f h Anything) (all_give f hs []) e).0
@@ -57,13 +56,13 @@ lead_so v hs gs e h r lt = gives_so (v r) (hold_of hs r) (hold_of gs r) (all_so 
 pub share_so : (v : ℕ → Value) (hs gs : List Hold) → all_give shares hs gs ≡ true → HoldsIn v hs → HoldsIn v gs
 share_so v hs gs e h r lt = shares_so (v r) (hold_of hs r) (hold_of gs r) (all_so shares refl hs gs e r) (h r lt)
 
-hold_set : (hs : List Hold) (d : ℕ) (h : Hold) → hold_of (with_hold hs d h) d ≡ h
+pub hold_set : (hs : List Hold) (d : ℕ) (h : Hold) → hold_of (with_hold hs d h) d ≡ h
 hold_set [] zero h = refl
 hold_set [] (suc d) h = hold_set [] d h
 hold_set (x ∷ hs) zero h = refl
 hold_set (x ∷ hs) (suc d) h = hold_set hs d h
 
-hold_other : (hs : List Hold) (d r : ℕ) (h : Hold) → r ≢ d → hold_of (with_hold hs d h) r ≡ hold_of hs r
+pub hold_other : (hs : List Hold) (d r : ℕ) (h : Hold) → r ≢ d → hold_of (with_hold hs d h) r ≡ hold_of hs r
 hold_other [] zero zero h ne = absurd (ne refl)
 hold_other [] zero (suc r) h ne = refl
 hold_other [] (suc d) zero h ne = refl

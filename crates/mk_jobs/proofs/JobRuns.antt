@@ -1,9 +1,9 @@
 -- Lists of jobs that callers did are the jobs of a history.
 use Rattle.std.proofs.lemmas.List.{length-replicate}
-use Rattle.mk_jobs.proofs.Vocabulary.{AreAdmitted, AreBelow, AreJobRuns, Call, Config, Dones, Event, HaveDone}
-use Rattle.mk_jobs.proofs.Vocabulary.{IsHistory}
-use Rattle.mk_jobs.proofs.Vocabulary.{JobRun, Jobs, Leads, NeverState, Null, Plan, Replied, after_op, all_of, asked}
-use Rattle.mk_jobs.proofs.Vocabulary.{calls, never_first, own_replied, replied_in, reply_of}
+use Rattle.mk_jobs.proofs.RunVocabulary.{AreAdmitted, AreBelow, AreJobRuns, Call, Config, Dones, Event, HaveDone}
+use Rattle.mk_jobs.proofs.RunVocabulary.{IsHistory}
+use Rattle.mk_jobs.proofs.RunVocabulary.{JobRun, Jobs, Leads, NeverState, Null, Plan, Replied, after_op, all_of, asked}
+use Rattle.mk_jobs.proofs.RunVocabulary.{calls, never_first, own_replied, replied_in, reply_of}
 use Rattle.mk_laws.proofs.Vocabulary.{Bool, Kind, List, ℕ, ap, arith, false, if◌then◌else◌, length, ne_eqb, refl, subst}
 use Rattle.mk_laws.proofs.Vocabulary.{suc, true, zero, [], ◌*◌, ◌++◌, ◌+◌, ◌<◌, ◌==◌, ◌∙◌, ◌∷◌, ◌≡◌, ◌≤◌, sym}
 use Rattle.mk_never.proofs.Later.{op_stays}

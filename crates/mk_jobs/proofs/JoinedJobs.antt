@@ -1,11 +1,13 @@
 -- Callers that did their jobs, as the host joins them.
 use Rattle.std.proofs.{Common.{Err, IfOk, IsOk, Ok, OnOk, Result, slice_get}, lemmas.List.drop_more}
 use Rattle.std.proofs.{lemmas.Option.slice_get-get_or, lemmas.Result.IfOk-weaker}
-use Rattle.mk_jobs.proofs.Vocabulary.{Caller, CallerState, Config, DoesJobs, Dones, Event, Grows, Has, HasDone, HasMade}
-use Rattle.mk_jobs.proofs.Vocabulary.{HaveDone, HaveWorked, Host, HostState, IsAtHome, IsBetweenJobs, IsMadeFor}
-use Rattle.mk_jobs.proofs.Vocabulary.{IsReady}
-use Rattle.mk_jobs.proofs.Vocabulary.{Jobs, Joined, OwnAreExact, PassState, Plan, Replied, Seat, TurnsOfAreExact}
-use Rattle.mk_jobs.proofs.Vocabulary.{WordsState, all_of, caller_of_pass, pass_for, replied_in, replied_to, with_joined}
+use Rattle.mk_jobs.proofs.RunVocabulary.{Caller, CallerState, Config, DoesJobs, Dones, Event, Grows, Has, HasDone}
+use Rattle.mk_jobs.proofs.RunVocabulary.{HasMade}
+use Rattle.mk_jobs.proofs.RunVocabulary.{HaveDone, HaveWorked, Host, HostState, IsAtHome, IsBetweenJobs, IsMadeFor}
+use Rattle.mk_jobs.proofs.RunVocabulary.{IsReady}
+use Rattle.mk_jobs.proofs.RunVocabulary.{Jobs, Joined, OwnAreExact, PassState, Plan, Replied, Seat, TurnsOfAreExact}
+use Rattle.mk_jobs.proofs.RunVocabulary.{WordsState, all_of, caller_of_pass, pass_for, replied_in, replied_to}
+use Rattle.mk_jobs.proofs.RunVocabulary.{with_joined}
 use Rattle.mk_jobs.proofs.{OwnCalls.none_of, Replies.same_replied}
 use Rattle.mk_jobs.specs.{declared.joining.Worked.Worked, Joining.{AreExactFrom, HasWorked}}
 use Rattle.mk_laws.proofs.Vocabulary.{Bool, List, Some, ℕ, ap, arith, caller_number, drop, get_or, length, refl, subst}

@@ -161,8 +161,8 @@ module _ {Job Done Point : Type 0} (p : Plan Job Done Point) {n : NeverState} {k
   )
   steps_on hs (step.SetNum q i m to) typed h = λ a bases image.
       let two =
-          both (is_number_there (kind_there p.types (hold_of hs q) i)) (leads p hs to) (both
-              (nat_lt q 8) _ typed).1 in (
+      both (is_number_there (kind_there p.types (hold_of hs q) i)) (leads p hs to) (both
+      (nat_lt q 8) _ typed).1 in (
         (refl, refl),
         same_so v _ (p.holds to) (λ x lt. left_registers (target_of n (v q) i) n k x _ (λ b w. refl))
             (lead_so v hs (p.holds to) two.1 h),
@@ -186,7 +186,7 @@ module _ {Job Done Point : Type 0} (p : Plan Job Done Point) {n : NeverState} {k
   steps_on hs (step.SetPtr q i r to) typed h = λ a bases image.
       let two = both (nat_lt r 8) _ (both (nat_lt q 8) _ typed).1 in
       let three =
-          both (may_go (type_there (kind_there p.types (hold_of hs q) i)) (hold_of hs r)) (leads p hs to) two.1 in (
+      both (may_go (type_there (kind_there p.types (hold_of hs q) i)) (hold_of hs r)) (leads p hs to) two.1 in (
         (refl, refl),
         same_so v _ (p.holds to) (λ x lt. left_registers (target_of n (v q) i) n k x _ (λ b w. refl))
             (lead_so v hs (p.holds to) three.1 h),

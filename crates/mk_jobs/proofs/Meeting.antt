@@ -1,21 +1,17 @@
 -- An access through a register that holds a pointer meets a word of its kind.
-use Rattle.std.proofs.Common.{IfSome}
-use Rattle.mk_laws.proofs.Vocabulary.{Bool, IsTyped, List, NeverState, None, Num, Null, Number, Option, Ptr, Some, To}
-use Rattle.mk_laws.proofs.Vocabulary.{Kind, Meets, Suits, Unmapped, Value, WordOf, allocation_at, ap, arith, false}
-use Rattle.mk_laws.proofs.Vocabulary.{false≢true, is_unmapped, kinds_of, length, ltb-true, refl, register_at, subst}
-use Rattle.mk_laws.proofs.Vocabulary.{suc}
-use Rattle.mk_laws.proofs.Vocabulary.{sym, target_of, true, word_at, words_of, zero, ℕ, [], ◌*◌, ◌+◌, ◌<◌, ◌∙◌, ◌∷◌}
-use Rattle.mk_laws.proofs.Vocabulary.{◌≡◌}
-use Rattle.mk_laws.proofs.Vocabulary.{eqb-true, if◌then◌else◌, nat_lt}
-use Rattle.std.specs.Prelude.{slice_get, slice_index_or}
-use Rattle.mk_never.specs.{Admitted.{IsCaller, IsOfKind}, Typed.IsSound, NeverHeap.left_at}
-use Rattle.mk_jobs.specs.{Plans.{Hold, Anything, MayPoint, Points, Owns, Owes, Plan}, Jobs.{Has, IsPointerTo}}
-use Rattle.mk_jobs.specs.Typing.{global_type, is_number_there, is_there, kind_of, kind_there, may_go, type_there}
+use Rattle.mk_jobs.proofs.Vocabulary.{Anything, Bool, Has, HasTypes, Hold, IsCaller, IsOfKind, IsSound, Kind, List}
+use Rattle.mk_jobs.proofs.Vocabulary.{MayPoint, Meets, NeverState, None, Null, Num, Number, Option, Owes, Owns}
+use Rattle.mk_jobs.proofs.Vocabulary.{Points, Ptr, Some, Suits, To, Unmapped, Value, WordOf, [], allocation_at, ap}
+use Rattle.mk_jobs.proofs.Vocabulary.{arith, eqb-true, false, false≢true, global_type, if◌then◌else◌, is_number_there}
+use Rattle.mk_jobs.proofs.Vocabulary.{is_there, is_unmapped, kind_of, kind_there, kinds_of, left_at, length, ltb-true}
+use Rattle.mk_jobs.proofs.Vocabulary.{may_go, nat_lt, refl, register_at, slice_get, slice_index_or, subst, suc, sym}
+use Rattle.mk_jobs.proofs.Vocabulary.{target_of, true, type_there, word_at, words_of, zero, ℕ, ◌*◌, ◌+◌, ◌<◌, ◌∙◌}
+use Rattle.mk_jobs.proofs.Vocabulary.{◌∷◌, ◌≡◌}
 use Rattle.mk_jobs.proofs.Holds.{pointer_may}
 
 -- a state of a heap for these jobs, and one of its callers
 pub record IsStateOf (types : List (List Kind)) (globals : List ℕ) (n : NeverState) (k : ℕ) : Type 0 where
-  pub typed : IsTyped globals n
+  pub typed : HasTypes globals n
   pub types_are : n.types ≡ types
   pub count : length n.globals ≡ 64
   pub caller : IsCaller n k

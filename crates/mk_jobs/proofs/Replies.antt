@@ -1,8 +1,8 @@
 -- One call of a caller, as one more operation with its reply.
-use Rattle.mk_jobs.proofs.Vocabulary.{Answer, AreAdmitted, Call, Called, Config, Decided, Event, IsHistory, IsTyped}
-use Rattle.mk_jobs.proofs.Vocabulary.{NeverState, Op, PassState, Replied, after_calls, after_op, answer_of, asked}
-use Rattle.mk_jobs.proofs.Vocabulary.{caller_of_pass, calls, calls_from, flagged, left, never_behind, never_first}
-use Rattle.mk_jobs.proofs.Vocabulary.{never_of, own_replied, register_at, replied_in, replied_to, reply_of, value_of}
+use Rattle.mk_jobs.proofs.RunVocabulary.{Answer, AreAdmitted, Call, Called, Config, Decided, Event, IsHistory, IsTyped}
+use Rattle.mk_jobs.proofs.RunVocabulary.{NeverState, Op, PassState, Replied, after_calls, after_op, answer_of, asked}
+use Rattle.mk_jobs.proofs.RunVocabulary.{caller_of_pass, calls, calls_from, flagged, left, never_behind, never_first}
+use Rattle.mk_jobs.proofs.RunVocabulary.{never_of, own_replied, register_at, replied_in, replied_to, reply_of, value_of}
 use Rattle.mk_jobs.proofs.OwnCalls.{none_since}
 use Rattle.mk_laws.proofs.Vocabulary.{Bool, KeepsRegisters, List, ℕ, ap, append-nil, arith, bases_of, eq-eqb, false}
 use Rattle.mk_laws.proofs.Vocabulary.{if◌then◌else◌, is_under_turn, length, map-append, refl, subst, sym, [], ◌++◌, ◌<◌}

@@ -1,31 +1,17 @@
 -- The operation of a step may be asked where its registers are typed, leads where the step says, and leaves what the
 -- next point holds.
-use Rattle.std.proofs.Common.{IfSome}
-use Rattle.mk_laws.proofs.Vocabulary.{Answer, Bool, IsPointer, List, NeverState, None, Null, Num, Number, Op, Option}
-use Rattle.mk_laws.proofs.Vocabulary.{IsAdmitted, Kind, Ptr, Some, To, Unmapped, Value, WordOf, allocation_at}
-use Rattle.mk_laws.proofs.Vocabulary.{answer_of}
-use Rattle.mk_laws.proofs.Vocabulary.{ap, arith, false, false≢true, flagged, if◌then◌else◌, inl, inr, is_same, kinds_of}
-use Rattle.mk_laws.proofs.Vocabulary.{length, ltb-true, nat_lt, refl, register_at, subst, sym, target_of, true}
-use Rattle.mk_laws.proofs.Vocabulary.{with_new}
-use Rattle.mk_laws.proofs.Vocabulary.{with_register, with_word, word_at, ℕ, [], ◌*◌, ◌+◌, ◌<◌, ◌==◌, ◌∙◌, ◌∷◌, ◌≡◌, ◌≢◌}
-use Rattle.mk_laws.proofs.Vocabulary.{◌⊎◌}
-use Rattle.mk_laws.proofs.Vocabulary.{get_or-set_other, get_or-set_same, not, ◌&&◌, cases_eq}
-use Rattle.mk_never.specs.{Admitted.{IsBase, IsOfKind, IsNumber}, NeverHeap.{after_op, global_at, left_at, reply_of}}
-use Rattle.mk_never.specs.{declared.operations.Reply.Reply, declared.values.Target.Target}
-use Rattle.mk_never.specs.Admitted.{AccessIsAdmitted, Meets, OperandsAreInRange, StoreIsAdmitted}
-use Rattle.mk_never.specs.declared.values.Target.TheVariants.{Nothing}
-use Rattle.mk_heap.specs.Dispatching.{as_told}
-use Rattle.mk_jobs.specs.Plans.{Hold, Anything, MayPoint, Points, Owns, Owes, Plan}
-use Rattle.mk_jobs.specs.Jobs.{Asks, Has, HoldsAt, IsPointerTo}
-use Rattle.mk_jobs.specs.{declared.steps.Step.Step, Advancing.{next_by, op_of, says_yes}}
-use Rattle.mk_jobs.specs.Typing.{IsTypedStep, all_give, found, freed, global_type, hold_of, is_freed, is_number_there}
-use Rattle.mk_jobs.specs.Typing.{is_own, is_there, kind_there, leads, leads_shared, loaded, may_go, may_set, taken}
-use Rattle.mk_jobs.specs.Typing.{there}
-use Rattle.mk_jobs.specs.Typing.{type_there, with_hold, IsTyped, shares, gives}
-use Rattle.mk_jobs.proofs.Holds.{HoldsIn, both, lead_so, pointer_may, same_so, set_so, share_so}
-use Rattle.mk_jobs.proofs.Meeting.{IsStateOf, global_so, go_so, is_number_so, loads, meets, sound, there_so, type_so}
-use Rattle.mk_jobs.proofs.Meeting.{word_met}
 use Rattle.mk_jobs.specs.declared.steps.Step.TheVariants as step
+use Rattle.mk_jobs.proofs.Vocabulary.{AccessIsAdmitted, Anything, Bool, Has, Hold, IfSome, IsAdmitted, IsBase}
+use Rattle.mk_jobs.proofs.Vocabulary.{IsNumber, IsOfKind, IsPointer, IsTypedStep, Kind, List, MayPoint, Meets}
+use Rattle.mk_jobs.proofs.Vocabulary.{NeverState, Nothing, Null, Num, Number, Op, OperandsAreInRange, Option, Owes}
+use Rattle.mk_jobs.proofs.Vocabulary.{Owns, Plan, Points, Ptr, Some, Step, StoreIsAdmitted, Target, To, Unmapped}
+use Rattle.mk_jobs.proofs.Vocabulary.{Value, WordOf, ap, arith, false, false≢true, freed, global_type, hold_of}
+use Rattle.mk_jobs.proofs.Vocabulary.{if◌then◌else◌, is_freed, is_number_there, is_own, is_there, kind_there, left_at}
+use Rattle.mk_jobs.proofs.Vocabulary.{length, ltb-true, may_go, may_set, nat_lt, not, op_of, refl, register_at, subst}
+use Rattle.mk_jobs.proofs.Vocabulary.{sym, there, true, type_there, with_word, ℕ, ◌<◌, ◌∙◌, ◌≡◌}
+use Rattle.mk_jobs.proofs.Holds.{HoldsIn, both}
+use Rattle.mk_jobs.proofs.Meeting.{IsStateOf, global_so, go_so, is_number_so, meets, sound, there_so, type_so}
+use Rattle.mk_jobs.proofs.Meeting.{word_met}
 
 freed_base : (h : Hold) (v : Value) → is_freed h ≡ true → Has v h → IsBase v
 freed_base (Owns t) v e has = subst IsBase (sym has.is) refl
@@ -133,9 +119,11 @@ module _ {Job Done Point : Type 0} (p : Plan Job Done Point) {n : NeverState} {k
       admitted (Op.CasPtr q i x r) (lt, ltx, ltr)
       (met hs q i (To go.t 0) lt h (type_so (kind hs q i) go.t go.is) IsPointer refl)
       (met hs q i (To go.t 0) lt h (type_so (kind hs q i) go.t go.is) (λ (kd : Kind). IsOfKind (v x) kd
-          × IsOfKind (v r) kd)
-      (subst (λ (t : ℕ). IsOfKind (v x) (To t 0)) (same_type gx.t go.t (sym gx.is
-          ∙ go.is)) (gx.may (v x) (h x ltx)), go.may (v r) (h r ltr)))
+      × IsOfKind (v r) kd) (
+        subst (λ (t : ℕ). IsOfKind (v x) (To t 0)) (same_type gx.t go.t (sym gx.is
+            ∙ go.is)) (gx.may (v x) (h x ltx)),
+        go.may (v r) (h r ltr),
+      ))
     where
       same_type : (a b : ℕ) → Some a ≡ Some b → a ≡ b
       same_type a b e = cc e

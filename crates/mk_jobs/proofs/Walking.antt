@@ -1,9 +1,9 @@
 -- Operations one after the other, from the point of a job where its caller was.
 use Rattle.std.proofs.Common.{IfSome}
-use Rattle.mk_jobs.proofs.Vocabulary.{Answer, Answers, Asks, CallerState, GoesToPoint, HoldsAt, IsHistory, IsMadeFor}
-use Rattle.mk_jobs.proofs.Vocabulary.{IsReady, Leads, Op, PassState, Plan, Replied, StaysAdmitted, Step, as_told}
-use Rattle.mk_jobs.proofs.Vocabulary.{after_op, answer_of, caller_of_pass, flagged, never_of, next_by, op_of}
-use Rattle.mk_jobs.proofs.Vocabulary.{register_at, replied_to, reply_of, value_of}
+use Rattle.mk_jobs.proofs.RunVocabulary.{Answer, Answers, Asks, CallerState, GoesToPoint, HoldsAt, IsHistory, IsMadeFor}
+use Rattle.mk_jobs.proofs.RunVocabulary.{IsReady, Leads, Op, PassState, Plan, Replied, StaysAdmitted, Step, as_told}
+use Rattle.mk_jobs.proofs.RunVocabulary.{after_op, answer_of, caller_of_pass, flagged, never_of, next_by, op_of}
+use Rattle.mk_jobs.proofs.RunVocabulary.{register_at, replied_to, reply_of, value_of}
 use Rattle.mk_jobs.proofs.{Holds.{HoldsIn, same_so}, Leading.steps_on, Meeting.IsStateOf}
 use Rattle.mk_jobs.proofs.{Replies.{Happens, from_turn, once_open, stays}, Stepping.admits}
 use Rattle.mk_laws.proofs.Vocabulary.{Bool, List, Option, Some, ℕ, ap, append-nil, append_assoc, arith, false, inl, inr}
@@ -135,12 +135,12 @@ module _ {Job Done Point : Type 0} (p : Plan Job Done Point) where
         let k = caller_of_pass q in
         let at_answer = λ (a : Answer). next_by p.with_number s (p.step s) (as_told a) in
         let on = of_asked (λ (y : Op). (a : Answer) (bases : List ℕ) → a
-            ≡ answer_of bases (reply_of h.n k (flagged y a))
+        ≡ answer_of bases (reply_of h.n k (flagged y a))
         → Asks p.with_number (p.step s) (flagged y a) (reply_of h.n k (flagged y a)) (at_answer a)
         × HoldsIn (register_at (after_op h.n k (flagged y a)) k) (p.holds (at_answer a))) is
         (steps_on p (place_state made h) s (p.holds s) (p.step s) (typed.steps s)
         (same_so (value_of q) (register_at h.n k) (p.holds s)
-            (λ y lt. h.before y lt) holds)) x.answer h.bases h.image in
+        (λ y lt. h.before y lt) holds)) x.answer h.bases h.image in
         let there : t ≡ at_answer x.answer = leads ∙ ap (next_by p.with_number s (p.step s)) x.is_told in
         subst (Advances q s r) (sym there) (record {
           goes = record {

@@ -7,6 +7,7 @@ mod engines;
 mod going;
 mod job_lists;
 mod joining;
+pub mod laws;
 mod objects;
 mod runs;
 mod shared;

@@ -1,4 +1,4 @@
-use Rattle.mk_jobs.proofs.Vocabulary.{Clears, IsReady, OwnAreExact}
+use Rattle.mk_jobs.proofs.RunVocabulary.{Clears, IsReady, OwnAreExact}
 use Rattle.mk_jobs.proofs.going.forget.Given as goal
 
 abbrev pub invariant-loop-register : goal.invariant-loop-register

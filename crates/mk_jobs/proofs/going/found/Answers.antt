@@ -1,5 +1,5 @@
 use Rattle.mk_jobs.proofs.{Clearing.goes_cleared, Holds.none_held}
-use Rattle.mk_jobs.proofs.Vocabulary.{GoesToPoint}
+use Rattle.mk_jobs.proofs.RunVocabulary.{GoesToPoint}
 use Rattle.mk_laws.proofs.Vocabulary.{subst}
 use Rattle.mk_jobs.proofs.going.found.Goals as goal
 
@@ -17,7 +17,7 @@ returns g c =
         last = gone.result;
         goes =
             goes_cleared p gone.ensures.goal (subst
-                (λ s. GoesToPoint p c.args.caller.now.pass s gone.new.caller.pass gone.result) c.founding.ensures
+            (λ s. GoesToPoint p c.args.caller.now.pass s gone.new.caller.pass gone.result) c.founding.ensures
             gone.ensures.goes) c.forget.ensures.clears;
         founded = gone.ensures.goal;
       };

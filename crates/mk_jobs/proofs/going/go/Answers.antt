@@ -1,5 +1,5 @@
 use Rattle.mk_laws.proofs.Vocabulary.{ap, sym, ◌∙◌}
-use Rattle.mk_jobs.proofs.Vocabulary.{next_by, op_of}
+use Rattle.mk_jobs.proofs.RunVocabulary.{next_by, op_of}
 use Rattle.mk_jobs.proofs.Walking.{advances, goes_nowhere, goes_through, is_end, may_ask, ready_on}
 use Rattle.mk_jobs.proofs.going.go.Goals as goal
 

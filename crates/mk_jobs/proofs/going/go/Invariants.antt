@@ -1,4 +1,4 @@
-use Rattle.mk_jobs.proofs.Vocabulary.{GoesToPoint, HoldsAt, IsReady, OwnAreExact, value_of}
+use Rattle.mk_jobs.proofs.RunVocabulary.{GoesToPoint, HoldsAt, IsReady, OwnAreExact, value_of}
 use Rattle.mk_jobs.proofs.going.go.Given as goal
 
 abbrev pub invariant-points : goal.invariant-points

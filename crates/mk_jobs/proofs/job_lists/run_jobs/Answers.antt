@@ -1,4 +1,4 @@
-use Rattle.mk_jobs.proofs.{JobLists.{does_next, does_none}, Vocabulary.DoesJob}
+use Rattle.mk_jobs.proofs.{JobLists.{does_next, does_none}, RunVocabulary.DoesJob}
 use Rattle.mk_laws.proofs.Vocabulary.{subst}
 use Rattle.mk_jobs.proofs.job_lists.run_jobs.Goals as goal
 

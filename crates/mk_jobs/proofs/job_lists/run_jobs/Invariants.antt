@@ -1,4 +1,4 @@
-use Rattle.mk_jobs.proofs.Vocabulary.{DoesJobs, IsReady, OwnAreExact}
+use Rattle.mk_jobs.proofs.RunVocabulary.{DoesJobs, IsReady, OwnAreExact}
 use Rattle.mk_laws.proofs.Vocabulary.{take}
 use Rattle.mk_jobs.proofs.job_lists.run_jobs.Given as goal
 

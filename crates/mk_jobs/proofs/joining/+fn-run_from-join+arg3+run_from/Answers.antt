@@ -1,5 +1,5 @@
 use Rattle.std.proofs.{Common.length-drop, Common.rules, lemmas.List.Elements.All-pop}
-use Rattle.mk_jobs.proofs.Vocabulary.{HasMade, HaveWorked, IsBetweenJobs, replied_to}
+use Rattle.mk_jobs.proofs.RunVocabulary.{HasMade, HaveWorked, IsBetweenJobs, replied_to}
 use Rattle.mk_jobs.proofs.JoinedJobs.{next_list, next_ready, next_unasked, no_lists, none_joined}
 use Rattle.mk_jobs.specs.Joining.{AreCallersFrom, HasWorked}
 use Rattle.mk_heap.proofs.Crews.{caller_made}

@@ -8,7 +8,27 @@ beside_markers-requires g c =
       bounds.0,
       (
         bounds.1,
-        (bounds.2, (bounds.3, (bounds.4, (bounds.5, (bounds.6, (asked.0, (asked.1.0,
-            (asked.1.1.0, asked.1.1.1.0)))))))),
+        (
+          bounds.2,
+          (
+            bounds.3,
+            (
+              bounds.4,
+              (
+                bounds.5,
+                (
+                  bounds.6,
+                  (
+                    asked.0,
+                    (
+                      asked.1.0,
+                      (asked.1.1.0, asked.1.1.1.0),
+                    ),
+                  ),
+                ),
+              ),
+            ),
+          ),
+        ),
       ),
     )
