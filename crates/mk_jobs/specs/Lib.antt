@@ -1,0 +1,12 @@
+pub mod Plans
+pub mod Typing
+pub mod Jobs
+pub mod Orders
+pub mod Laws
+pub mod Keeping
+pub mod Advancing
+pub mod Passes
+pub mod JobLists
+pub mod Engines
+pub mod Joining
+pub mod Runs

@@ -1,0 +1,50 @@
+-- Jobs in the history of a running heap: what a caller's operations were replied there.
+use Rattle.std.specs.Prelude.{◌≡◌, ℕ, ◌<◌, List, ◌++◌, Some}
+use Rattle.mk_never.specs.declared.values.Value.TheVariants.{Null}
+use Rattle.mk_core.specs.{declared.config.Config.Config, declared.events.Event.Event, Decided.asked}
+use Rattle.mk_core.specs.History.{calls, never_first}
+use Rattle.mk_heap.specs.{Below.Words.States.PassState, Below.Callers.States.{CallerState, caller_of_pass, value_of}}
+use Rattle.mk_heap.specs.Below.Objects.TurnCalls.{MayTakeTurns}
+use Rattle.mk_jobs.specs.{Plans.Plan, Jobs.{Replied, Leads, own_replied}}
+use Rattle.mk_jobs.specs.declared.steps.Step.TheVariants as step
+
+-- the operations of caller k in a history, with the replies of the heap that never reuses storage
+abbrev pub replied_in : Config → ℕ → List Event → List Replied
+replied_in c k es = own_replied k (never_first c) (asked (calls c es))
+
+abbrev pub replied_to : PassState → List Replied
+replied_to p = replied_in p.table.config (caller_of_pass p) p.seen
+
+-- Its caller's registers are null, so that it keeps no object.
+abbrev pub KeepsNothing : PassState → Type 0
+KeepsNothing q = (r : ℕ) → r < 8 → value_of q r ≡ Null
+
+module _ {Job Done Point : Type 0} (p : Plan Job Done Point) where
+  -- the heap has the types and the globals of the object
+  pub record IsMadeFor (c : Config) : Type 0 where
+    pub types : c.types ≡ p.types
+    pub globals : c.globals ≡ p.globals
+
+  -- The caller may take turns with this engine, on a heap that is made for the object.
+  pub record IsReady {E : Type 0} (made_for : E → ℕ) (s : CallerState) (engine : E) : Type 0 where
+    pub may : MayTakeTurns (made_for engine) s
+    pub made : IsMadeFor s.pass.table.config
+
+  -- The pass has seen more, in which its caller's operations led from one point to another.
+  pub record GoesToPoint (q : PassState) (s : Point) (q' : PassState) (t : Point) : Type 0 where
+    pub is : q' ≡ record q { seen = q'.seen }
+    pub all : List Replied
+    pub leads : Leads p s all t
+    pub did : replied_to q' ≡ replied_to q ++ all
+
+  -- Its caller made the object.
+  pub record Founds (q q' : PassState) : Type 0 where
+    pub last : Point
+    pub goes : GoesToPoint q p.founding q' last
+    pub founded : p.step last ≡ step.End
+
+  -- Its caller did the job, and this became of it.
+  pub record DoesJob (q : PassState) (job : Job) (done : Done) (q' : PassState) : Type 0 where
+    pub last : Point
+    pub goes : GoesToPoint q (p.starting job) q' last
+    pub ended : p.ended last ≡ Some done
