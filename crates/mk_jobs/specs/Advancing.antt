@@ -9,6 +9,7 @@ use Rattle.mk_jobs.specs.declared.steps.Step.TheVariants as step
 use Rattle.mk_never.specs.declared.operations.Op.TheVariants as op
 use Rattle.mk_core.specs.declared.events.Answer.TheVariants as answer
 
+-- the operation of a step, if it asks for one
 abbrev pub op_of : {Point : Type 0} → Step Point → Option Op
 op_of (step.New d ty to full) = Some (op.New d ty false)
 op_of (step.Free p to) = Some (op.Free p)
@@ -24,14 +25,17 @@ op_of (step.Same p q so not_so) = Some (op.Same p q)
 op_of (step.IsNull p so not_so) = Some (op.IsNull p)
 op_of step.End = None
 
+-- the answer is Full
 abbrev pub says_full : Answer → Bool
 says_full answer.Full = true
 says_full _ = false
 
+-- the answer is 1
 abbrev pub says_yes : Answer → Bool
 says_yes (answer.Num n) = n == 1
 says_yes _ = false
 
+-- the number of the answer
 abbrev pub number_answered : Answer → ℕ
 number_answered (answer.Num n) = n
 number_answered _ = 0
@@ -52,6 +56,7 @@ next_by w s (step.Same p q so not_so) told = if says_yes told then so else not_s
 next_by w s (step.IsNull p so not_so) told = if says_yes told then so else not_so
 next_by w s step.End told = s
 
+-- Each of these operations is a Clear, answered Done.
 abbrev pub AreClears : List Replied → Type 0
 AreClears [] = Unit {0}
 AreClears (x ∷ xs) = IsClear x.op × AreClears xs

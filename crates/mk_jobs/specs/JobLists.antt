@@ -5,9 +5,11 @@ use Rattle.mk_heap.specs.Below.Words.States.{PassState}
 use Rattle.mk_jobs.specs.{declared.job_lists.Dones.Dones, declared.job_lists.Jobs.Jobs, Plans.Plan}
 use Rattle.mk_jobs.specs.{Jobs.{AreJobRuns, JobRun, Replied, all_of}, Passes.{replied_in, replied_to}}
 
+-- the jobs of these runs
 abbrev pub jobs_of : {Job Done : Type 0} → List (JobRun Job Done) → List Job
 jobs_of runs = map (λ r. r.job) runs
 
+-- what became of them
 abbrev pub dones_of : {Job Done : Type 0} → List (JobRun Job Done) → List Done
 dones_of runs = map (λ r. r.done) runs
 

@@ -15,6 +15,7 @@ pub record Replied : Type 0 where
   pub op : Op
   pub reply : Reply
 
+-- the number of the reply
 abbrev pub number_replied : Reply → ℕ
 number_replied (reply.Num n) = n
 number_replied _ = 0
@@ -39,14 +40,17 @@ Asks w (step.IsNull p so not_so) o r t =
     (o ≡ op.IsNull p) × (((r ≡ reply.Num 1) × (t ≡ so)) ⊎ ((r ≡ reply.Num 1 → ⊥) × (t ≡ not_so)))
 Asks w step.End o r t = ⊥
 
+-- It clears one of the eight registers.
 abbrev pub IsClear : Op → Type 0
 IsClear (op.Clear d) = d < 8
 IsClear _ = ⊥
 
+-- It points to the first word of an object of this type.
 pub record IsPointerTo (ty : ℕ) (v : Value) : Type 0 where
   pub number : ℕ
   pub is : v ≡ Ptr number ty 0
 
+-- The value is as the register should hold it.
 abbrev pub Has : Value → Hold → Type 0
 Has v Anything = Unit {0}
 Has v (MayPoint t) = IsOfKind v (To t 0)
@@ -68,6 +72,7 @@ pub record JobRun (Job Done : Type 0) : Type 0 where
   pub done : Done
   pub all : List Replied
 
+-- the operations of these jobs, in order
 abbrev pub all_of : {Job Done : Type 0} → List (JobRun Job Done) → List Replied
 all_of [] = []
 all_of (r ∷ rs) = r.all ++ all_of rs
@@ -77,6 +82,7 @@ abbrev pub jobs_of_first : ℕ → List Replied → List Replied
 jobs_of_first zero founding = founding
 jobs_of_first (suc k) founding = []
 
+-- All callers exist.
 abbrev pub AreBelow : ℕ → List Call → Type 0
 AreBelow callers [] = Unit {0}
 AreBelow callers (x ∷ xs) = (x.caller < callers) × AreBelow callers xs
@@ -90,9 +96,11 @@ module _ {Job Done Point : Type 0} (p : Plan Job Done Point) where
       ((next : Point) × Asks p.with_number (p.step s) x.op x.reply next × Leads next xs t)
       ⊎ ((p.step s ≡ step.End) × IsClear x.op × Leads s xs t)
 
+  -- The operations lead from the job's start to its outcome.
   abbrev pub IsJobRun : JobRun Job Done → Type 0
   IsJobRun r = (t : Point) × Leads (p.starting r.job) r.all t × (p.ended t ≡ Some r.done)
 
+  -- Each is the run of a job.
   abbrev pub AreJobRuns : List (JobRun Job Done) → Type 0
   AreJobRuns [] = Unit {0}
   AreJobRuns (r ∷ rs) = IsJobRun r × AreJobRuns rs

@@ -18,15 +18,18 @@ pub data Role : Type 0 where
   Taken : ℕ → Role  -- all may; this caller frees it
   Gone : Role  -- all may; it is freed
 
+-- the heap that never reuses storage, with who knows which allocation
 pub record World : Type 0 where
   pub n : NeverState
   pub role : ℕ → Role
 
+-- All callers may know it.
 abbrev pub IsShown : Role → Type 0
 IsShown Unborn = ⊥
 IsShown (Private k) = ⊥
 IsShown _ = Unit {0}
 
+-- It is this caller's own.
 abbrev pub IsOf : ℕ → Role → Type 0
 IsOf k (Private j) = j ≡ k
 IsOf k (Taken j) = j ≡ k
@@ -49,10 +52,12 @@ pub record Covers (w w' : World) : Type 0 where
   pub shown : (a : ℕ) → IsShown (w'.role a) → IsShown (w.role a)
   pub stays : (a : ℕ) → IsShown (w.role a) → IsShown (w'.role a)
 
+-- the register has an object that nobody else knows
 abbrev pub is_private : Hold → Bool
 is_private (Owns t) = true
 is_private _ = false
 
+-- the register has an object that its caller has to free
 abbrev pub is_owed : Hold → Bool
 is_owed (Owes t) = true
 is_owed _ = false
@@ -101,6 +106,7 @@ module _ {Job Done Point State : Type 0} (p : Plan Job Done Point) (left_by : St
     pub owed : (r a : ℕ) → r < 8 → is_owed (hold_of (p.holds s) r) ≡ true
         → is_pointer_to a (register_at w.n k r) ≡ true → w.role a ≡ Taken k
 
+  -- the world after an operation that leads from one point to another
   abbrev pub after : World → ℕ → Op → Point → Point → World
   after w k o s t = record { n = after_op w.n k o; role = role_after w k o (p.holds s) (p.holds t) }
 
@@ -109,6 +115,7 @@ module _ {Job Done Point State : Type 0} (p : Plan Job Done Point) (left_by : St
     nothing : {u : Option Done} {x : State} → Decides job u x u x
     settles : {j : Job} {d : Done} {x y : State} → job ≡ Some j → left_by x j d ≡ Some y → Decides job None x (Some d) y
 
+  -- the world before any operation
   abbrev pub first_world : ℕ → World
   first_world callers = record { n = start_of p.types callers; role = λ a. Unborn }
 

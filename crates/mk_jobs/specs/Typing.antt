@@ -37,15 +37,18 @@ all_give f (h ∷ hs) [] = f h Anything && all_give f hs []
 all_give f [] (g ∷ gs) = f Anything g && all_give f [] gs
 all_give f (h ∷ hs) (g ∷ gs) = f h g && all_give f hs gs
 
+-- what a register holds
 abbrev pub hold_of : List Hold → ℕ → Hold
 hold_of hs r = slice_index_or hs r Anything
 
+-- what the registers hold after one was set
 abbrev pub with_hold : List Hold → ℕ → Hold → List Hold
 with_hold [] zero h = h ∷ []
 with_hold [] (suc r) h = Anything ∷ with_hold [] r h
 with_hold (x ∷ hs) zero h = h ∷ hs
 with_hold (x ∷ hs) (suc r) h = x ∷ with_hold hs r h
 
+-- the kind of word i, if it is there
 abbrev pub kind_of : List Kind → ℕ → Option Kind
 kind_of ks i = if nat_lt i (length ks) then Some (slice_index_or ks i Number) else None
 
@@ -57,6 +60,7 @@ kind_there types (Points t) i = kind_of (kinds_of types t) i
 kind_there types (Owns t) i = kind_of (kinds_of types t) i
 kind_there types (Owes t) i = kind_of (kinds_of types t) i
 
+-- the word is a number
 abbrev pub is_number_there : Option Kind → Bool
 is_number_there (Some Number) = true
 is_number_there _ = false
@@ -66,6 +70,7 @@ abbrev pub type_there : Option Kind → Option ℕ
 type_there (Some (To t zero)) = Some t
 type_there _ = None
 
+-- there is such a type
 abbrev pub is_there : Option ℕ → Bool
 is_there (Some t) = true
 is_there None = false
@@ -77,13 +82,16 @@ may_go (Some t) (Points u) = t == u
 may_go (Some t) (Owns u) = t == u
 may_go _ _ = false
 
+-- what the registers hold after a load
 abbrev pub loaded : List Hold → ℕ → Option ℕ → List Hold
 loaded hs d (Some t) = with_hold hs d (MayPoint t)
 loaded hs d None = with_hold hs d Anything
 
+-- the register is one of the eight, and holds no object that its caller owns
 abbrev pub may_set : List Hold → ℕ → Bool
 may_set hs d = (nat_lt d 8) && not (is_own (hold_of hs d))
 
+-- the register has an object that its caller may free
 abbrev pub is_freed : Hold → Bool
 is_freed (Owns t) = true
 is_freed (Owes t) = true
@@ -106,6 +114,7 @@ taken (MayPoint t) (Owes u) = if t == u then Owes u else MayPoint t
 taken (Points t) (Owes u) = if t == u then Owes u else Points t
 taken h g = h
 
+-- the type of what a global points to
 abbrev pub global_type : List ℕ → ℕ → Option ℕ
 global_type [] g = None
 global_type (t ∷ ts) zero = Some t
@@ -116,12 +125,15 @@ module _ {Job Done Point : Type 0} (p : Plan Job Done Point) where
   abbrev pub leads : List Hold → Point → Bool
   leads hs t = all_give gives hs (p.holds t)
 
+  -- after an exchange or a store in a global, what the registers hold is what the next point asks
   abbrev pub leads_shared : List Hold → Point → Bool
   leads_shared hs t = all_give shares hs (p.holds t)
 
+  -- the kind of the word that a step accesses
   abbrev pub there : List Hold → ℕ → ℕ → Option Kind
   there hs q i = kind_there p.types (hold_of hs q) i
 
+  -- The step has what it asks, and leaves what its next points ask.
   abbrev pub IsTypedStep : List Hold → Step Point → Type 0
   IsTypedStep hs (step.New d ty to full) =
       IsTrue (may_set hs d && (nat_lt ty (length p.types) && (leads (with_hold hs d (Owns ty)) to && leads hs full)))

@@ -1,5 +1,6 @@
-//! Objects that callers share on a heap: a client states its jobs as points, and what is proved of all such objects is
-//! proved here, once. Start with `objects` and `steps`, then `runs` and `specs/Runs.antt`.
+//! Objects that callers share on a heap: a client states its jobs as points, each with an operation of the heap.
+//! However its jobs are interleaved they are linearizable, and no object of the heap leaks; this is proved here once.
+//! Start with `objects` and `steps`, then `runs` and `specs/Runs.antt`; `specs/Keeping.antt` is what a client shows.
 #![tactic(auto)]
 
 mod advancing;
