@@ -8,7 +8,8 @@ use Rattle.mk_caller.proofs.Below.Laws.Vocabulary.{flight_of, freed_where_it_sta
 use Rattle.mk_caller.proofs.Below.Laws.Vocabulary.{heads_run, if◌then◌else◌, is_freed, is_run_cell, is_some}
 use Rattle.mk_caller.proofs.Below.Laws.Vocabulary.{is_undecided_free, map, not, or_else, others_are_held, pointed_cell}
 use Rattle.mk_caller.proofs.Below.Laws.Vocabulary.{progress_freed, quarantine_word, refl, run_of_cell, sees_double}
-use Rattle.mk_caller.proofs.Below.Laws.Vocabulary.{set-get_or, slice_index, slice_set, subst, sym, target, true, world_behind, []}
+use Rattle.mk_caller.proofs.Below.Laws.Vocabulary.{set-get_or, slice_index, slice_set, subst, sym, target, true}
+use Rattle.mk_caller.proofs.Below.Laws.Vocabulary.{world_behind, []}
 use Rattle.mk_caller.proofs.Below.Laws.Vocabulary.{◌%◌, ◌&&◌, ◌*◌, ◌+◌, ◌-◌, ◌/◌, ◌<◌, ◌^◌, ◌||◌, ◌∙◌, ◌≡◌}
 use Rattle.mk_alloc.proofs.ObjectVocabulary.{Acts, CallIsAt, FreesOnce, HasFreed, IsAsLeft, IsEnabledTo, IsFreedAt}
 use Rattle.mk_alloc.proofs.ObjectVocabulary.{IsOutOfStop, IsTurn, MayFree, PassState, WordsState, answers_full, call_of}

@@ -14,8 +14,8 @@ use Rattle.mk_alloc.proofs.DueParts.{RunIn, at_behind, end_at, ends_before, run_
 use Rattle.mk_alloc.proofs.{Going.{IsCallers, callers_then, same_phase, then_on}, ListParts.{InFirst, InSecond, IsAt}}
 use Rattle.mk_alloc.proofs.ListParts.{Lacks, SomeKind, cycle_in, lacks_append, lacks_at, lacks_first, none_at, only_at}
 use Rattle.mk_alloc.proofs.{ListParts.stands, Parts.{Part, part_lacks, seen_by, seen_then}}
-use Rattle.mk_alloc.proofs.{UnsweptTurns.{kinds_keep, kinds_then, turn_keeps}, CycleParts.{EndsIn, begins_held}}
-use Rattle.mk_alloc.{proofs.Stretches.{SomeKinds, Within}, specs.TurnCycles.{CycleIsOn}}
+use Rattle.mk_alloc.proofs.{UnsweptTurns.{kinds_keep, kinds_yet, turn_keeps, turn_keeps_yet}, CycleParts.{EndsIn, begins_held}}
+use Rattle.mk_alloc.{proofs.Stretches.{SomeKinds, Within}, specs.TurnCycles.{CycleIsOn}, specs.Underway.KeepsYet}
 use Rattle.mk_caller.proofs.Below.Laws.Vocabulary.{register_at}
 use Rattle.mk_alloc.specs.{Retired.{DecidesFree, FindsFreed, Retires}, Retiring.{IsUnloaded, is_freeing, is_loading}}
 use Rattle.mk_never.specs.Admitted.{IsBase}
@@ -277,8 +277,8 @@ module _ {flag due : Bool} {r : ℕ} {p taken retired done : PassState} (f : Fre
     given = record { took = f.took; fresh = f.begins.fresh; on = freed; gives = gives; rests = rests }
 
     pub freed_keeps : {sweeps : Bool} {begins : Config → Seat → List Event → List Event → Type 0}
-        → PassKeeps sweeps begins retired done → PassKeeps sweeps begins p q
-    freed_keeps run = turn_keeps given (kinds_then (λ x h. grind arith) f.retires.decides.does run)
+        → KeepsYet sweeps begins retired done → PassKeeps sweeps begins p q
+    freed_keeps run = turn_keeps_yet given (kinds_yet (λ x h. grind arith) f.retires.decides.does run)
 
     told : IsDueIn (turn_of given) → due ≡ true
     told is_due = elim (cases_Bool due) [

@@ -5,8 +5,10 @@ use Rattle.mk_alloc.proofs.Vocabulary.{arith, false, is_begin, is_take, not, not
 use Rattle.mk_alloc.proofs.{Vocabulary.{refl, step_at, true, world_of, ◌||◌, ◌≡◌}, Stretches.{SomeKinds, does_once}}
 use Rattle.mk_alloc.proofs.{CalledTurns.GivenBack, ListParts.none_at, OwnGives.steps_are}
 use Rattle.mk_core.specs.Cycles.{is_give}
-use Rattle.mk_alloc.specs.Laws.{CallsSweepNothing, SweepNothingWhereHeld}
-use Rattle.mk_cycle.proofs.Begun.{begun_then, does_begin_none, finish_begins_none, nothing_begun}
+use Rattle.mk_alloc.specs.{Laws.{CallsSweepNothing, SweepNothingWhereHeld}, Underway.KeepsYet}
+use Rattle.mk_cycle.proofs.Begun.{begun_then, does_begin_none, finish_begins_none, left_then, nothing_begun}
+use Rattle.mk_caller.proofs.Below.Words.Made.{own_before}
+use Rattle.mk_cycle.{proofs.HeldFirst.step_holds, specs.Begun.HoldsFirst}
 use Rattle.mk_caller.proofs.Below.Words.Sweeping.{does_sweep, kinds_sweep, nothing_sweeps, other_step_sweeps}
 use Rattle.mk_caller.proofs.{Below.Words.Sweeping.{step_then_sweeps, sweeps_then}, Below.Words.TakesAlone.taking_does}
 use Rattle.mk_caller.specs.Below.Words.Sweeping.{HaveNoMark, SweepsNothing, is_mark}
@@ -94,9 +96,45 @@ module _ {sweeps : Bool} {begins : Config → Seat → List Event → List Event
       → PassKeeps sweeps begins q r → PassKeeps sweeps begins p r
   kinds_then apart d rest = part_then d (kinds_keep apart d) rest
 
+  -- A cycle that was begun may still be on,
+
+  pub still_yet : {p : PassState} → KeepsYet sweeps begins p p
+  still_yet {p} = record { reached = λ none. nothing_sweeps p; begun = nothing_begun begins p }
+
+  pub yet_then : {p q r : PassState} → q ≡ record p { seen = q.seen } → PassKeeps sweeps begins p q
+      → KeepsYet sweeps begins q r → KeepsYet sweeps begins p r
+  yet_then {p} {q} {r} same one two = record {
+    reached = λ none. sweeps_then p q r same (one.reached none) (two.reached none);
+    begun = begun_then begins p q r same one.begun two.begun;
+  }
+
+  pub keeps_yet : {p q : PassState} → q ≡ record p { seen = q.seen } → PassKeeps sweeps begins p q
+      → KeepsYet sweeps begins p q
+  keeps_yet same keeps = yet_then same keeps still_yet
+
+  pub kinds_yet : {kinds : SomeKinds} {p q r : PassState} → HaveNone kinds → Does kinds p q
+      → KeepsYet sweeps begins q r → KeepsYet sweeps begins p r
+  kinds_yet {p = p} {q = q} apart d rest = yet_then (only_seen p q d.more d.is) (kinds_keep apart d) rest
+
+  -- and then the close is wanted or the turn given back.
+  pub then_leaves : {p q r : PassState} → q ≡ record p { seen = q.seen } → KeepsYet sweeps begins p q
+      → PassKeeps sweeps begins q r → HoldsFirst q r → PassKeeps sweeps begins p r
+  then_leaves {p} {q} {r} same one two holds = record {
+    reached = λ none. sweeps_then p q r same (one.reached none) (two.reached none);
+    begun = left_then begins same one.begun two.begun holds;
+  }
+
   -- A turn from the wait for it to its `give`.
   pub turn_keeps : {o : Op} {a : Answer} {p taken done q : PassState} → GivenBack o a p taken done q
       → PassKeeps sweeps begins taken done → PassKeeps sweeps begins p q
   turn_keeps {o} {p = p} {taken} g inside =
       kinds_then {kinds = is_take} (λ x h. grind arith) (taking_does p (Some o) taken g.took.own g.took.takes)
       (part_then g.on.does inside (kinds_keep {kinds = is_give} (λ x h. grind arith) (does_once g.gives refl)))
+
+  -- also where a cycle that it began is left on
+  pub turn_keeps_yet : {o : Op} {a : Answer} {p taken done q : PassState} → GivenBack o a p taken done q
+      → KeepsYet sweeps begins taken done → PassKeeps sweeps begins p q
+  turn_keeps_yet {o} {p = p} {taken} {done} g inside =
+      kinds_then {kinds = is_take} (λ x h. grind arith) (taking_does p (Some o) taken g.took.own g.took.takes)
+      (then_leaves (only_seen taken done g.on.does.more g.on.does.is) inside
+      (kinds_keep {kinds = is_give} (λ x h. grind arith) (does_once g.gives refl)) (step_holds (own_before g.gives) g.gives refl))

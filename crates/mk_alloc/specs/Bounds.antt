@@ -12,9 +12,11 @@ use Rattle.mk_alloc.specs.TurnCycles.{TurnsOfAreExact, has_step}
 
 -- the words that are held after a list of events, and those of objects that were freed since the last `begin`
 
+-- the words held after these events
 abbrev pub held_after : Config → List Event → ℕ
 held_after c es = held_by_allocations c (left c es).allocations
 
+-- the words freed since the last `begin` after these events
 abbrev pub fresh_after : Config → List Event → ℕ
 fresh_after c es = fresh_words_of c (left c es).allocations
 
@@ -37,6 +39,7 @@ ReleasesInTurnOfBegin es =
     (b : At is_begin es) → has_step is_begin b.behind ≡ false → (r : At is_release b.behind)
     → has_step is_give r.before ≡ false
 
+-- If a cycle releases only in the turn of its `begin`, what is fresh is at most a quarter of what is held.
 abbrev pub FreshIsQuarterWhereReleasedInTurn : Config → List Event → Type 0
 FreshIsQuarterWhereReleasedInTurn c es = ReleasesInTurnOfBegin es → FreshIsQuarterOfHeld c es
 

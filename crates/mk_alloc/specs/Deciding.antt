@@ -31,6 +31,7 @@ pub record Counted : Type 0 where
   pub full : ℕ
   pub releases : ℕ
 
+-- the part of a world that a Free's counts need
 abbrev pub counted : Steady → Counted
 counted x = record {
   phase = x.phase;

@@ -20,6 +20,7 @@ pub record RunsCycle (on : Bool) (p q : PassState) : Type 0 where
   pub goes_on : on ≡ true → q ≡ begun
   pub stops : on ≡ false → FinishesCycle begun q
 
+-- A cycle is run if the Free is due, and otherwise nothing is done.
 pub record RunsIfDue (on due : Bool) (p q : PassState) : Type 0 where
   pub runs : due ≡ true → RunsCycle on p q
   pub rests : due ≡ false → q ≡ p

@@ -19,6 +19,7 @@ given_back_behind c w step.Begin n = 0
 given_back_behind c w step.Release n = n + words_given_back c w
 given_back_behind c w _ n = n
 
+-- the words given back, counted on from n
 unfoldable pub given_back_from : Config → World → ℕ → List Event → ℕ
 given_back_from c w n [] = n
 given_back_from c w n (e ∷ es) = given_back_from c (world_behind c w e) (given_back_behind c w e.step n) es

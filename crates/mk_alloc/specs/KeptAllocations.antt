@@ -34,8 +34,10 @@ KeptAreTouched c es =
 -- the storage words of the mapped allocations in quarantine, and of those of them that were freed before the last
 -- `begin`: where no cycle is on these are kept
 
+-- the words of mapped storage that is freed and not released
 abbrev pub quarantined_mapped : Config → List PlacedAllocation → ℕ
 quarantined_mapped c xs = sum_by (storage_words c) (filter (λ a. is_mapped c a && a.freed) xs)
 
+-- those of it that were freed before the last `begin`
 abbrev pub kept_mapped : Config → List PlacedAllocation → ℕ
 kept_mapped c xs = sum_by (storage_words c) (filter (λ a. is_mapped c a && a.freed && not a.fresh) xs)

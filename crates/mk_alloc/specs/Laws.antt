@@ -11,16 +11,19 @@ use Rattle.mk_alloc.specs.{TurnCalls.CalledInTurn, TurnCycles.TurnsOfAreExact}
 abbrev pub OwnAreExact : Bool → PassState → Type 0
 OwnAreExact on p = TurnsOfAreExact on p.table.config p.seat p.seen
 
+-- A caller's turns stay exact after a call that needs no turn.
 abbrev pub StayExactBehindCalls : Type 0
 StayExactBehindCalls =
     (on : Bool) (p : PassState) (o : Op) (a : Answer) (q : PassState) → Has p.seats p.seat → Called p o a q
     → OwnAreExact on p → OwnAreExact on q
 
+-- And after a try that finds its gate held.
 abbrev pub StayExactWhereHeld : Type 0
 StayExactWhereHeld =
     (on : Bool) (p : PassState) (o : Op) (q : PassState) → Has p.seats p.seat → FindsGateHeld p o q
     → OwnAreExact on p → OwnAreExact on q
 
+-- And after a New or a Free.
 abbrev pub StayExactBehindTurns : Type 0
 StayExactBehindTurns =
     (on : Bool) (p : PassState) (o : Op) (a : Answer) (q : PassState) → Has p.seats p.seat → CalledInTurn on p o a q
@@ -34,9 +37,11 @@ StayExactBehindOthers =
 
 -- A call with `enter` and `leave` takes no step that is a sweeping mark, nor does one that finds its gate held.
 
+-- A call that needs no turn makes no sweeping mark.
 abbrev pub CallsSweepNothing : Type 0
 CallsSweepNothing = (p : PassState) (o : Op) (a : Answer) (q : PassState) → Called p o a q → SweepsNothing p q
 
+-- Nor does a try that finds its gate held.
 abbrev pub SweepNothingWhereHeld : Type 0
 SweepNothingWhereHeld = (p : PassState) (o : Op) (q : PassState) → Has p.seats p.seat → FindsGateHeld p o q
     → SweepsNothing p q

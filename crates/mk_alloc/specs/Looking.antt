@@ -4,6 +4,7 @@ use Rattle.mk_core.specs.{declared.events.Word.Word, declared.seats.Stage.Stage}
 use Rattle.mk_core.specs.declared.events.Word.TheVariants as word
 use Rattle.mk_core.specs.declared.seats.Stage.TheVariants as stage
 
+-- a word that only the turn's holder changes
 abbrev pub is_steady_word : Word → Bool
 is_steady_word (word.Head p) = true
 is_steady_word (word.Used p) = true

@@ -40,18 +40,22 @@ HeldIsExact p = (now_of p).words.held ≡ held_by_allocations p.table.config (wo
 
 -- the object that its New creates, and the place that first fit gives it now
 
+-- the object of the New that is under way
 abbrev pub object_for : PassState → Object
 object_for p = object_made p.table.config (call_of p).op
 
+-- its first-fit place
 abbrev pub place_now_for : PassState → Option Place
 place_now_for p = place_after p.table.config p.seen (object_for p)
 
 -- kinds of step: looks, and those that serve a New besides
 
+-- it is a look
 abbrev pub is_look : Step → Bool
 is_look (step.Look x) = true
 is_look _ = false
 
+-- steps that place an object
 abbrev pub is_placing : Step → Bool
 is_placing (step.Look x) = true
 is_placing (step.Mark p v) = true
@@ -109,6 +113,7 @@ pub record IsGrantedAt (c : Config) (s : Seat) (place : Place) (w v : World) : T
 abbrev pub entry_for : PassState → Answer → List Decided
 entry_for p a = entry_of (caller_number p.seat) (call_of p).op (Some a)
 
+-- The object is granted at this place.
 abbrev pub IsGranted : PassState → Place → PassState → Type 0
 IsGranted p place q = ComesTo (serves_at (object_for p) place) p (IsGrantedAt p.table.config p.seat place (world_of p))
     (entry_for p answer.Done) q
@@ -138,10 +143,12 @@ pub record IsServed (p : PassState) (place : Place) (q : PassState) : Type 0 whe
 
 -- This many pages of the place have their headers; its cell may be taken.
 
+-- So many pages of the place have their headers.
 abbrev pub HasCarved : PassState → Place → ℕ → PassState → Type 0
 HasCarved p place n q = ComesTo (serves_at (object_for p) place) p
     (λ w. Carving p.table.config p.seat (object_for p) place (world_of p) w n) [] q
 
+-- The place's cell may be used now.
 abbrev pub MayTake : PassState → Place → PassState → Type 0
 MayTake p place q = ComesTo (serves_at (object_for p) place) p
     (IsCellReady p.table.config p.seat (object_for p) place (world_of p)) [] q

@@ -18,6 +18,7 @@ IsFreed n Null = ⊥
 IsFreed n (Num m) = ⊥
 IsFreed n (Ptr number ty offset) = (allocation_at n number).freed ≡ true
 
+-- the allocation after its free
 abbrev pub freed_and_fresh : PlacedAllocation → PlacedAllocation
 freed_and_fresh a = record a { freed = true; fresh = true }
 
@@ -56,6 +57,7 @@ freeing_kinds c xs (Ptr number ty offset) =
     if is_large (kinds_of c.types (placed_at xs number).ty) then is_freeing else is_freeing_small
 freeing_kinds c xs _ = is_loading
 
+-- the steps that free what this register points to
 abbrev pub kinds_for : PassState → ℕ → Step → Bool
 kinds_for p r = freeing_kinds p.table.config (world_of p).allocations (value_of p r)
 

@@ -54,6 +54,7 @@ pub record IsLoaded (p : PassState) : Type 0 where
   pub free : IsFreeAt p register (loaded_free register value)
   pub some : (value == 0) ≡ false
 
+-- the call's entry if its register is null
 abbrev pub entry_loaded : PassState → ℕ → List Decided
 entry_loaded p u = if u == 0 then entry_for p answer.Done else []
 
@@ -83,20 +84,25 @@ is_freeing (step.Wipe n) = true
 is_freeing (step.Tally n v) = true
 is_freeing _ = false
 
+-- The Free has loaded its register.
 abbrev pub HasLoaded : PassState → ℕ → ℕ → PassState → Type 0
 HasLoaded p r u q = ComesTo is_loading p (CallIsAt p.seat (loaded_free r u) (world_of p)) (entry_loaded p u) q
 
 -- A Free whose target's quarantine word was looked at: the freed bit decides it.
 
+-- the Free after its look at the quarantine word
 abbrev pub seen_free : Flight → Bool → Flight
 seen_free f double = if double then record f { stage = stage.Give } else f
 
+-- its answer, if the object was freed already
 abbrev pub answer_seen : Bool → Option Answer
 answer_seen double = if double then Some answer.Double else None
 
+-- its entry then
 abbrev pub entry_seen : PassState → Bool → List Decided
 entry_seen p double = if double then entry_for p answer.Double else []
 
+-- The Free has looked at the quarantine word.
 abbrev pub HasSeen : PassState → Cell → PassState → Type 0
 HasSeen p cell q =
     ComesTo is_loading p (CallIsAt p.seat (seen_free (call_of p) (is_freed (now_of p).words cell)) (world_of p))
@@ -122,6 +128,7 @@ pub record IsFreedAt (c : Config) (s : Seat) (cell : Cell) (w v : World) : Type 
   pub registers : (k r : ℕ) → s ≡ Caller k → r < 8 → register_word v.now.words k r ≡ register_word w.now.words k r
   pub gates : (j : ℕ) → is_held v.now.words j ≡ is_held w.now.words j
 
+-- The small object is freed.
 abbrev pub HasFreed : PassState → Cell → PassState → Type 0
 HasFreed p cell q =
     ComesTo is_freeing_small p (IsFreedAt p.table.config p.seat cell (world_of p)) (entry_for p answer.Done) q

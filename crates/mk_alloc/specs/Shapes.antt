@@ -6,6 +6,7 @@ use Rattle.mk_caller.specs.Below.Words.States.{PassState, WordsState, call_of, n
 use Rattle.mk_alloc.specs.{declared.objects.Grant.Grant, declared.objects.Shape.Shape}
 use Rattle.mk_alloc.specs.Placing.{GoesTo, HeldIsExact, object_for}
 
+-- an object of this shape
 abbrev pub object_shaped : Shape → Object
 object_shaped s = record { words = s.words; leaf = s.leaf }
 

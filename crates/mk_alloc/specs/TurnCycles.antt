@@ -10,6 +10,7 @@ use Rattle.mk_core.specs.declared.events.Step.TheVariants as step
 
 -- kinds of step
 
+-- it is a `want`
 abbrev pub is_want : Step → Bool
 is_want step.Want = true
 is_want _ = false
@@ -27,9 +28,11 @@ finishes step.Release = true
 finishes step.End = true
 finishes _ = false
 
+-- it begins, closes, releases or ends a cycle
 abbrev pub is_of_cycle : Step → Bool
 is_of_cycle s = is_begin s || finishes s
 
+-- it is a `grant`
 abbrev pub is_grant : Step → Bool
 is_grant step.Grant = true
 is_grant _ = false
@@ -40,6 +43,7 @@ lets_go step.Release = true
 lets_go (step.Quar p v) = true
 lets_go _ = false
 
+-- one of these events has a step of this kind
 abbrev pub has_step : (Step → Bool) → List Event → Bool
 has_step kind es = list_any (λ (e : Event). kind e.step) es
 
@@ -55,6 +59,7 @@ pub record IsDueIn {c : Config} {s : Seat} {es : List Event} (t : TurnOf c s es)
   pub is : t.behind ≡ before ++ event ∷ behind
   pub due : IsDue c (within_turn t before) event
 
+-- A cycle was on when the turn began.
 abbrev pub CycleIsOn : {c : Config} {s : Seat} {es : List Event} → TurnOf c s es → Type 0
 CycleIsOn {c = c} t = phase_of (left c t.before).now.words ≡ 1
 
@@ -92,6 +97,7 @@ pub record NewIsExact {c : Config} {s : Seat} {es : List Event} (t : TurnOf c s 
   pub one : RunsOneCycle t.behind
   pub keeps : (g : At is_grant t.behind) → has_step lets_go g.behind ≡ false
 
+-- The turn does with cycles just what its operation asks.
 abbrev pub CallIsExact : Bool → {c : Config} {s : Seat} {es : List Event} → TurnOf c s es → Option Op → Type 0
 CallIsExact on {c = c} t (Some (op.New d ty full)) = NewIsExact t (object_made c (op.New d ty full))
 CallIsExact on t (Some (op.Free p)) = FreeIsExact on t

@@ -4,6 +4,7 @@ use Rattle.std.specs.Prelude.{◌≡◌, ℕ, ◌<◌}
 use Rattle.mk_core.specs.{declared.events.Seat.Seat, declared.events.Seat.TheVariants.Caller, Words.register_word}
 use Rattle.mk_core.specs.{Frames.{OnlyGrow, steady_of}, History.World, Moments.{flight_of, is_held}}
 
+-- What the seat itself and the turn's holder change is as it was.
 pub record IsAsLeft (s : Seat) (w v : World) : Type 0 where
   pub call : flight_of v.now s ≡ flight_of w.now s
   pub holding : v.now.seats.holding ≡ w.now.seats.holding

@@ -9,7 +9,8 @@ use Rattle.mk_caller.specs.{Below.Words.TurnSteps.{IsFresh, turn_stays}, Below.W
 use Rattle.mk_caller.specs.Below.Words.Sweeping.{SweepsNothing}
 use Rattle.mk_alloc.specs.Placing.{IsOutOfStop, is_look}
 use Rattle.mk_caller.specs.{States.caller_of_pass, Called.own_calls}
-use Rattle.mk_cycle.specs.{Begun.EachIsBegun, EngineLaw.IsFreeForCycle, TurnKeeps.{KeepsGates, LeavesTurn, unchanged}}
+use Rattle.mk_cycle.specs.{Begun.{EachIsBegun, EachIsBegunYet}, EngineLaw.IsFreeForCycle}
+use Rattle.mk_cycle.specs.TurnKeeps.{KeepsGates, LeavesTurn, unchanged}
 use Rattle.mk_core.specs.declared.seats.Stage.TheVariants as stage
 
 -- Nothing is under way that a cycle or a `give` waits for, and the tallies are what they count.
@@ -49,8 +50,14 @@ pub record MayRunCycle (w : WordsState) (pages : ℕ) (p : PassState) : Type 0 w
   pub quiet : IsQuiet p
 
 -- What an engine keeps to from one to the other: where it doesn't sweep it makes no sweeping mark, and after each
--- `begin` it does its part.
+-- `begin` it does its part, and then nothing but holding gates comes before the close is wanted or the turn given back.
 pub record PassKeeps (sweeps : Bool) (begins : Config → Seat → List Event → List Event → Type 0) (p q : PassState)
     : Type 0 where
   pub reached : sweeps ≡ false → SweepsNothing p q
   pub begun : EachIsBegun begins p q
+
+-- So it keeps in a turn that goes on: a cycle that was begun may still be on.
+pub record KeepsYet (sweeps : Bool) (begins : Config → Seat → List Event → List Event → Type 0) (p q : PassState)
+    : Type 0 where
+  pub reached : sweeps ≡ false → SweepsNothing p q
+  pub begun : EachIsBegunYet begins p q

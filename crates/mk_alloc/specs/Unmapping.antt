@@ -54,6 +54,14 @@ pub record MayWipeGroup (w : WordsState) (p : PassState) (pages : ℕ) (run : Ru
   pub within : 8 * group + 8 ≤ 64 * run.count
   pub on_page : part ≡ group / 8
 
+-- This many groups of its words, all on this page of it, are next.
+pub record MayWipeGroups (w : WordsState) (p : PassState) (pages : ℕ) (run : RunPages) (part group count : ℕ) : Type 0
+  where
+    pub from : MayWipeFrom w p pages run (8 * group)
+    pub within : part < run.count
+    pub first : 8 * part ≤ group
+    pub last : group + count ≤ 8 * part + 8
+
 -- After steps of the call its words up to this one are 0.
 abbrev pub WipesTo : PassState → RunPages → ℕ → PassState → Type 0
 WipesTo p run n q = ComesTo is_clearing p (λ v. WipedTo p.seat run (world_of p) v n) [] q

@@ -1,6 +1,7 @@
 //! The cycle that a free begins where it is due.
 ghost use Rattle.std.specs.Prelude.{◌≡◌};
-ghost use Rattle.mk_alloc.specs.{DueCycles.{EndsOlder, RunsCycle, RunsIfDue}, Underway.{MayRunCycle, PassKeeps}};
+ghost use Rattle.mk_alloc.specs.DueCycles.{EndsOlder, RunsCycle, RunsIfDue};
+ghost use Rattle.mk_alloc.specs.Underway.{KeepsYet, MayRunCycle, PassKeeps};
 
 use crate::turns::is_cycle_on;
 use mk_caller::lower::words::{Turn, Words};
@@ -41,7 +42,7 @@ fn run_cycle<E: Engine, R: Threads + Wait + Sync>(
     requires may_run { MayRunCycle words.now (E.made_for engine.old) turn.pass }
     ensures made_for { E.made_for engine.new ≡ E.made_for engine.old }
     ensures runs { RunsCycle E.on turn.pass result.pass }
-    ensures keeps { PassKeeps E.sweeps E.begins turn.pass result.pass }
+    ensures keeps { KeepsYet E.sweeps E.begins turn.pass result.pass }
 {
     let mut turn = finish_older(rt, words, turn, engine);
     begin_cycle(rt, words, &mut turn, engine);
@@ -65,7 +66,7 @@ fn run_apart<E: Engine, R: Threads + Wait + Sync>(
     requires may_run { MayRunCycle words.now (E.made_for engine.old) turn.pass }
     ensures made_for { E.made_for engine.new ≡ E.made_for engine.old }
     ensures runs { RunsCycle E.on turn.pass result.pass }
-    ensures keeps { PassKeeps E.sweeps E.begins turn.pass result.pass }
+    ensures keeps { KeepsYet E.sweeps E.begins turn.pass result.pass }
 {
     run_cycle(rt, words, turn, engine)
 }
@@ -81,7 +82,7 @@ pub(crate) fn run_if_due<E: Engine, R: Threads + Wait + Sync>(
     requires may_run { MayRunCycle words.now (E.made_for engine.old) turn.pass }
     ensures made_for { E.made_for engine.new ≡ E.made_for engine.old }
     ensures runs { RunsIfDue E.on due turn.pass result.pass }
-    ensures keeps { PassKeeps E.sweeps E.begins turn.pass result.pass }
+    ensures keeps { KeepsYet E.sweeps E.begins turn.pass result.pass }
 {
     if due {
         run_apart(rt, words, turn, engine)

@@ -2,7 +2,7 @@
 ghost use Rattle.std.specs.Prelude.{◌≡◌, false};
 ghost use Rattle.mk_caller.specs.{Below.Words.States.now_of, Below.Words.Sweeping.SweepsNothing};
 ghost use Rattle.mk_alloc.specs.Placing.{OnlyLooks};
-ghost use Rattle.mk_cycle.specs.EngineLaw.{IsAtPhase};
+ghost use Rattle.mk_cycle.specs.{Begun.HoldsFirst, EngineLaw.IsAtPhase};
 ghost use Rattle.mk_core.specs.Effects.{cycle_ended};
 ghost use Rattle.mk_alloc.specs.Rooms.{BeginsNone, EndsOnly, IsPlacedOr, Misfits, MisfitsAtLast, MisfitsIdly};
 ghost use Rattle.mk_alloc.specs.{Rooms.{NeedsRoom, RunsOne, SeeksRoom}, Underway.PassKeeps};
@@ -44,6 +44,7 @@ fn finish_and_place<E: Engine, R: Threads + Wait + Sync>(
     ensures cycle { result.1 ≡ false → (now_of result.0.pass).seats.holding.cycle
         ≡ cycle_ended (now_of turn.pass).seats.holding.cycle }
     ensures ends { EndsOnly turn.pass result.0.pass }
+    ensures holds { HoldsFirst turn.pass result.0.pass }
     ensures keeps { PassKeeps E.sweeps E.begins turn.pass result.0.pass }
 {
     let (mut turn, _) = finish_cycle(rt, words, turn, engine);

@@ -1,7 +1,8 @@
 //! The words of the run of a large object that a Free has freed and unmapped are wiped. Most are 0 already, so those of
 //! a group are looked at together first. A word that is 0 isn't stored to.
 ghost use Rattle.std.specs.Prelude.{◌≡◌, ◌+◌, ◌*◌, ◌<◌, true};
-ghost use Rattle.mk_alloc.specs.{FreeParts.Wipes, Unmapping.{MayWipe, MayWipeFrom, MayWipeGroup, WipesTo}};
+ghost use Rattle.mk_alloc.specs.{FreeParts.Wipes, Unmapping.{MayWipe, MayWipeFrom, MayWipeGroup, MayWipeGroups}};
+ghost use Rattle.mk_alloc.specs.Unmapping.{WipesTo};
 
 use mk_caller::lower::words::{Turn, Words};
 use mk_core::{RunPages, Word};
@@ -68,16 +69,47 @@ fn wipe_group(words: &Words, turn: &mut Turn, pages: u64, run: RunPages, part: u
     wipe_words(words, turn, pages, run, part, group);
 }
 
-/// Wipes the words of a page of the run.
+/// Wipes what isn't 0 of two groups of words of the run, which stand on this page of it.
+#[inline(always)]
+fn wipe_two_groups(words: &Words, turn: &mut Turn, pages: u64, run: RunPages, part: u64, group: u64)
+    requires { MayWipeGroups words.now turn.old.pass pages run part group 2 }
+    ensures { WipesTo turn.old.pass run (8 * group + 16) turn.new.pass }
+{
+    words.is_within_limits();
+    wipe_group(words, turn, pages, run, part, group);
+    wipe_group(words, turn, pages, run, part, group + 1);
+}
+
+/// Wipes what isn't 0 of four groups of words of the run, which stand on this page of it.
+#[inline(always)]
+fn wipe_four_groups(
+    words: &Words,
+    turn: &mut Turn,
+    pages: u64,
+    run: RunPages,
+    part: u64,
+    group: u64,
+)
+    requires { MayWipeGroups words.now turn.old.pass pages run part group 4 }
+    ensures { WipesTo turn.old.pass run (8 * group + 32) turn.new.pass }
+{
+    words.is_within_limits();
+    wipe_two_groups(words, turn, pages, run, part, group);
+    wipe_two_groups(words, turn, pages, run, part, group + 2);
+}
+
+/// Wipes the words of a page of the run. There is no loop over its groups, so that no count of them is kept and each
+/// word's place on the page is known.
 #[inline(always)]
 fn wipe_page(words: &Words, turn: &mut Turn, pages: u64, run: RunPages, part: u64)
     requires from { MayWipeFrom words.now turn.old.pass pages run (64 * part) }
     requires part { part < run.count }
     ensures { WipesTo turn.old.pass run (64 * part + 64) turn.new.pass }
 {
-    for group in PAGE_GROUPS * part..PAGE_GROUPS * part + PAGE_GROUPS {
-        wipe_group(words, turn, pages, run, part, group);
-    }
+    words.is_within_limits();
+    let group = PAGE_GROUPS * part;
+    wipe_four_groups(words, turn, pages, run, part, group);
+    wipe_four_groups(words, turn, pages, run, part, group + 4);
 }
 
 /// Wipes the words of the run that the call has freed and unmapped.

@@ -39,6 +39,7 @@ abbrev pub with_header : List Page → ℕ → ℕ → List Page
 with_header pages number header =
     slice_set pages number (record { header = header; used = (page_at pages number).used })
 
+-- the pages, with this used word on one of them
 abbrev pub with_used : List Page → ℕ → ℕ → List Page
 with_used pages number used =
     slice_set pages number (record { header = (page_at pages number).header; used = used })

@@ -4,6 +4,7 @@ use Rattle.std.specs.Prelude.{Some, None, is_some}
 use Rattle.mk_geom.specs.{declared.pages.Page.Page, PageUses.{PageUse, is_free_page, cells_taken, first_where}}
 use Rattle.mk_geom.specs.{PageWords.use_of_page, Storages.free_page}
 
+-- page number, free if there is none
 abbrev pub page_at : List Page → ℕ → Page
 page_at pages number = slice_index_or pages number free_page
 

@@ -1,18 +1,24 @@
 -- How a page map keeps its sets of pages: as bits, 64 pages in a word. A set has a summary, whose bit k is 1 if its
 -- word k isn't 0, and then 64 words.
 use Rattle.std.specs.Prelude.{◌≡◌, ℕ, ◌+◌, ◌*◌, ◌/◌, ◌%◌, ◌<◌, ◌≤◌, Bool, false, not, ◌==◌, nat_le, nat_lt, List}
+use Rattle.std.specs.Prelude.{Option, Some, true}
 use Rattle.std.specs.{Prelude.{length, slice_index, if◌then◌else◌, map}, Int.bit_at, List.range_with_len}
 use Rattle.mk_geom.specs.{declared.pages.Page.Page, PageUses.{PageUse, Nothing, Cells, PartOfRun, is_free_page}}
 use Rattle.mk_geom.specs.{PageUses.resident_pages, PageWords.{use_of_page, uses_of_pages, bits_of}, Classes.cells_of}
 use Rattle.mk_books.specs.{Members.{page_at, has_free_cell}, declared.kinds.PageKind.PageKind}
 use Rattle.mk_books.specs.declared.kinds.PageKind.TheVariants.{Free, Block, Run}
+use Rattle.mk_geom.specs.declared.headers.Header.{Header}
+use Rattle.mk_geom.specs.declared.headers.Header.TheVariants as header
 
+-- word number word of a set: 64 pages, a bit each
 abbrev pub word_in_set : List ℕ → ℕ → ℕ → ℕ
 word_in_set sets set word = slice_index sets (65 * set + 1 + word)
 
+-- the set's summary: a bit for each of its words that isn't 0
 abbrev pub summary_of : List ℕ → ℕ → ℕ
 summary_of sets set = slice_index sets (65 * set)
 
+-- the page is in the set
 abbrev pub is_member : List ℕ → ℕ → ℕ → Bool
 is_member sets set number = bit_at (word_in_set sets set (number / 64)) (number % 64) == 1
 
@@ -99,6 +105,14 @@ use_of_kind Free used = Nothing
 use_of_kind (Block class leaf) used = Cells class leaf (bits_of (cells_of class) used)
 use_of_kind (Run mapped) used = PartOfRun mapped
 
+-- the page is one of a mapped run
+abbrev pub is_mapped_run : Option Header → Bool
+is_mapped_run (Some (header.Run pages mapped)) = mapped
+is_mapped_run (Some (header.Later distance mapped)) = mapped
+is_mapped_run (Some (header.LeafRun pages)) = true
+is_mapped_run _ = false
+
+-- a block's class is one of the eight
 abbrev pub HasClass : PageKind → Type 0
 HasClass Free = Unit {0}
 HasClass (Block class leaf) = class < 8

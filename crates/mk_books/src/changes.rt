@@ -11,6 +11,7 @@ use mk_geom::Page;
 
 impl PageMap {
     /// A page's header word was stored. A page that becomes free may still be marked, so it is to be cleaned.
+    #[inline(always)]
     pub fn header_stored(&mut self, page: u64, header: u64)
         requires { page < length self.old.pages }
         ensures shows { (pages : List Page) (freed : List ℕ) → Shows self.old pages freed
@@ -32,6 +33,7 @@ impl PageMap {
     }
 
     /// A page's used word was stored.
+    #[inline(always)]
     pub fn used_stored(&mut self, page: u64, used: u64)
         requires { page < length self.old.pages }
         ensures shows { (pages : List Page) (freed : List ℕ) → Shows self.old pages freed

@@ -2,9 +2,9 @@
 ghost use Rattle.std.specs.Prelude.{◌≡◌, ℕ, ◌<◌, ◌==◌, is_some, not};
 ghost use Rattle.mk_geom.specs.{Classes.cells_of, Headers.header_of, PageUses.first_where};
 ghost use Rattle.mk_geom.specs.{PageUses.is_free_page, PageUses.is_resident_page, PageWords.{bits_of, use_under}};
-ghost use Rattle.mk_books.specs.PageSets.{HasClass, use_of_kind};
+ghost use Rattle.mk_books.specs.PageSets.{HasClass, is_mapped_run, use_of_kind};
 
-use mk_geom::{Header, cells, decode};
+use mk_geom::cells;
 
 /// What a page is by its header word. A page whose header is no header word counts as one of an unmapped run.
 #[derive(Clone, Copy)]
@@ -14,19 +14,45 @@ pub(crate) enum PageKind {
     Run { mapped: bool },
 }
 
+/// Whether the header word is that of a mapped run's page. Its head has kind 9, or 14 in a leaf run, and the others 10.
+#[inline(always)]
+fn is_mapped(word: u64) -> bool
+    ensures { result ≡ is_mapped_run (header_of word) }
+{
+    let kind = word % 16;
+    if !matches!(kind, 9 | 10 | 14) {
+        return false;
+    }
+    // A run has 64 pages at most, of which one is its head.
+    let most = if kind == 10 { 63 } else { 64 };
+    (1..=most).contains(&(word / 16))
+}
+
+/// The kind of a page with this header word. Mapped runs come before leaf blocks, and what is left is an unmapped run,
+/// whatever its number of pages: so pages of runs are told apart in few steps.
+#[inline(always)]
 pub(crate) fn kind_of(header: u64) -> PageKind
     ensures class { HasClass result }
     ensures free { (used : ℕ) → is_free_page (use_of_kind result used) ≡ (header == 0) }
     ensures kind { (used : ℕ) → use_under (header_of header) used ≡ use_of_kind result used }
 {
-    match decode(header) {
-        None => PageKind::Run { mapped: false },
-        Some(Header::Free) => PageKind::Free,
-        Some(Header::Block(class)) => PageKind::Block { class, leaf: false },
-        Some(Header::LeafBlock(class)) => PageKind::Block { class, leaf: true },
-        Some(Header::Run { mapped, .. } | Header::Later { mapped, .. }) => PageKind::Run { mapped },
-        Some(Header::LeafRun { .. }) => PageKind::Run { mapped: true },
+    if header == 0 {
+        return PageKind::Free;
     }
+    if header <= 8 {
+        return PageKind::Block {
+            class: header - 1,
+            leaf: false,
+        };
+    }
+    if is_mapped(header) {
+        return PageKind::Run { mapped: true };
+    }
+    let class = header / 16;
+    if header % 16 == 13 && class < 8 {
+        return PageKind::Block { class, leaf: true };
+    }
+    PageKind::Run { mapped: false }
 }
 
 impl PageKind {

@@ -39,6 +39,7 @@ stages_made o answer.Null = up_to stage.LoadQ (steps_of o) ++ refused_from (stag
 stages_made o answer.Fault = up_to stage.Probe (steps_of o) ++ refused_from (stage_refused o)
 stages_made o _ = steps_of o
 
+-- the steps of a call with this answer, from its `enter` on
 abbrev pub steps_made : Op → Answer → List Step
 steps_made o a = step.Enter o ∷ map step_at (stages_made o a)
 

@@ -19,6 +19,7 @@ pub record Probes (p : PassState) (o : Op) (q : PassState) (t : Target) : Type 0
   pub is : q.seen ≡ p.seen ++ before ++ event_of p step.Probe ∷ behind
   pub gets_to : target_of (never_then p before) (value_of p (q_of o)) (i_of o) ≡ t
 
+-- The call probed a word of an allocation.
 pub record ProbesAWord (p : PassState) (o : Op) (q : PassState) : Type 0 where
   pub number : ℕ
   pub place : ℕ

@@ -69,6 +69,7 @@ pub record IsUnderway (p : PassState) : Type 0 where
   pub admits : is_past_decision (call_of p).stage ≡ false → Admits p (call_of p).op
   pub page : (call_of p).stage ≡ stage.Dirty → is_word_met p.table.config (call_of p) ≡ true
 
+-- The call was decided with this answer among these events; if there is none, it left the registers as they were.
 abbrev pub IsDecidedAs : PassState → Op → Option Answer → List Event → Type 0
 IsDecidedAs p o None more = KeepsRegisters (caller_of_pass p) (never_of p) (never_behind p.table.config (p.seen
     ++ more))
@@ -95,30 +96,39 @@ CallMoves p o s x q = IsAtFlight p o (s ∷ []) x.answer x.flight q
 
 -- how a call begins, and goes on by its steps
 
+-- the call after its `enter`
 abbrev pub begins : Op → Progress
 begins o = record { flight = begun o; answer = None }
 
+-- the call after a register was loaded with this value
 abbrev pub loads : ℕ → Flight → Progress
 loads value f = progress_reg f f.stage value
 
+-- the call after a global was loaded
 abbrev pub loads_global : ℕ → Flight → Progress
 loads_global value f = progress_getg f value
 
+-- the call after a step that decides nothing
 abbrev pub passes : Flight → Progress
 passes f = onward f None
 
+-- the call after a probe that found an unmapped run
 abbrev pub faults : Flight → Progress
 faults f = refused f answer.Fault
 
+-- the call after its word was loaded
 abbrev pub reads : ℕ → Flight → Progress
 reads value f = progress_read f f.op value
 
+-- the call after its word was stored
 abbrev pub writes : Flight → Progress
 writes f = onward f (Some answer.Done)
 
+-- the call after its exchange, which did it or didn't
 abbrev pub exchanges : Bool → Flight → Progress
 exchanges did f = onward f (Some (answer.Num (one_if did)))
 
+-- the call after its `leave`
 abbrev pub call_ends : Flight → Progress
 call_ends f = record { flight = at_rest; answer = None }
 

@@ -8,6 +8,7 @@ use Rattle.mk_core.specs.declared.seats.Flight.{Flight}
 use Rattle.mk_words.specs.{OneProof.pass_prop, States.{WordsState, IsPass, PassState, call_of}}
 use denote.Struct.Props.{props}
 
+-- the caller whose pass it is
 abbrev pub caller_of_pass : PassState → ℕ
 caller_of_pass p = caller_number p.seat
 
@@ -59,14 +60,17 @@ IsPassOfCaller w k p = (p.table ≡ w) × (k ≡ caller_of_pass p)
 
 -- What a caller is made of: its words, its number and its pass, if that is home.
 
+-- the pass, or one that has seen nothing while it is away
 abbrev pub pass_of : WordsState → ℕ → Option PassState → PassState
 pass_of w k (Some p) = p
 pass_of w k None = record { table = w; seat = Caller k; seats = []; seen = [] }
 
+-- The pass is of these words and this caller.
 pub record IsOfCaller (w : WordsState) (k : ℕ) (x : Option PassState) : Type 0 where
   pub table : (pass_of w k x).table ≡ w
   pub seat : (pass_of w k x).seat ≡ Caller k
 
+-- What holds of a pass that is at home.
 abbrev pub HasHome : WordsState → ℕ → Option PassState → Type 0
 HasHome w k x = is_some x ≡ true → IsHomePass (pass_of w k x)
 
@@ -87,8 +91,10 @@ home_pass_prop p x y i = record {
     call_prop : (f : Flight) → IsProp (f ≡ at_rest)
     call_prop f = hlevel (codes, props)
 
+-- That it holds has one proof.
 pub home_prop : (home : Bool) (p : PassState) → IsProp (home ≡ true → IsHomePass p)
 home_prop home p = hlevel (props, home_pass_prop)
 
+-- So has that it holds of what a caller has.
 pub made_prop : (w : WordsState) (k : ℕ) (x : Option PassState) → IsProp (HasHome w k x)
 made_prop w k x = home_prop (is_some x) (pass_of w k x)

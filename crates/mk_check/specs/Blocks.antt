@@ -19,6 +19,7 @@ followed_by (Line line item rest) more = Line line item (followed_by rest more)
 followed_by (Rounds rounds body rest) more = Rounds rounds body (followed_by rest more)
 followed_by (Choice number first second rest) more = Choice number first second (followed_by rest more)
 
+-- no line is left of the block
 abbrev pub is_end_of_block : Blocks → Bool
 is_end_of_block Done = true
 is_end_of_block (Line line item rest) = false
@@ -46,6 +47,7 @@ pub record Part : Type 0 where
   pub blocks : Blocks
   pub second : Option Blocks
 
+-- a block without lines
 abbrev pub no_lines : Part
 no_lines = record { blocks = Done; second = None }
 
@@ -60,6 +62,7 @@ with_repeat rounds [] = []
 with_repeat rounds (body ∷ []) = []
 with_repeat rounds (body ∷ part ∷ parts) = record part { blocks = Rounds rounds body.blocks part.blocks } ∷ parts
 
+-- the blocks of a branch, none if there is no such branch
 abbrev pub branch : Option Blocks → Blocks
 branch None = Done
 branch (Some blocks) = blocks
@@ -76,6 +79,7 @@ abbrev pub with_else : List Part → List Part
 with_else [] = []
 with_else (second ∷ parts) = record { blocks = Done; second = Some second.blocks } ∷ parts
 
+-- the open blocks after one line more
 abbrev pub with_item : ℕ → Item → List Part → List Part
 with_item line (Repeat rounds) parts = with_repeat rounds parts
 with_item line (If number) parts = with_if number parts
@@ -88,6 +92,7 @@ abbrev pub parts_from : ℕ → List Item → List Part
 parts_from line [] = no_lines ∷ []
 parts_from line (item ∷ items) = with_item line item (parts_from (line + 1) items)
 
+-- the blocks of the whole script
 abbrev pub outermost_blocks : List Part → Blocks
 outermost_blocks [] = Done
 outermost_blocks (part ∷ parts) = part.blocks

@@ -12,6 +12,7 @@ pub record StepPart : Type 0 where
   pub steps : Steps
   pub second : Steps
 
+-- an open block, with numbers for its names
 abbrev pub part_of : Scope → blocks.Part → StepPart
 part_of scope part = record { steps = numbered scope part.blocks; second = numbered scope (branch part.second) }
 
@@ -32,6 +33,7 @@ with_element line element.Else [] = []
 with_element line element.Else (second ∷ parts) = record { steps = Done; second = second.steps } ∷ parts
 with_element line element.End parts = record { steps = Done; second = Done } ∷ parts
 
+-- what was read of the innermost open block
 abbrev pub innermost_steps : List StepPart → Steps
 innermost_steps [] = Done
 innermost_steps (part ∷ parts) = part.steps
@@ -50,6 +52,7 @@ pub record Built : Type 0 where
   pub nodes : List Node
   pub parts : List Part
 
+-- an open block, whose blocks are these nodes
 abbrev pub part_at : List Steps → Part → StepPart
 part_at built part = record { steps = steps_at built part.steps; second = steps_at built part.second }
 
@@ -57,9 +60,11 @@ part_at built part = record { steps = steps_at built part.steps; second = steps_
 abbrev pub parts_at : List Steps → List Part → List StepPart
 parts_at built parts = fold (λ behind part. part_at built part ∷ behind) [] parts
 
+-- the open blocks of a tree that is being built
 abbrev pub parts_in : Built → List StepPart
 parts_in b = parts_at (trees b.nodes) b.parts
 
+-- The open blocks name nodes that are there.
 abbrev pub PartsAreWithin : ℕ → List Part → Type 0
 PartsAreWithin count [] = Unit {0}
 PartsAreWithin count (part ∷ parts) = (part.steps < count) × (part.second < count) × PartsAreWithin count parts
@@ -70,6 +75,7 @@ pub record IsSoundlyBuilt (b : Built) : Type 0 where
   pub first : steps_at (trees b.nodes) 0 ≡ Done
   pub parts : PartsAreWithin (length b.nodes) b.parts
 
+-- one open block more
 abbrev pub with_part : Built → ℕ → ℕ → Built
 with_part b steps second = record b { parts = b.parts ++ record { steps = steps; second = second } ∷ [] }
 

@@ -6,6 +6,7 @@ use Rattle.mk_script.specs.{declared.items.Item.Item, declared.items.Item.TheVar
 use Rattle.mk_script.specs.Scopes.{is_instruction}
 use Rattle.mk_check.specs.{declared.lengths.PartCount.PartCount, Blocks.{Part, branch}, Lengths.length_of}
 
+-- the count, at most 2^64 - 1
 abbrev pub saturated_count : ℕ → ℕ
 saturated_count n = min n (2 ^ 64 - 1)
 
@@ -17,16 +18,20 @@ count_of part =
       second = saturated_count (length_of (branch part.second));
     }
 
+-- what is counted of each open block
 abbrev pub counts_of : List Part → List PartCount
 counts_of parts = map count_of parts
 
+-- nothing counted yet
 abbrev pub no_count : PartCount
 no_count = record { lines = 0; second = 0 }
 
+-- the count of the innermost open block
 abbrev pub innermost_count : List PartCount → PartCount
 innermost_count [] = no_count
 innermost_count (count ∷ counts) = count
 
+-- those of the blocks around it
 abbrev pub outer_counts : List PartCount → List PartCount
 outer_counts [] = []
 outer_counts (count ∷ counts) = counts
@@ -48,6 +53,7 @@ with_second counts = with_innermost (λ count. record { lines = 0; second = coun
 abbrev pub if_count : PartCount → ℕ
 if_count branches = saturated_count (1 + max branches.lines branches.second)
 
+-- the instructions that a `repeat` executes
 abbrev pub repeat_count : ℕ → PartCount → ℕ
 repeat_count rounds body = saturated_count (1 + rounds * (1 + body.lines))
 

@@ -8,10 +8,12 @@ use Rattle.mk_script.specs.Scopes.{type_names, script_names}
 use Rattle.mk_core.specs.declared.config.Config.{Config}
 use Rattle.mk_never.specs.declared.types.Kind.TheVariants.{Num as NumKind, To}
 
+-- the place of a name among these; after them if it isn't one
 abbrev pub number_of_name : List ℕ → List (List ℕ) → ℕ
 number_of_name name [] = 0
 number_of_name name (other ∷ others) = if bytes_eq name other then 0 else number_of_name name others + 1
 
+-- the kind of a word of a type
 abbrev pub kind_of : List (List ℕ) → TypeWord → Kind
 kind_of types Number = NumKind
 kind_of types (Pointer at) = To (number_of_name at.name types) at.offset
@@ -31,6 +33,7 @@ abbrev pub kinds_among : List (List ℕ) → List Item → List (List Kind)
 kinds_among types items =
     map (λ (t : List ℕ × List TypeWord). map (kind_of types) t.1) (filter_map declared_words items)
 
+-- the types that are declared, in order
 abbrev pub types_of : List Item → List (List Kind)
 types_of items = kinds_among (type_names items) items
 
@@ -38,6 +41,7 @@ types_of items = kinds_among (type_names items) items
 abbrev pub globals_among : List (List ℕ) → List Item → List ℕ
 globals_among types items = map (λ (g : List ℕ × List ℕ). number_of_name g.1 types) (filter_map declared_type items)
 
+-- the type of each global, in order
 abbrev pub globals_of : List Item → List ℕ
 globals_of items = globals_among (type_names items) items
 
@@ -47,6 +51,7 @@ pages_of [] = 0
 pages_of (Heap pages resident ∷ items) = pages
 pages_of (item ∷ items) = pages_of items
 
+-- how many pages may be resident
 abbrev pub resident_of : List Item → ℕ
 resident_of [] = 0
 resident_of (Heap pages resident ∷ items) = resident

@@ -29,12 +29,15 @@ pub record Fed : Type 0 where
   pub ops : List Op
   pub text : List ℕ
 
+-- the register of a pointer's name
 abbrev pub pointer_place : Scope → List ℕ → ℕ
 pointer_place scope name = number_of_name name scope.pointers
 
+-- what the number register of this name holds
 abbrev pub number_in : Scope → Fed → List ℕ → ℕ
 number_in scope fed name = slice_index fed.numbers (number_of_name name scope.numbers)
 
+-- the script, with this number there
 abbrev pub fed_with_number : Scope → Fed → List ℕ → ℕ → Fed
 fed_with_number scope fed name value = record fed {
   numbers =
@@ -80,6 +83,7 @@ op_of scope fed (If number) = None
 op_of scope fed Else = None
 op_of scope fed End = None
 
+-- the byte that ends a line
 abbrev pub newline : List ℕ
 newline = 10 ∷ []
 
@@ -134,6 +138,7 @@ is_refusal answer.Fault = true
 is_refusal answer.Null = true
 is_refusal answer.Double = true
 
+-- what is printed of a refused instruction
 abbrev pub refusal_line : ℕ → List ℕ → List ℕ
 refusal_line line [] = []
 refusal_line line (byte ∷ bytes) = decimal line ++ (codes ": " ++ (byte ∷ bytes ++ newline))
@@ -158,6 +163,7 @@ with_answer scope fed (Isnull number pointer) a = fed_with_number scope fed numb
 with_answer scope fed (Show pointer) a = record fed { text = fed.text ++ show_text (answered_number a) }
 with_answer scope fed item a = fed
 
+-- the script after an answer: its operation is noted, and a refusal printed
 abbrev pub note : Fed → Option Op → ℕ → Answer → Fed
 note fed None line a = fed
 note fed (Some o) line a =
@@ -170,10 +176,12 @@ take_answer scope fed (Line line item rest) a =
     run scope rest (with_answer scope (note fed (op_of scope fed item) line a) item a)
 take_answer scope fed blocks a = fed
 
+-- the script after these answers
 abbrev pub take_answers : Scope → Fed → List Answer → Fed
 take_answers scope fed [] = fed
 take_answers scope fed (a ∷ more) = take_answers scope (take_answer scope fed fed.left a) more
 
+-- the names that are declared for a script
 abbrev pub scope_of : List Item → List Item → Scope
 scope_of program script = record {
   types = type_names program;
@@ -197,6 +205,7 @@ fed_before_lines scope script =
 abbrev pub fed_before_answers : Scope → ScriptText → Fed
 fed_before_answers scope script = run scope (blocks_from script.line script.items) (fed_before_lines scope script)
 
+-- the script, fed with these answers
 abbrev pub feed_script : Scope → ScriptText → List Answer → Fed
 feed_script scope script answers = take_answers scope (fed_before_answers scope script) answers
 

@@ -10,5 +10,6 @@ length_of (Line line item rest) = (if is_instruction item then 1 else 0) + lengt
 length_of (Rounds rounds body rest) = 1 + rounds * (1 + length_of body) + length_of rest
 length_of (Choice number first second rest) = 1 + max (length_of first) (length_of second) + length_of rest
 
+-- how many instructions a script executes at most
 abbrev pub script_length : ScriptText → ℕ
 script_length script = length_of (blocks_from script.line script.items)

@@ -12,6 +12,7 @@ pub record Reading : Type 0 where
   pub program : List Item
   pub count : ℕ
 
+-- the program and the script around the line that is read
 abbrev pub around : Reading → Around
 around reading = record { program = reading.program; script = this_script (take reading.count reading.program) }
 

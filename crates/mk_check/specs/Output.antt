@@ -14,6 +14,7 @@ ends_call step.Leave = true
 ends_call step.Give = true
 ends_call _ = false
 
+-- the event ends a call of this script
 abbrev pub ends_call_of : ℕ → Event → Bool
 ends_call_of k e = is_same_seat (Caller k) e.seat && ends_call e.step
 

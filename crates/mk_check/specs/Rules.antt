@@ -5,6 +5,7 @@ use Rattle.mk_script.specs.{declared.items.At.At, declared.items.Item.Item}
 use Rattle.mk_check.specs.{declared.places.Place.Place, declared.typing_faults.TypeKind.TypeKind}
 use Rattle.mk_check.specs.Typing.{Around, typing_fault}
 
+-- the word that is named
 abbrev pub at_of : Place → At
 at_of place = record { name = place.name.now; offset = place.offset }
 

@@ -10,6 +10,7 @@ use Rattle.mk_check.specs.Steps.{asks_first, is_asking, is_show, keeping_registe
 use Rattle.mk_check.specs.declared.feeding.tree.Node.TheVariants as node
 use Rattle.mk_check.specs.declared.feeding.tree.Sequel.TheVariants as sequel
 
+-- the nodes of these spots
 abbrev pub nodes_of : List Spot → List Node
 nodes_of spots = map (λ (s : Spot). s.node) spots
 
@@ -34,6 +35,7 @@ sequel_to (node.Line line instruction next) = if is_asking instruction then sequ
 sequel_to (node.Rounds rounds body next) = sequel.Begins
 sequel_to (node.Choice number first second next) = sequel.Other
 
+-- nothing is known of what comes next
 abbrev pub no_sequels : Sequels
 no_sequels = record { next = 0; register = 0; unkept = sequel.Other; kept = sequel.Other }
 

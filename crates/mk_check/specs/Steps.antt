@@ -33,12 +33,14 @@ then_steps (Line line instruction rest) more = Line line instruction (then_steps
 then_steps (Rounds rounds body rest) more = Rounds rounds body (then_steps rest more)
 then_steps (Choice number first second rest) more = Choice number first second (then_steps rest more)
 
+-- no line is left
 abbrev pub none_left : Steps → Bool
 none_left Done = true
 none_left (Line line instruction rest) = false
 none_left (Rounds rounds body rest) = false
 none_left (Choice number first second rest) = false
 
+-- the register of a number's name
 abbrev pub number_place : Scope → List ℕ → ℕ
 number_place scope name = number_of_name name scope.numbers
 
@@ -152,9 +154,11 @@ op_asked numbers (Same p q number) = Some (op.Same p q)
 op_asked numbers (IsNull p number) = Some (op.IsNull p)
 op_asked numbers (Show p) = Some (op.IsNull p)
 
+-- the registers, with this number in one
 abbrev pub with_value : KeptState → ℕ → ℕ → KeptState
 with_value kept number value = record kept { numbers = slice_set kept.numbers number value }
 
+-- the script's text, with this after it
 abbrev pub with_text : KeptState → List ℕ → KeptState
 with_text kept text = record kept { text = kept.text ++ text }
 
@@ -259,6 +263,7 @@ keeping_register (Same p q number) = Some number
 keeping_register (IsNull p number) = Some number
 keeping_register instruction = None
 
+-- it is a `show`
 abbrev pub is_show : Instruction → Bool
 is_show (Show p) = true
 is_show instruction = false

@@ -19,6 +19,7 @@ steps_from built (node.Rounds rounds body next) = Rounds rounds (steps_at built 
 steps_from built (node.Choice number first second next) =
     Choice number (steps_at built first) (steps_at built second) (steps_at built next)
 
+-- the trees of the nodes, with one more
 abbrev pub with_node : List Steps → Node → List Steps
 with_node built n = built ++ steps_from built n ∷ []
 
@@ -33,6 +34,7 @@ IsBelow place (node.Line line instruction next) = next < place
 IsBelow place (node.Rounds rounds body next) = (body < place) × (next < place)
 IsBelow place (node.Choice number first second next) = (first < place) × (second < place) × (next < place)
 
+-- the node at this place
 abbrev pub node_at : List Node → ℕ → Node
 node_at nodes at = slice_index_or nodes at node.Done
 
@@ -61,9 +63,11 @@ behind_frames built frames = fold (frame_steps built) Done frames
 abbrev pub left_in : List Node → Place → Steps
 left_in nodes p = then_steps (steps_at (trees nodes) p.at) (behind_frames (trees nodes) p.frames)
 
+-- the registers and the text of a place
 abbrev pub kept_in : Place → KeptState
 kept_in p = record { numbers = p.numbers; text = p.text }
 
+-- the place, with these
 abbrev pub with_kept : Place → KeptState → Place
 with_kept p kept = record p { numbers = kept.numbers; text = kept.text }
 
@@ -71,10 +75,12 @@ with_kept p kept = record p { numbers = kept.numbers; text = kept.text }
 abbrev pub stopped_in : List Node → Place → Stopped
 stopped_in nodes p = record { left = left_in nodes p; kept = kept_in p }
 
+-- The open block names nodes that are there.
 abbrev pub FrameIsWithin : ℕ → Frame → Type 0
 FrameIsWithin count (frame.Rounds rounds body next) = (body < count) × (next < count)
 FrameIsWithin count (frame.Branch next) = next < count
 
+-- So do all open blocks.
 abbrev pub FramesAreWithin : ℕ → List Frame → Type 0
 FramesAreWithin count [] = Unit {0}
 FramesAreWithin count (f ∷ frames) = FrameIsWithin count f × FramesAreWithin count frames
@@ -97,6 +103,7 @@ FrameFits built around (frame.Rounds rounds body next) =
     (around + 1 + depth_of (steps_at built body) ≤ 32) × (around + depth_of (steps_at built next) ≤ 32)
 FrameFits built around (frame.Branch next) = around + depth_of (steps_at built next) ≤ 32
 
+-- The open blocks fit the trees in which they are.
 abbrev pub FramesFit : List Steps → ℕ → List Frame → Type 0
 FramesFit built around [] = Unit {0}
 FramesFit built around (f ∷ frames) = FrameFits built around f × FramesFit built (around + 1) frames
@@ -160,6 +167,7 @@ node_to_go_on (node.Line line instruction next) at block = at
 node_to_go_on (node.Rounds rounds body next) at block = at
 node_to_go_on (node.Choice number first second next) at block = at
 
+-- the node with which a block goes on
 abbrev pub resumed_node : List Node → Place → ℕ
 resumed_node nodes p = node_to_go_on (node_at nodes p.at) p.at (innermost p.frames)
 
@@ -170,6 +178,7 @@ work_of (Line line instruction rest) = 1 + work_of rest
 work_of (Rounds rounds body rest) = 1 + (rounds * (1 + work_of body) + work_of rest)
 work_of (Choice number first second rest) = 1 + (max (work_of first) (work_of second) + work_of rest)
 
+-- what is left to do from this place on, as a number
 abbrev pub work_in : List Node → Place → ℕ
 work_in nodes p = 2 * work_of (left_in nodes p) + length p.frames
 

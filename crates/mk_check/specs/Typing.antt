@@ -22,9 +22,11 @@ abbrev pub value_of : {X : Type 0} → List ℕ → List (List ℕ × X) → Opt
 value_of name [] = None
 value_of name (one ∷ others) = if bytes_eq name one.0 then Some one.1 else value_of name others
 
+-- the words of a type, if it is declared
 abbrev pub type_words : List ℕ → List Item → Option (List TypeWord)
 type_words name items = value_of name (filter_map declared_words items)
 
+-- the type of a global, if it is declared
 abbrev pub global_type : List ℕ → List Item → Option (List ℕ)
 global_type name items = value_of name (filter_map declared_type items)
 
@@ -33,6 +35,7 @@ abbrev pub declared_place : Item → Option (List ℕ × At)
 declared_place (Ptr name at) = Some (name, at)
 declared_place item = None
 
+-- what a pointer register is declared for
 abbrev pub pointer_at : List ℕ → List Item → Option At
 pointer_at name items = value_of name (filter_map declared_place items)
 
@@ -43,29 +46,37 @@ pub record Around : Type 0 where
 
 -- the first of these that fails
 infixl 10 ◌or◌
+-- the first fault
 abbrev pub ◌or◌ : Option TypeKind → Option TypeKind → Option TypeKind
 fault or other = option_or fault other
 
+-- this fault, if it doesn't hold
 abbrev pub unless : Bool → TypeKind → Option TypeKind
 unless true k = None
 unless false k = Some k
 
+-- the type isn't declared
 abbrev pub type_fault : Around → List ℕ → Option TypeKind
 type_fault a name = unless (is_some (type_words name a.program)) kind.NoType
 
+-- the global isn't declared
 abbrev pub global_fault : Around → List ℕ → Option TypeKind
 global_fault a name = unless (is_some (global_type name a.program)) kind.NoGlobal
 
+-- there is no such pointer register
 abbrev pub pointer_fault : Around → List ℕ → Option TypeKind
 pointer_fault a name = unless (is_some (pointer_at name a.script)) kind.NoRegister
 
+-- there is no such number register
 abbrev pub number_fault : Around → List ℕ → Option TypeKind
 number_fault a name = unless (list_any (bytes_eq name) (number_names a.script)) kind.NoRegister
 
+-- both are one word of one type
 abbrev pub same_at : Option At → Option At → Bool
 same_at (Some s) (Some t) = bytes_eq s.name t.name && (s.offset == t.offset)
 same_at s t = false
 
+-- the word so many words further
 abbrev pub moved_by : ℕ → At → At
 moved_by i at = record { name = at.name; offset = at.offset + i }
 
@@ -73,6 +84,7 @@ moved_by i at = record { name = at.name; offset = at.offset + i }
 abbrev pub place_behind : Around → List ℕ → ℕ → Option At
 place_behind a pointer i = option_map (moved_by i) (pointer_at pointer a.script)
 
+-- the word at this offset
 abbrev pub word_among : Option (List TypeWord) → ℕ → Option TypeWord
 word_among None offset = None
 word_among (Some words) offset = slice_get words offset
@@ -82,9 +94,11 @@ abbrev pub type_word_at : Around → Option At → Option TypeWord
 type_word_at a None = None
 type_word_at a (Some at) = word_among (type_words at.name a.program) at.offset
 
+-- there is no such word
 abbrev pub inside_fault : Around → Option At → Option TypeKind
 inside_fault a place = unless (is_some (type_word_at a place)) kind.Offset
 
+-- the word is a number
 abbrev pub is_number_word : Option TypeWord → Bool
 is_number_word (Some Number) = true
 is_number_word word = false
@@ -98,6 +112,7 @@ pointed_place word = None
 abbrev pub base_of : List ℕ → At
 base_of ty = record { name = ty; offset = 0 }
 
+-- it is a first word
 abbrev pub is_base : Option At → Bool
 is_base (Some at) = at.offset == 0
 is_base None = false
@@ -108,6 +123,7 @@ pointers_fault a [] = None
 pointers_fault a (Number ∷ words) = pointers_fault a words
 pointers_fault a (Pointer at ∷ words) = type_fault a at.name or pointers_fault a words
 
+-- a word of the type points to a word that isn't there
 abbrev pub offsets_fault : Around → List TypeWord → Option TypeKind
 offsets_fault a [] = None
 offsets_fault a (Number ∷ words) = offsets_fault a words
@@ -117,9 +133,11 @@ offsets_fault a (Pointer at ∷ words) = inside_fault a (Some at) or offsets_fau
 abbrev pub length_fault : ℕ → Option TypeKind
 length_fault count = unless (nat_le count 1000000) (kind.TooLong (min count (2 ^ 64 - 1)))
 
+-- the first word of a global's type
 abbrev pub base_of_global : Around → List ℕ → Option At
 base_of_global a name = option_map base_of (global_type name a.program)
 
+-- they aren't one word of one type
 abbrev pub kind_fault : Option At → Option At → Option TypeKind
 kind_fault s t = unless (same_at s t) kind.Kind
 
@@ -127,6 +145,7 @@ kind_fault s t = unless (same_at s t) kind.Kind
 abbrev pub number_word_fault : Around → List ℕ → ℕ → Option TypeKind
 number_word_fault a pointer index = unless (is_number_word (type_word_at a (place_behind a pointer index))) kind.Kind
 
+-- the register isn't declared for what the word points to
 abbrev pub pointer_word_fault : Around → List ℕ → ℕ → List ℕ → Option TypeKind
 pointer_word_fault a pointer index register =
     kind_fault (pointed_place (type_word_at a (place_behind a pointer index))) (pointer_at register a.script)
@@ -192,6 +211,7 @@ pub record TypingFault : Type 0 where
   pub line : ℕ
   pub kind : TypeKind
 
+-- this fault at this line, or the other one
 abbrev pub at_line : ℕ → Option TypeKind → Option TypingFault → Option TypingFault
 at_line line (Some k) other = Some (record { line = line; kind = k })
 at_line line None other = other
@@ -203,9 +223,11 @@ fault_from program line before (item ∷ items) =
     at_line line (typing_fault (record { program = program; script = this_script before }) line items item)
     (fault_from program (line + 1) (before ++ item ∷ []) items)
 
+-- the first ill-typed line, with its fault
 abbrev pub first_typing_fault : List Item → Option TypingFault
 first_typing_fault program = fault_from program 1 [] program
 
+-- The program has no ill-typed line.
 abbrev pub IsWellTyped : List Item → Type 0
 IsWellTyped program = first_typing_fault program ≡ None
 

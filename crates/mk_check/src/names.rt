@@ -62,6 +62,7 @@ impl<'a> Names<'a> {
     ghost use Rattle.mk_check.specs.{NamesInScope.HasFew, Feed.pointer_place, Steps.{on_object, on_registers, load}};
     ghost use Rattle.mk_check.specs.Steps.{pointer_test, arithmetic, element_of};
 
+    /// The names that are declared for a script of the program.
     pub fn of(alloc: Global, program: &'a [Item], script: &'a [Item]) -> Result<Names<'a>, NoMemory>
         ensures { IfOk result (λ names. names ≡ scope_of program.now script.now) }
     {

@@ -31,6 +31,7 @@ impl<'a> Model for TypeNumbers<'a> {
 }
 
 impl<'a> TypeNumbers<'a> {
+    /// The numbers of a program's names.
     pub fn of_program(alloc: Global, program: &'a [Item]) -> Result<TypeNumbers<'a>, NoMemory>
         ensures { IfOk result (λ numbers. numbers ≡ program.now) }
     {
@@ -65,6 +66,7 @@ impl<'a> TypeNumbers<'a> {
         Ok(words.iter().map(|word| self.kind(word)).collect(alloc)?)
     }
 
+    /// The types that the program declares.
     pub fn types(&self, alloc: Global) -> Result<TypeTable, NoMemory>
         ensures { IfOk result (λ types. types ≡ types_of self.now) }
     {
@@ -77,6 +79,7 @@ impl<'a> TypeNumbers<'a> {
         Ok(types)
     }
 
+    /// The globals that it declares.
     pub fn globals(&self, alloc: Global) -> Result<GlobalTable, NoMemory>
         requires { length (global_names self.now) ≤ 64 }
         ensures { IfOk result (λ globals. globals ≡ globals_of self.now) }

@@ -12,6 +12,7 @@ pub struct Place<'a> {
 }
 
 impl<'a> Place<'a> {
+    /// The word that is named here.
     pub fn new(at: &'a At) -> Place<'a>
         ensures { at_of result ≡ at.now }
     {
@@ -41,6 +42,7 @@ impl<'a> Place<'a> {
         }
     }
 
+    /// They are one word.
     pub fn is(self, other: Place) -> bool
         ensures { result ≡ same_at (Some (at_of self.entry)) (Some (at_of other.entry)) }
     {

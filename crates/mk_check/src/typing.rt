@@ -13,6 +13,7 @@ use crate::lookups::Lookups;
 use crate::places::{Place, pointed_place};
 use mk_script::{At, Item, Name, TypeWord};
 
+/// This fault, if it doesn't hold.
 pub fn unless(holds: bool, kind: TypeKind) -> Option<TypeKind>
     ensures { result ≡ rule.unless holds kind }
 {

@@ -36,10 +36,12 @@ pub record ComesBack (p q : PassState) : Type 0 where
 
 -- the caller's calls, with their answers
 
+-- a number is stored in word 0 of an object, and loaded again
 abbrev pub store_then_load : ℕ → ℕ → ℕ → List Decided
 store_then_load k d n =
     record { caller = k; op = op.SetNum d 0 n; answer = answer.Done }
     ∷ record { caller = k; op = op.GetNum d 0; answer = answer.Num n } ∷ []
 
+-- an object is made first
 abbrev pub new_store_load : ℕ → ℕ → ℕ → ℕ → List Decided
 new_store_load k d ty n = record { caller = k; op = op.New d ty false; answer = answer.Done } ∷ store_then_load k d n

@@ -30,15 +30,18 @@ pub record OwnsNumberIn (n : NeverState) (k d : ℕ) : Type 0 where
   pub unfreed : (allocation_at n number).freed ≡ false
   pub alone : IsKnownToAlone n k number
 
+-- the number in the word that a pointer points to
 abbrev pub number_behind : NeverState → Value → ℕ
 number_behind n (Ptr number ty offset) = number_in (word_at n number offset)
 number_behind n _ = 0
 
 -- After all that the pass has seen its caller owns a number, by this register; and which number that is.
 
+-- Register d has a number of its caller's own.
 abbrev pub OwnsNumber : PassState → ℕ → Type 0
 OwnsNumber p d = OwnsNumberIn (never_of p) (caller_of_pass p) d
 
+-- that number
 abbrev pub number_owned : PassState → ℕ → ℕ
 number_owned p d = number_behind (never_of p) (value_of p d)
 

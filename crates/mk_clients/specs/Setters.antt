@@ -7,6 +7,7 @@ use Rattle.mk_heap.specs.{Below.Words.States.PassState, Below.Callers.States.{ca
 use Rattle.mk_heap.specs.Below.Callers.Called.{Called}
 use Rattle.mk_never.specs.declared.operations.Op.TheVariants as op
 
+-- it sets this global
 abbrev pub is_set_of : ℕ → Op → Bool
 is_set_of g (op.SetGlobal x p) = x == g
 is_set_of g _ = false
@@ -41,6 +42,7 @@ is_store (op.SetPtr q i p) = true
 is_store (op.CasPtr q i p r) = true
 is_store _ = false
 
+-- the calls among these events that store
 abbrev pub store_calls : PassState → List Event → List Decided
 store_calls p es = filter (λ (x : Decided). is_store x.op) (calls p.table.config es)
 

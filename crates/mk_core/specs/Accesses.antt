@@ -18,6 +18,7 @@ use Rattle.mk_core.specs.declared.events.Tally.TheVariants as tally
 use Rattle.mk_core.specs.declared.events.Step.TheVariants as step
 use Rattle.mk_core.specs.declared.seats.Stage.TheVariants as stage
 
+-- the number of a caller's seat
 abbrev pub caller_number : Seat → ℕ
 caller_number (seat.Caller k) = k
 caller_number _ = 0
@@ -29,11 +30,13 @@ register_met f stage.LoadP = p_of f.op
 register_met f stage.LoadR = r_of f.op
 register_met f _ = d_of f.op
 
+-- how `reg` reaches a register at this stage of a call
 abbrev pub reg_access : Flight → Stage → Access
 reg_access f stage.Store = Store (value_for f f.op)
 reg_access f stage.Put = Store f.loaded
 reg_access f _ = Load
 
+-- the word of a tally
 abbrev pub tally_word : Tally → Word
 tally_word tally.Held = word.Held
 tally_word tally.Fresh = word.Fresh
@@ -46,22 +49,27 @@ abbrev pub granted_base : Config → Flight → Placing → ℕ
 granted_base c f (Used place) = base_made (object_made c f.op) place
 granted_base c f _ = 0
 
+-- the heap word that a scan loads next
 abbrev pub next_word : Option Scan → ℕ
 next_word (Some scan) = scan.next
 next_word None = 0
 
+-- the page that is scanned
 abbrev pub scan_page : Option Scan → ℕ
 scan_page (Some scan) = scan.page
 scan_page None = 0
 
+-- the bit of the cell that is scanned
 abbrev pub scan_bit : Option Scan → ℕ
 scan_bit (Some scan) = bit_for scan.index
 scan_bit None = 0
 
+-- the page of the cell that a marker is to mark
 abbrev pub seen_page : Option Cell → ℕ
 seen_page (Some cell) = cell.page
 seen_page None = 0
 
+-- the bit of that cell
 abbrev pub seen_bit : Option Cell → ℕ
 seen_bit (Some cell) = bit_for cell.index
 seen_bit None = 0
@@ -145,9 +153,11 @@ access_by c n f placing x step.Mblack = Or (scan_bit x.scan)
 access_by c n f placing x step.Over = Add 5
 access_by c n f placing x _ = Load
 
+-- the word that the event accesses
 abbrev pub word_accessed : Config → Moment → Event → TableWord
 word_accessed c m e = word_reached c (caller_number e.seat) (flight_of m e.seat) (marker_at m e.seat) e.step
 
+-- how the event accesses it
 abbrev pub access : Config → Moment → Event → Access
 access c m e =
     access_by c (holder_number c e.seat) (flight_of m e.seat) m.seats.holding.placing (marker_at m e.seat) e.step

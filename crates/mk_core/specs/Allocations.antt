@@ -26,13 +26,16 @@ pub record PlacedAllocation : Type 0 where
 abbrev pub never_granted : PlacedAllocation
 never_granted = record { base = 0; ty = 0; freed = false; fresh = false; released = true }
 
+-- allocation number i
 abbrev pub placed_at : List PlacedAllocation → ℕ → PlacedAllocation
 placed_at xs i = slice_index_or xs i never_granted
 
+-- the type of the object that a New makes
 abbrev pub type_made : Op → ℕ
 type_made (op.New d ty full) = ty
 type_made _ = 0
 
+-- the allocation that a grant adds
 abbrev pub granted : Config → Moment → Flight → PlacedAllocation
 granted c m f =
     record {
@@ -47,6 +50,7 @@ granted c m f =
 abbrev pub stands_in : Words → Cell → PlacedAllocation → Bool
 stands_in w cell a = not a.released && (a.base == first_word w cell)
 
+-- the allocation, freed and fresh if it is in this cell
 abbrev pub freed_where_it_stands : Words → Option Cell → PlacedAllocation → PlacedAllocation
 freed_where_it_stands w cell a =
     if is_some_and (λ (x : Cell). stands_in w x a) cell then record a { freed = true; fresh = true } else a
@@ -59,6 +63,7 @@ with_released c w a =
           || is_some_and (is_left_unmarked w) (pointed_cell c.pages w.pages (address_of a.base));
     }
 
+-- the allocation after a `begin`
 abbrev pub no_longer_fresh : PlacedAllocation → PlacedAllocation
 no_longer_fresh a = record a { fresh = false }
 
@@ -70,6 +75,7 @@ allocations_by c m f step.Begin xs = map no_longer_fresh xs
 allocations_by c m f step.Release xs = map (with_released c m.words) xs
 allocations_by c m f _ xs = xs
 
+-- the allocations after an event
 abbrev pub allocations_behind : Config → Moment → Event → List PlacedAllocation → List PlacedAllocation
 allocations_behind c m e xs = allocations_by c m (flight_of m e.seat) e.step xs
 
@@ -81,6 +87,7 @@ is_mapped c a = not a.released && not (a.freed && is_large (kinds_of c.types a.t
 abbrev pub storage_words : Config → PlacedAllocation → ℕ
 storage_words c a = words_made (object_of (kinds_of c.types a.ty))
 
+-- the storage of an allocation
 abbrev pub storage_of : Config → PlacedAllocation → Storage
 storage_of c a =
     record {
@@ -94,6 +101,7 @@ storage_of c a =
 abbrev pub cell_of_allocation : Config → PlacedAllocation → Cell
 cell_of_allocation c a = cell_of_storage (storage_of c a)
 
+-- the storage of those that aren't released, in their order
 unfoldable pub unreleased_storage : Config → List PlacedAllocation → List Storage
 unreleased_storage c [] = []
 unreleased_storage c (a ∷ xs) =
@@ -103,6 +111,7 @@ unreleased_storage c (a ∷ xs) =
 abbrev pub held_by_allocations : Config → List PlacedAllocation → ℕ
 held_by_allocations c xs = held_by_storages (unreleased_storage c xs)
 
+-- the words of mapped storage that was freed since the last `begin`
 abbrev pub fresh_words_of : Config → List PlacedAllocation → ℕ
 fresh_words_of c xs = sum_by (storage_words c) (filter (λ a. is_mapped c a && a.fresh) xs)
 
@@ -110,8 +119,10 @@ fresh_words_of c xs = sum_by (storage_words c) (filter (λ a. is_mapped c a && a
 abbrev pub place_among_allocations : Config → ℕ → Bool → List PlacedAllocation → Option Place
 place_among_allocations c words leaf xs = place_among_storages c.pages c.resident words leaf (unreleased_storage c xs)
 
+-- An object of so many words, leaf or not, has a place beside these allocations.
 abbrev pub FitsAmongAllocations : Config → ℕ → Bool → List PlacedAllocation → Type 0
 FitsAmongAllocations c words leaf xs = Fits c.pages c.resident words leaf (unreleased_storage c xs)
 
+-- the counts of pages by what is allocated on them
 abbrev pub census_of_allocations : Config → List PlacedAllocation → Census
 census_of_allocations c xs = census_of c.pages (unreleased_storage c xs)

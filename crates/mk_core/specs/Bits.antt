@@ -1,6 +1,7 @@
 -- The bits of words.
 use Rattle.std.specs.{Prelude.{ℕ, ◌-◌, ◌%◌, ◌^◌, Bool, ◌==◌, bit_and}, Int.bit_at}
 
+-- bit k of the word is 1
 abbrev pub has_bit : ℕ → ℕ → Bool
 has_bit word k = bit_at word k == 1
 

@@ -12,6 +12,7 @@ use Rattle.mk_core.specs.declared.events.Answer.TheVariants as answer
 
 -- the registers q, p, r and d of an operation, its global, and its offset in words; 0 if it has none
 
+-- the register q of an operation, as its instruction names it
 abbrev pub q_of : Op → ℕ
 q_of (op.GetNum q i) = q
 q_of (op.SetNum q i n) = q
@@ -23,6 +24,7 @@ q_of (op.Move d q) = q
 q_of (op.Same p q) = q
 q_of _ = 0
 
+-- its register p
 abbrev pub p_of : Op → ℕ
 p_of (op.Free p) = p
 p_of (op.SetPtr q i p) = p
@@ -32,10 +34,12 @@ p_of (op.Same p q) = p
 p_of (op.IsNull p) = p
 p_of _ = 0
 
+-- its register r
 abbrev pub r_of : Op → ℕ
 r_of (op.CasPtr q i p r) = r
 r_of _ = 0
 
+-- the register that it sets
 abbrev pub d_of : Op → ℕ
 d_of (op.New d ty full) = d
 d_of (op.GetPtr d q i) = d
@@ -45,11 +49,13 @@ d_of (op.Clear d) = d
 d_of (op.GetGlobal d g) = d
 d_of _ = 0
 
+-- its global
 abbrev pub g_of : Op → ℕ
 g_of (op.GetGlobal d g) = g
 g_of (op.SetGlobal g p) = g
 g_of _ = 0
 
+-- its distance in words
 abbrev pub i_of : Op → ℕ
 i_of (op.GetNum q i) = i
 i_of (op.SetNum q i n) = i
@@ -59,6 +65,7 @@ i_of (op.CasPtr q i p r) = i
 i_of (op.Lea d q i) = i
 i_of _ = 0
 
+-- the type of a New exists
 abbrev pub has_type : Config → Op → Bool
 has_type c (op.New d ty full) = nat_lt ty (length c.types)
 has_type c (op.Free p) = true
@@ -104,6 +111,7 @@ steps_of (op.IsNull p) = LoadP ∷ Leave ∷ []
 steps_of (op.New d ty full) = Turn ∷ Give ∷ []
 steps_of (op.Free p) = LoadP ∷ Turn ∷ Give ∷ []
 
+-- they are one stage
 abbrev pub is_same_stage : Stage → Stage → Bool
 is_same_stage Idle Idle = true
 is_same_stage LoadQ LoadQ = true
@@ -123,6 +131,7 @@ is_same_stage Turn Turn = true
 is_same_stage Give Give = true
 is_same_stage _ _ = false
 
+-- the first of these stages
 abbrev pub first_of : List Stage → Stage
 first_of [] = Idle
 first_of (s ∷ ss) = s
@@ -142,6 +151,7 @@ stage_refused _ = Leave
 abbrev pub at_rest : Flight
 at_rest = record { stage = Idle; op = op.IsNull 0; q = 0; p = 0; r = 0; loaded = 0 }
 
+-- the flight of a call that begins
 abbrev pub begun : Op → Flight
 begun o = record { stage = first_of (steps_of o); op = o; q = 0; p = 0; r = 0; loaded = 0 }
 
@@ -149,6 +159,7 @@ begun o = record { stage = first_of (steps_of o); op = o; q = 0; p = 0; r = 0; l
 abbrev pub word_met : Flight → ℕ
 word_met f = heap_word_at f.q + i_of f.op
 
+-- the page of the word that the call accesses
 abbrev pub page_met : Flight → ℕ
 page_met f = word_met f / 64
 
@@ -171,9 +182,11 @@ onward f a = record { flight = record f { stage = stage_behind f.stage (steps_of
 abbrev pub still : Flight → Progress
 still f = record { flight = f; answer = None }
 
+-- the call is refused with this answer
 abbrev pub refused : Flight → Answer → Progress
 refused f a = record { flight = record f { stage = stage_refused f.op; loaded = 0 }; answer = Some a }
 
+-- 1 if it is so, otherwise 0
 abbrev pub one_if : Bool → ℕ
 one_if true = 1
 one_if false = 0
@@ -194,6 +207,7 @@ progress_p f (op.Free p) found =
     else onward (record f { p = found }) None
 progress_p f _ found = onward (record f { p = found }) None
 
+-- what `reg` makes of the call at this stage
 abbrev pub progress_reg : Flight → Stage → ℕ → Progress
 progress_reg f LoadQ found = progress_q f f.op found
 progress_reg f LoadP found = progress_p f f.op found
@@ -207,8 +221,10 @@ abbrev pub progress_read : Flight → Op → ℕ → Progress
 progress_read f (op.GetPtr d q i) found = onward (record f { loaded = found }) (Some (answer.Word found))
 progress_read f _ found = onward f (Some (answer.Num found))
 
+-- what `cas` makes of the call
 abbrev pub progress_cas : Flight → ℕ → Progress
 progress_cas f found = onward f (Some (answer.Num (one_if (found == f.p))))
 
+-- what `getg` makes of the call
 abbrev pub progress_getg : Flight → ℕ → Progress
 progress_getg f found = onward (record f { loaded = found }) (Some (answer.Word found))

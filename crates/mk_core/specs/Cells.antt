@@ -31,16 +31,19 @@ run_headed (Some (Run count mapped)) page = Some (record { page = page; count = 
 run_headed (Some (LeafRun count)) page = Some (record { page = page; count = count })
 run_headed _ page = None
 
+-- it is the header of a run's first page
 abbrev pub heads_run : Option Header → Bool
 heads_run (Some (Run count mapped)) = true
 heads_run (Some (LeafRun count)) = true
 heads_run _ = false
 
+-- it is the header of a leaf block or of a leaf run's first page
 abbrev pub is_leaf_header : Option Header → Bool
 is_leaf_header (Some (LeafBlock class)) = true
 is_leaf_header (Some (LeafRun count)) = true
 is_leaf_header _ = false
 
+-- what the page's header word says
 abbrev pub header_in : Words → ℕ → Option Header
 header_in w p = header_of (header_at w p)
 
@@ -56,6 +59,7 @@ cell_bits w p = 2 ^ cells_under (header_in w p) - 1
 abbrev pub first_word : Words → Cell → ℕ
 first_word w cell = 64 * cell.page + cell.index * words_under (header_in w cell.page)
 
+-- how many words the cell has
 abbrev pub cell_words : Words → Cell → ℕ
 cell_words w cell = words_under (header_in w cell.page)
 
@@ -63,15 +67,19 @@ cell_words w cell = words_under (header_in w cell.page)
 unfoldable pub pointed_cell : ℕ → List Page → ℕ → Option Cell
 pointed_cell count pages value = cell_at count (slice_index_or pages (page_at_address value) free_page).header value
 
+-- the cell's used bit is set
 abbrev pub is_used : Words → Cell → Bool
 is_used w cell = has_bit (used_at w cell.page) cell.index
 
+-- its freed bit is set
 abbrev pub is_freed : Words → Cell → Bool
 is_freed w cell = has_bit (slice_index w.freed cell.page) cell.index
 
+-- its snapshot bit is set
 abbrev pub is_in_snapshot : Words → Cell → Bool
 is_in_snapshot w cell = has_bit (slice_index w.snapshot cell.page) cell.index
 
+-- its mark bit is set
 abbrev pub is_marked : Words → Cell → Bool
 is_marked w cell = has_bit (slice_index w.marks cell.page) cell.index
 
@@ -83,12 +91,15 @@ has_no_pointers header = is_leaf_header header || is_unmapped_header header
 abbrev pub points_well : ℕ → Words → ℕ → Bool
 points_well pages w value = is_none_or (is_marked w) (pointed_cell pages w.pages value)
 
+-- heap word n points well
 abbrev pub word_points_well : ℕ → Words → ℕ → Bool
 word_points_well pages w n = points_well pages w (slice_index w.heap n)
 
+-- all words of the cell point well
 abbrev pub words_point_well : ℕ → Words → Cell → Bool
 words_point_well pages w cell = all_below (cell_words w cell) (λ i. word_points_well pages w (first_word w cell + i))
 
+-- so many heap words from the first on are 0
 abbrev pub words_are_zero : Words → ℕ → ℕ → Bool
 words_are_zero w first count = all_below count (λ i. slice_index w.heap (first + i) == 0)
 
@@ -96,6 +107,7 @@ words_are_zero w first count = all_below count (λ i. slice_index w.heap (first 
 abbrev pub left_unmarked : Words → ℕ → ℕ
 left_unmarked w p = without (slice_index w.snapshot p) (slice_index w.marks p)
 
+-- the cell is in the snapshot and not marked
 abbrev pub is_left_unmarked : Words → Cell → Bool
 is_left_unmarked w cell = has_bit (left_unmarked w cell.page) cell.index
 
@@ -111,5 +123,6 @@ none_is_left_unmarked w p = left_unmarked w p == 0
 abbrev pub is_released_cell : Words → Cell → Bool
 is_released_cell w cell = is_phase w 4 && is_left_unmarked w cell
 
+-- heap word n is on a page of the run
 abbrev pub is_in_run : RunPages → ℕ → Bool
 is_in_run run n = nat_le run.page (n / 64) && nat_lt (n / 64 - run.page) run.count

@@ -3,6 +3,7 @@ use Rattle.std.specs.Prelude.{ℕ, ◌≤◌, ◌<◌, List, length, All, ⊤}
 use Rattle.mk_never.specs.{declared.types.Kind.Kind, declared.types.Kind.TheVariants.{Num, To}, Types.kinds_of}
 use Rattle.mk_core.specs.declared.config.Config.{Config}
 
+-- n is within these bounds
 abbrev pub IsBetween : ℕ → ℕ → ℕ → Type 0
 IsBetween least greatest n = (least ≤ n) × (n ≤ greatest)
 

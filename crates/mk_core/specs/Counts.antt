@@ -10,16 +10,20 @@ use Rattle.mk_core.specs.declared.events.Step.TheVariants as step
 
 -- how many cycles have ended, how many allocations are released, and how many calls were answered Full
 
+-- how many cycles ended
 abbrev pub ends : List Event → ℕ
 ends es = count_by (λ (e : Event). is_end e.step) es
 
+-- how many of the allocations are released
 abbrev pub releases : List PlacedAllocation → ℕ
 releases xs = count_by (λ (a : PlacedAllocation). a.released) xs
 
+-- it is Full
 abbrev pub is_full_answer : Answer → Bool
 is_full_answer answer.Full = true
 is_full_answer _ = false
 
+-- how many calls were answered Full
 abbrev pub full_answers : Config → List Event → ℕ
 full_answers c es = count_by is_full_answer (answered (calls c es))
 

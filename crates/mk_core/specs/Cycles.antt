@@ -12,22 +12,27 @@ use Rattle.mk_core.specs.declared.events.Step.TheVariants as step
 
 -- kinds of step
 
+-- it is a `begin`
 abbrev pub is_begin : Step → Bool
 is_begin step.Begin = true
 is_begin _ = false
 
+-- it is a `close`
 abbrev pub is_close : Step → Bool
 is_close step.Close = true
 is_close _ = false
 
+-- it is a `release`
 abbrev pub is_release : Step → Bool
 is_release step.Release = true
 is_release _ = false
 
+-- it is an `end`
 abbrev pub is_end : Step → Bool
 is_end step.End = true
 is_end _ = false
 
+-- it is a `give`
 abbrev pub is_give : Step → Bool
 is_give step.Give = true
 is_give _ = false
@@ -64,15 +69,19 @@ pub record Cycle (es : List Event) : Type 0 where
 abbrev pub through : {kind : Step → Bool} {es : List Event} → At kind es → List Event
 through at = at.before ++ at.event ∷ []
 
+-- the events before the cycle's `begin`
 abbrev pub before_begin : {es : List Event} → Marking es → List Event
 before_begin k = k.begin.before
 
+-- those before its `close`
 abbrev pub before_close : {es : List Event} → Marking es → List Event
 before_close k = through k.begin ++ k.close.at.before
 
+-- those before its `release`
 abbrev pub before_release : {es : List Event} → Releasing es → List Event
 before_release k = before_close k.marking ++ k.marking.close.at.event ∷ k.release.at.before
 
+-- those before its `end`
 abbrev pub before_end : {es : List Event} → Cycle es → List Event
 before_end k = before_release k.releasing ++ k.releasing.release.at.event ∷ k.end.at.before
 
@@ -80,6 +89,7 @@ before_end k = before_release k.releasing ++ k.releasing.release.at.event ∷ k.
 abbrev pub is_quarantined : PlacedAllocation → Bool
 is_quarantined a = a.freed && not a.released
 
+-- Allocation i was in quarantine when the cycle began.
 abbrev pub IsInSnapshot : Config → {es : List Event} → Marking es → ℕ → Type 0
 IsInSnapshot c k i = is_quarantined (placed_at (left c (before_begin k)).allocations i) ≡ true
 
@@ -96,6 +106,7 @@ pub record TurnOf (c : Config) (s : Seat) (es : List Event) : Type 0 where
 abbrev pub BeginsIn : {c : Config} {s : Seat} {es : List Event} → TurnOf c s es → Type 0
 BeginsIn t = At is_begin t.behind
 
+-- A whole cycle is in this turn.
 abbrev pub BeginsAndEndsIn : {c : Config} {s : Seat} {es : List Event} → TurnOf c s es → Type 0
 BeginsAndEndsIn t = Cycle t.behind
 
@@ -104,12 +115,14 @@ abbrev pub is_unmarked : Source → Bool
 is_unmarked Unmarked = true
 is_unmarked _ = false
 
+-- a step that marks from a word of an unmarked cell
 abbrev pub sweeps : Config → Moment → Flight → Step → Bool
 sweeps c m f (step.Mark p v) =
     is_some_and (λ (hand : Hand). is_unmarked hand.source) m.seats.holding.hand
     && not (marks_place m.words (object_made c f.op) (place_now c m f) p v)
 sweeps c m f _ = false
 
+-- No event of the list sweeps.
 unfoldable pub NoneSweepsFrom : Config → World → List Event → Type 0
 NoneSweepsFrom c w [] = ⊤
 NoneSweepsFrom c w (e ∷ es) = (sweeps c w.now (flight_of w.now e.seat) e.step ≡ false)

@@ -17,12 +17,15 @@ flagged (op.New d ty full) answer.Full = op.New d ty true
 flagged (op.New d ty full) _ = op.New d ty false
 flagged o _ = o
 
+-- the entry of a call that is decided with this answer, or none
 abbrev pub entry_of : ℕ → Op → Option Answer → List Decided
 entry_of caller o (Some a) = record { caller = caller; op = flagged o a; answer = a } ∷ []
 entry_of caller o None = []
 
+-- the calls that were asked
 abbrev pub asked : List Decided → List Call
 asked cs = map (λ (x : Decided). record { caller = x.caller; op = x.op }) cs
 
+-- their answers
 abbrev pub answered : List Decided → List Answer
 answered cs = map (λ (x : Decided). x.answer) cs

@@ -30,6 +30,7 @@ use Rattle.mk_core.specs.declared.seats.Stage.TheVariants as stage
 abbrev pub decided : Flight → Answer → Progress
 decided f a = record { flight = record f { stage = stage.Give }; answer = Some a }
 
+-- the call begins if the word that was found is 0
 abbrev pub begins_where_free : Flight → Op → ℕ → Progress
 begins_where_free f o found = if found == 0 then record { flight = begun o; answer = None } else still f
 
@@ -42,9 +43,11 @@ abbrev pub sees_double : Words → Option Cell → Word → Bool
 sees_double w cell (word.Quar p) = is_some_and (λ (x : Cell). (p == x.page) && is_freed w x) cell
 sees_double w cell _ = false
 
+-- what a look makes of a Free: it may find the object freed already
 abbrev pub progress_look : Config → Words → Flight → Word → Progress
 progress_look c w f x = if sees_double w (target c.pages w f) x then decided f answer.Double else still f
 
+-- what a `quar` makes of a Free, with the cell that it frees
 abbrev pub progress_freed : Flight → Option Cell → Progress
 progress_freed f (Some cell) = decided f answer.Done
 progress_freed f None = still f
@@ -89,6 +92,7 @@ hand_of_cell w in_stop placing cell value =
     then Some (record { value = value; source = Marked })
     else if in_stop && is_mapped_cell w placing cell then Some (record { value = value; source = Unmarked }) else None
 
+-- at phase 2, with all other gates held
 abbrev pub is_in_stop : ℕ → Words → Seat → Bool
 is_in_stop callers w s = is_phase w 2 && others_are_held callers w s
 
@@ -107,13 +111,16 @@ abbrev pub chosen : Placing → Option Place → Placing
 chosen Unplaced (Some place) = Chosen place
 chosen placing _ = placing
 
+-- the place of a New is used now
 abbrev pub taken : Placing → Option Place → Placing
 taken placing (Some place) = Used place
 taken placing None = placing
 
+-- the run whose first page this cell is on
 abbrev pub run_of_cell : Words → Option Cell → Option RunPages
 run_of_cell w cell = option_and_then (λ (x : Cell). run_headed (header_in w x.page) x.page) cell
 
+-- a cycle that began in the call has ended in it
 abbrev pub cycle_ended : OwnCycle → OwnCycle
 cycle_ended Begun = Ended
 cycle_ended cycle = cycle
@@ -151,6 +158,7 @@ hand_behind_look c page header None = None
 hand_behind_look c page header (Some value) =
     if (page == page_at_address value) && is_none (cell_at c.pages header value) then None else Some value
 
+-- a marker after a look
 abbrev pub behind_mlook : Config → ℕ → Word → Marker → Marker
 behind_mlook c found (word.Head p) x =
     record x { hand = hand_behind_look c p found x.hand; seen = Some (record { page = p; header = found }) }
@@ -168,11 +176,13 @@ scan_begun page index header =
           + (if has_no_pointers (header_of header) then 0 else words_under (header_of header));
     }
 
+-- the scan that a `claim` begins, if the cell is marked
 abbrev pub scan_claimed : ℕ → ℕ → ℕ → Option SeenHeader → Option Scan
 scan_claimed page index marks (Some seen) = if has_bit marks index then Some (scan_begun page index seen.header)
     else None
 scan_claimed page index marks None = None
 
+-- the scan after a load
 abbrev pub scan_onward : Option Scan → Option Scan
 scan_onward (Some scan) = Some (record scan { next = scan.next + 1 })
 scan_onward None = None
@@ -208,10 +218,12 @@ flights_behind c m (seat.Caller k) found s =
     slice_set m.seats.flights k (progress c m (flight_of m (seat.Caller k)) found s).flight
 flights_behind c m _ found s = m.seats.flights
 
+-- the markers after a step
 abbrev pub markers_behind : Config → Moment → Seat → ℕ → Step → List Marker
 markers_behind c m (seat.Marker k) found s = slice_set m.seats.markers k (marker_behind c found s (marker_of m k))
 markers_behind c m _ found s = m.seats.markers
 
+-- what each seat is in the middle of after a step
 abbrev pub seats_behind : Config → Moment → Seat → ℕ → Step → Seats
 seats_behind c m seat found s =
     record {
@@ -229,6 +241,7 @@ moment_behind c m e =
       fresh_words = fresh_behind c m (flight_of m e.seat) e.step;
     }
 
+-- the answer that a step decides
 abbrev pub answer_by : Config → Moment → Seat → ℕ → Step → Option Answer
 answer_by c m (seat.Caller k) found s = (progress c m (flight_of m (seat.Caller k)) found s).answer
 answer_by c m _ found s = None

@@ -123,6 +123,7 @@ failing c m e =
     else 2)
     else 1
 
+-- The event may come: none of its conditions fails.
 abbrev pub IsEnabled : Config → Moment → Event → Type 0
 IsEnabled c m e = failing c m e ≡ 0
 
@@ -137,5 +138,6 @@ pub record MeetsAll (c : Config) (m : Moment) (e : Event) : Type 0 where
   pub marker : marker_may c (marker_at m e.seat) e.step ≡ true
   pub holder : holder_may c m (flight_of m e.seat) e.step ≡ true
 
+-- Just those events may come that meet all seven conditions.
 abbrev pub EnabledEventsMeetAll : Type 0
 EnabledEventsMeetAll = (c : Config) (m : Moment) (e : Event) → IsEnabled c m e ↔ MeetsAll c m e

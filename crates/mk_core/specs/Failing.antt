@@ -3,6 +3,7 @@ use Rattle.std.specs.Prelude.{ℕ, Option, Some, None}
 use Rattle.mk_core.specs.declared.failing.Condition.{Condition}
 use Rattle.mk_core.specs.declared.failing.Condition.TheVariants as condition
 
+-- the number of a condition, as a schedule's refusal prints it
 abbrev pub condition_number : Condition → ℕ
 condition_number condition.Seat = 1
 condition_number condition.Kind = 2

@@ -14,14 +14,17 @@ use Rattle.mk_core.specs.{Growing.AreOfOthers, Readings.{is_in_call, Holds, is_i
 
 -- what a seat is in the middle of
 
+-- The seat is a caller in a call that needs no turn.
 abbrev pub IsInCall : Moment → Seat → Type 0
 IsInCall m (Caller k) = is_in_call (flight_of m (Caller k)) ≡ true
 IsInCall m _ = ⊥
 
+-- The seat is a marker that attends.
 abbrev pub Attends : Moment → Seat → Type 0
 Attends m (Marker k) = is_attending (marker_of m k).presence ≡ true
 Attends m _ = ⊥
 
+-- The seat is a marker that is in.
 abbrev pub IsIn : Moment → Seat → Type 0
 IsIn m (Marker k) = is_in (marker_of m k) ≡ true
 IsIn m _ = ⊥
@@ -63,6 +66,7 @@ pub record Steady : Type 0 where
   pub fresh_words : ℕ
   pub allocations : List PlacedAllocation
 
+-- what only the turn's holder changes
 abbrev pub steady_of : World → Steady
 steady_of w =
     record {
@@ -89,6 +93,7 @@ pub record Written : Type 0 where
   pub dirty : List ℕ
   pub heap : List ℕ
 
+-- what callers write
 abbrev pub written_of : World → Written
 written_of w =
     record {
@@ -138,6 +143,7 @@ pub record IsLeft (c : Config) (s : Seat) (es fs : List Event) : Type 0 where
   pub scan : Attends (left c es).now s → ScanIsLeft (left c es) (left c fs)
   pub visit : IsIn (left c es).now s → 1 ≤ (left c fs).now.words.phase / 8
 
+-- What other seats leave to a seat, in each enabled list.
 abbrev pub OthersLeave : Type 0
 OthersLeave =
     (c : Config) (es more : List Event) (s : Seat) → IsWithinLimits c → AreEnabled c (es ++ more)
@@ -183,6 +189,7 @@ pub record IsLeftByAdmitted (c : Config) (s : Seat) (es fs : List Event) : Type 
   pub stop : HoldsAll c (left c es).now s → never_behind c fs ≡ never_behind c es
   pub scan : Attends (left c es).now s → HeadersAreLeft c (left c es) (left c fs)
 
+-- What they leave besides, in each history.
 abbrev pub AdmittedOthersLeave : Type 0
 AdmittedOthersLeave =
     (c : Config) (es more : List Event) (s : Seat) → IsHistory c (es ++ more) → AreOfOthers (s ∷ []) more

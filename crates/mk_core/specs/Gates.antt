@@ -3,6 +3,7 @@ use Rattle.std.specs.Prelude.{ℕ}
 use Rattle.mk_core.specs.declared.gates.Gate.{Gate}
 use Rattle.mk_core.specs.declared.gates.Gate.TheVariants as gate
 
+-- the number that a gate's word has
 abbrev pub gate_number : Gate → ℕ
 gate_number gate.Open = 0
 gate_number gate.InCall = 1

@@ -4,12 +4,14 @@ use Rattle.mk_core.specs.{declared.config.Config.Config, declared.events.Seat.Se
 use Rattle.mk_core.specs.{declared.events.Seat.TheVariants.{Caller, Marker, Host}, declared.events.Event.Event}
 use Rattle.mk_core.specs.{Accesses.found, History.{World, world_behind, left}}
 
+-- they are one seat
 abbrev pub is_same_seat : Seat → Seat → Bool
 is_same_seat (Caller j) (Caller k) = j == k
 is_same_seat (Marker j) (Marker k) = j == k
 is_same_seat Host Host = true
 is_same_seat _ _ = false
 
+-- the seat is one of these
 abbrev pub is_one_of : List Seat → Seat → Bool
 is_one_of seats s = list_any (is_same_seat s) seats
 
@@ -29,6 +31,7 @@ pub record Finding : Type 0 where
   pub event : Event
   pub found : ℕ
 
+-- the events of a seat, each with what it found
 unfoldable pub own_from : Config → Seat → World → List Event → List Finding
 own_from c s w [] = []
 own_from c s w (e ∷ es) =

@@ -4,10 +4,12 @@ use Rattle.mk_core.specs.{declared.config.Config.Config, declared.events.Step.St
 use Rattle.mk_core.specs.History.{World, first_world, world_behind}
 use Rattle.mk_core.specs.declared.events.Step.TheVariants as step
 
+-- it holds this caller's gate
 abbrev pub is_hold_of : ℕ → Step → Bool
 is_hold_of i (step.Hold j) = i == j
 is_hold_of i _ = false
 
+-- this caller's gate differs in the two worlds
 abbrev pub changes_gate : ℕ → World → World → Bool
 changes_gate i w v = not (slice_index v.now.words.gates i == slice_index w.now.words.gates i)
 

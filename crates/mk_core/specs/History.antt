@@ -11,12 +11,15 @@ pub record World : Type 0 where
   pub now : Moment
   pub allocations : List PlacedAllocation
 
+-- the world before any event
 abbrev pub first_world : Config → World
 first_world c = record { now = first_moment c; allocations = [] }
 
+-- the world after an event
 abbrev pub world_behind : Config → World → Event → World
 world_behind c w e = record { now = moment_behind c w.now e; allocations = allocations_behind c w.now e w.allocations }
 
+-- the world after these events
 unfoldable pub left_from : Config → World → List Event → World
 left_from c w [] = w
 left_from c w (e ∷ es) = left_from c (world_behind c w e) es
@@ -30,6 +33,7 @@ unfoldable pub AreEnabledFrom : Config → World → List Event → Type 0
 AreEnabledFrom c w [] = ⊤
 AreEnabledFrom c w (e ∷ es) = IsEnabled c w.now e × AreEnabledFrom c (world_behind c w e) es
 
+-- Each event may come at its place.
 abbrev pub AreEnabled : Config → List Event → Type 0
 AreEnabled c es = AreEnabledFrom c (first_world c) es
 
@@ -37,6 +41,7 @@ AreEnabled c es = AreEnabledFrom c (first_world c) es
 abbrev pub call_decided : Config → Moment → Event → List Decided
 call_decided c m e = entry_of (caller_number e.seat) (flight_of m e.seat).op (answer_decided c m e)
 
+-- the calls that these events decide, in order
 unfoldable pub calls_from : Config → World → List Event → List Decided
 calls_from c w [] = []
 calls_from c w (e ∷ es) = call_decided c w.now e ++ calls_from c (world_behind c w e) es
@@ -49,6 +54,7 @@ calls c es = calls_from c (first_world c) es
 abbrev pub never_first : Config → NeverState
 never_first c = start_of c.types c.callers
 
+-- the heap that never reuses storage after the calls of these events
 abbrev pub never_behind : Config → List Event → NeverState
 never_behind c es = after_calls (never_first c) (asked (calls c es))
 
@@ -67,6 +73,7 @@ pub record IsHistory (c : Config) (es : List Event) : Type 0 where
 abbrev pub IsEnabledBehind : Config → List Event → Event → Type 0
 IsEnabledBehind c es e = IsEnabled c (left c es).now e
 
+-- With this event the calls are still admitted.
 abbrev pub IsAdmittedBehind : Config → List Event → Event → Type 0
 IsAdmittedBehind c es e = CallsAreAdmitted c (es ++ e ∷ [])
 

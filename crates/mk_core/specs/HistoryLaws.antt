@@ -11,22 +11,27 @@ use Rattle.mk_core.specs.History.{CallsAreAdmitted, IsHistory}
 abbrev pub LeftInParts : Config → List Event → List Event → Type 0
 LeftInParts c es more = left c (es ++ more) ≡ left_from c (left c es) more
 
+-- A list is enabled if its first part is, and its second part after that.
 abbrev pub EnabledInParts : Config → List Event → List Event → Type 0
 EnabledInParts c es more = AreEnabled c (es ++ more) ↔ (AreEnabled c es × AreEnabledFrom c (left c es) more)
 
+-- Its calls are those of its first part and then those of its second.
 abbrev pub CallsInParts : Config → List Event → List Event → Type 0
 CallsInParts c es more = calls c (es ++ more) ≡ calls c es ++ calls_from c (left c es) more
 
+-- The heap that never reuses storage after both is the one after the second part's calls.
 abbrev pub NeverInParts : Config → List Event → List Event → Type 0
 NeverInParts c es more = never_behind c (es ++ more)
     ≡ after_calls (never_behind c es) (asked (calls_from c (left c es) more))
 
+-- Its replies are those to the first part's calls and then those to the second's.
 abbrev pub NeverRepliesInParts : Config → List Event → List Event → Type 0
 NeverRepliesInParts c es more =
     replies_of (never_first c) (asked (calls c (es ++ more)))
     ≡ replies_of (never_first c) (asked (calls c es))
     ++ replies_of (never_behind c es) (asked (calls_from c (left c es) more))
 
+-- Its calls are admitted if the first part's are, and the second's after these.
 abbrev pub CallsAreAdmittedInParts : Config → List Event → List Event → Type 0
 CallsAreAdmittedInParts c es more =
     CallsAreAdmitted c (es ++ more)

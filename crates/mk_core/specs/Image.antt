@@ -14,6 +14,7 @@ image_of bases Null = 0
 image_of bases (Num n) = n
 image_of bases (Ptr number ty offset) = address_of (slice_index bases number + offset)
 
+-- the answer whose reply this is, with pointers as addresses
 abbrev pub answer_of : List ℕ → Reply → Answer
 answer_of bases Done = IsDone
 answer_of bases (Number n) = IsNumber n
@@ -23,5 +24,6 @@ answer_of bases Fault = IsFault
 answer_of bases WasNull = IsNull
 answer_of bases Double = IsDouble
 
+-- the answers to these replies
 abbrev pub answers_of : List ℕ → List Reply → List Answer
 answers_of bases replies = map (answer_of bases) replies

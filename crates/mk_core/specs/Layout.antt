@@ -32,10 +32,12 @@ index_of_named pages (word.Black p) = 640 + 4 * pages + p
 index_of_named pages (word.Dirty p) = 720 + 5 * pages + 72 * p
 index_of_named pages (word.Heap n) = 656 + 5 * pages + n + 8 * (n / 64)
 
+-- where the word is in the table
 abbrev pub index_of : ℕ → TableWord → ℕ
 index_of pages Turn = 16
 index_of pages (Named name) = index_of_named pages name
 
+-- how many words the table has
 abbrev pub count_of_words : ℕ → ℕ
 count_of_words pages = 656 + 77 * pages
 
@@ -58,10 +60,12 @@ NamesWord pages (word.Black p) = p < pages
 NamesWord pages (word.Dirty p) = p < pages
 NamesWord pages (word.Heap n) = n < 64 * pages
 
+-- The table has this word.
 abbrev pub IsOfTable : ℕ → TableWord → Type 0
 IsOfTable pages Turn = ⊤
 IsOfTable pages (Named name) = NamesWord pages name
 
+-- the quarantine words of pages with these freed and snapshot bits
 abbrev pub quarantine_words : List ℕ → List ℕ → List ℕ
 quarantine_words [] snapshots = []
 quarantine_words (freed ∷ freeds) [] = []
@@ -98,10 +102,12 @@ regions w =
     ∷ w.marks ∷ w.blacks ∷ gap 16
     ∷ page_by_page w.dirty w.heap ∷ []
 
+-- the lists, one after the other
 abbrev pub joined : List (List ℕ) → List ℕ
 joined [] = []
 joined (xs ∷ xss) = xs ++ joined xss
 
+-- the table's words, in its order
 abbrev pub in_order : Words → List ℕ
 in_order w = joined (regions w)
 
@@ -127,6 +133,7 @@ abbrev pub NamesAreApart : Type 0
 NamesAreApart =
     (pages : ℕ) (x y : TableWord) → IsOfTable pages x → IsOfTable pages y → index_of pages x ≡ index_of pages y → x ≡ y
 
+-- Each word has a place in the table.
 abbrev pub IndexesAreOfTheTable : Type 0
 IndexesAreOfTheTable = (pages : ℕ) (x : TableWord) → IsOfTable pages x → index_of pages x < count_of_words pages
 
@@ -136,6 +143,7 @@ WordsStandAtTheirIndexes =
     (pages : ℕ) (w : Words) (x : TableWord) → AreOfPages pages w → IsOfTable pages x
     → slice_index (in_order w) (index_of pages x) ≡ word_in w x
 
+-- To change a word is to change the table at its place.
 abbrev pub ChangesStandAtTheirIndexes : Type 0
 ChangesStandAtTheirIndexes =
     (pages : ℕ) (w : Words) (x : TableWord) (value : ℕ) → AreOfPages pages w → IsOfTable pages x
@@ -145,6 +153,7 @@ ChangesStandAtTheirIndexes =
 abbrev pub ListHasAllWords : Type 0
 ListHasAllWords = (pages : ℕ) (w : Words) → AreOfPages pages w → length (in_order w) ≡ count_of_words pages
 
+-- At first all words of the table are 0.
 abbrev pub FirstWordsAreZero : Type 0
 FirstWordsAreZero = (pages : ℕ) → in_order (zero_words_of pages) ≡ replicate (count_of_words pages) 0
 
@@ -163,6 +172,7 @@ pub data LineGroup : Type 0 where
   OfRegisters : (caller : ℕ) → LineGroup
   OfPage : (page : ℕ) → LineGroup
 
+-- the words that may share a cache line with this one
 abbrev pub line_group_of_named : Word → LineGroup
 line_group_of_named word.Phase = OfPhase
 line_group_of_named word.Held = OfTallies
@@ -177,6 +187,7 @@ line_group_of_named (word.Dirty p) = OfPage p
 line_group_of_named (word.Heap n) = OfPage (n / 64)
 line_group_of_named _ = OfHeaders
 
+-- the same of each word of the table
 abbrev pub line_group : TableWord → LineGroup
 line_group Turn = OfTurn
 line_group (Named name) = line_group_of_named name

@@ -20,6 +20,7 @@ pub record IsStillAHistory (c : Config) (es more : List Event) (e : Event) : Typ
   pub same : IsStillTheSame c es (es ++ more) e
   pub tidy : IsTidy c (es ++ e ∷ []) → IsTidy c (es ++ more) → IsTidy c (es ++ more ++ e ∷ [])
 
+-- An event that may come after what its seat has seen may come after a longer history of others too.
 abbrev pub LongerListsGoOn : Type 0
 LongerListsGoOn =
     (c : Config) (es more : List Event) (e : Event) → IsHistory c (es ++ e ∷ []) → IsHistory c (es ++ more)

@@ -8,6 +8,7 @@ use Rattle.mk_core.specs.{declared.seats.Scan.Scan, declared.seats.SeenHeader.Se
 use Rattle.mk_core.specs.{StopConditions.is_attending, Order.host_has_turn, Moments.{Moment, is_phase}}
 use Rattle.mk_core.specs.declared.events.Word.TheVariants as word
 
+-- the marker is out
 abbrev pub is_out : Presence → Bool
 is_out Out = true
 is_out _ = false
@@ -31,28 +32,36 @@ cell_seen c (Some seen) (Some value) = if seen.page == page_at_address value the
     else None
 cell_seen c _ _ = None
 
+-- the scan has a next word
 abbrev pub has_next_word : Option Scan → Bool
 has_next_word (Some scan) = nat_lt scan.next scan.end
 has_next_word None = false
 
+-- there is a scan, and it has no next word
 abbrev pub is_scanned : Option Scan → Bool
 is_scanned (Some scan) = not (nat_lt scan.next scan.end)
 is_scanned None = false
 
+-- the own condition of `mlook`
 abbrev pub may_mlook : Marker → Word → Bool
 may_mlook x w = is_attending x.presence && is_markers_word w
 
+-- the own condition of `claim`
 abbrev pub may_claim : Marker → ℕ → ℕ → Bool
 may_claim x page k = is_attending x.presence && is_none x.scan && has_seen_cell x.seen page k
 
+-- the own condition of `mload`
 abbrev pub may_mload : Marker → Bool
 may_mload x = has_next_word x.scan && is_none x.hand
 
+-- the own condition of `mmark`
 abbrev pub may_mmark : Config → Marker → Bool
 may_mmark c x = is_some (cell_seen c x.seen x.hand)
 
+-- the own condition of `mblack`
 abbrev pub may_mblack : Marker → Bool
 may_mblack x = is_scanned x.scan && is_none x.hand
 
+-- the own condition of `over`
 abbrev pub may_end_all : Config → Moment → Bool
 may_end_all c m = host_has_turn c m && is_phase m.words 0

@@ -19,9 +19,11 @@ pub record Moment : Type 0 where
   pub seats : Seats
   pub fresh_words : ℕ
 
+-- what a turn's holder has done when it took the turn
 abbrev pub nothing_done : Holding
 nothing_done = record { hand = None; placing = Unplaced; freed = None; cycle = NotBegun }
 
+-- a marker that is out
 abbrev pub outside : MarkerState
 outside = record { presence = Out; scan = None; hand = None; seen = None }
 
@@ -40,6 +42,7 @@ flight_of m (Caller k) = slice_index_or m.seats.flights k at_rest
 flight_of m (Marker k) = at_rest
 flight_of m Host = at_rest
 
+-- what a marker is in the middle of
 abbrev pub marker_of : Moment → ℕ → MarkerState
 marker_of m k = slice_index_or m.seats.markers k outside
 
@@ -54,11 +57,13 @@ holder_number c (Caller k) = k
 holder_number c (Marker k) = c.callers
 holder_number c Host = c.callers
 
+-- the seat is the caller of this number
 abbrev pub is_number_of : Seat → ℕ → Bool
 is_number_of (Caller k) j = k == j
 is_number_of (Marker k) j = false
 is_number_of Host j = false
 
+-- the caller's gate is held
 abbrev pub is_held : Words → ℕ → Bool
 is_held w j = slice_index w.gates j == 2
 
@@ -66,8 +71,10 @@ is_held w j = slice_index w.gates j == 2
 abbrev pub others_are_held : ℕ → Words → Seat → Bool
 others_are_held callers w seat = all_below callers (λ j. is_number_of seat j || is_held w j)
 
+-- no gate is held
 abbrev pub none_is_held : ℕ → Words → Bool
 none_is_held callers w = all_below callers (λ j. not (is_held w j))
 
+-- the phase is this number
 abbrev pub is_phase : Words → ℕ → Bool
 is_phase w n = phase_of w == n

@@ -32,9 +32,11 @@ place_by_placing resident pages o (Chosen place) = Some place
 place_by_placing resident pages o (Used place) = Some place
 place_by_placing resident pages o Granted = None
 
+-- the class of a small object's cells
 abbrev pub class_made : Object → ℕ
 class_made o = unwrap_or (class_for o.words) 0
 
+-- the object has a cell
 abbrev pub is_small_object : Object → Bool
 is_small_object o = is_small_size o.words
 
@@ -76,6 +78,7 @@ place_stands w o place = all_below (pages_made o) (stands w place.page (header_m
 abbrev pub unmapped_header : ℕ → ℕ → ℕ
 unmapped_header count distance = word_of (run_header count false false distance)
 
+-- all pages of the run have their unmapped headers
 abbrev pub is_run_unmapped : Words → RunPages → Bool
 is_run_unmapped w run = all_below run.count (stands w run.page (unmapped_header run.count))
 
@@ -86,17 +89,21 @@ is_run_gone w freed =
 
 -- before the step that decides a New, or a Free whose register is loaded
 
+-- a New that has the turn
 abbrev pub is_new_at : Stage → Op → Bool
 is_new_at Turn (op.New d ty full) = true
 is_new_at _ _ = false
 
+-- a Free that has the turn
 abbrev pub is_free_at : Stage → Op → Bool
 is_free_at Turn (op.Free p) = true
 is_free_at _ _ = false
 
+-- the call is a New that isn't decided
 abbrev pub is_undecided_new : Flight → Bool
 is_undecided_new f = is_new_at f.stage f.op
 
+-- the call is a Free that isn't decided
 abbrev pub is_undecided_free : Flight → Bool
 is_undecided_free f = is_free_at f.stage f.op
 

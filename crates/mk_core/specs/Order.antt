@@ -9,11 +9,13 @@ use Rattle.mk_core.specs.declared.events.Step.TheVariants as step
 use Rattle.mk_core.specs.declared.events.Group.TheVariants as group
 use Rattle.mk_core.specs.declared.seats.Stage.TheVariants as stage
 
+-- condition 1: there is such a seat
 abbrev pub seat_exists : Config → Seat → Bool
 seat_exists c (Caller k) = nat_lt k c.callers
 seat_exists c (Marker k) = nat_lt k 8
 seat_exists c Host = true
 
+-- whose kind of step it is
 abbrev pub group_of : Step → Group
 group_of (step.Enter o) = group.Callers
 group_of step.Leave = group.Callers
@@ -56,6 +58,7 @@ group_of step.Mmark = group.Markers
 group_of step.Mblack = group.Markers
 group_of step.Over = group.Host
 
+-- condition 2: the seat has steps of this group
 abbrev pub is_open_to : Seat → Group → Bool
 is_open_to (Caller k) group.Callers = true
 is_open_to (Caller k) group.Turn = true
@@ -64,6 +67,7 @@ is_open_to Host group.Turn = true
 is_open_to Host group.Host = true
 is_open_to _ _ = false
 
+-- it is a step of the turn
 abbrev pub is_of_turn : Group → Bool
 is_of_turn group.Turn = true
 is_of_turn _ = false
@@ -108,9 +112,11 @@ comes_next_to_host has_turn (step.Take None) = not has_turn
 comes_next_to_host has_turn step.Over = true
 comes_next_to_host has_turn s = has_turn && is_of_any_holder s
 
+-- the host has the turn
 abbrev pub host_has_turn : Config → Moment → Bool
 host_has_turn c m = m.words.turn == 1 + c.callers
 
+-- condition 3: the step is the seat's next one
 abbrev pub is_in_order : Config → Moment → Seat → Step → Bool
 is_in_order c m (Caller k) s = comes_next (flight_of m (Caller k)).stage (flight_of m (Caller k)).op s
 is_in_order c m (Marker k) s = true

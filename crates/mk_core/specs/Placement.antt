@@ -16,6 +16,7 @@ serves c m f (step.Used p v) = not (is_phase m.words 4) && takes_cell m.words (o
 serves c m f (step.Mark p v) = marks_place m.words (object_made c f.op) (place_now c m f) p v
 serves c m f _ = false
 
+-- the event is a step that fixes a New's place
 abbrev pub event_serves : Config → World → Event → Bool
 event_serves c w e = serves c w.now (flight_of w.now e.seat) e.step
 
@@ -37,9 +38,11 @@ pub record FirstServed (c : Config) {s : Seat} {es : List Event} (t : TurnOf c s
 abbrev pub before_served : {c : Config} {s : Seat} {es : List Event} (t : TurnOf c s es) → FirstServed c t → List Event
 before_served {s = s} t first = t.before ++ record { seat = s; step = step.Take t.op } ∷ first.before
 
+-- the object of the New that a seat is in the middle of
 abbrev pub object_at : Config → List Event → Seat → Object
 object_at c es s = object_made c (flight_of (left c es).now s).op
 
+-- the first-fit place of an object beside the allocations of these events
 abbrev pub place_after : Config → List Event → Object → Option Place
 place_after c es o = place_among_allocations c o.words o.leaf (left c es).allocations
 
@@ -52,6 +55,7 @@ pub record StandsAtItsPlace (c : Config) (es : List Event) (s : Seat) : Type 0 w
   pub base : granted_base c (flight_of (left c es).now s) (left c es).now.seats.holding.placing
       ≡ base_made (object_at c es s) place
 
+-- Each object is granted at its first-fit place.
 abbrev pub GrantsStandAtTheirPlaces : Config → List Event → Type 0
 GrantsStandAtTheirPlaces c es =
     (before : List Event) (e : Event) (behind : List Event) → es ≡ before ++ e ∷ behind → e.step ≡ step.Grant
@@ -63,6 +67,7 @@ pub record FindsNoPlace (c : Config) (es : List Event) (s : Seat) : Type 0 where
   pub cycle : BeginsAndEndsIn turn
   pub no_fit : FitsAmongAllocations c (object_at c es s).words (object_at c es s).leaf (left c es).allocations → ⊥
 
+-- Each Full has its cause.
 abbrev pub FullsFitNowhere : Config → List Event → Type 0
 FullsFitNowhere c es =
     (before : List Event) (e : Event) (behind : List Event) → es ≡ before ++ e ∷ behind → e.step ≡ step.Full

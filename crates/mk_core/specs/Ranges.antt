@@ -8,6 +8,7 @@ use Rattle.mk_core.specs.{NewPlaces.target, Moments.{is_number_of, is_held, othe
 use Rattle.mk_core.specs.declared.events.Word.TheVariants as word
 use Rattle.mk_core.specs.declared.events.Step.TheVariants as step
 
+-- condition 4: there is such a word
 abbrev pub is_word : Config → Word → Bool
 is_word c (word.Gate j) = nat_lt j c.callers
 is_word c (word.Reg j r) = nat_lt j c.callers && nat_lt r 8
@@ -27,6 +28,7 @@ is_word c word.Cycles = true
 is_word c word.Released = true
 is_word c word.Full = true
 
+-- there is such a caller, and it is another one
 abbrev pub is_other_caller : Config → Seat → ℕ → Bool
 is_other_caller c seat j = nat_lt j c.callers && not (is_number_of seat j)
 

@@ -15,13 +15,16 @@ use Rattle.mk_core.specs.declared.seats.Marker.{Marker as MarkerState}
 
 -- what a caller is in: no call, a call between `enter` and `leave`, or one between `take` and `give`
 
+-- between two calls
 abbrev pub is_idle : Stage → Bool
 is_idle stage.Idle = true
 is_idle _ = false
 
+-- in a call that needs no turn
 abbrev pub is_in_call : Flight → Bool
 is_in_call f = not (is_idle f.stage) && not (is_under_turn f.op)
 
+-- in a New or a Free
 abbrev pub is_in_turn : Flight → Bool
 is_in_turn f = not (is_idle f.stage) && is_under_turn f.op
 
@@ -31,9 +34,11 @@ Holds c m (Caller k) = (k < c.callers) × (is_in_turn (flight_of m (Caller k)) �
 Holds c m (Marker k) = ⊥
 Holds c m Host = m.words.turn ≡ 1 + c.callers
 
+-- the marker is in
 abbrev pub is_in : MarkerState → Bool
 is_in x = not (is_out x.presence)
 
+-- No marker attends.
 abbrev pub NoneAttends : Moment → Type 0
 NoneAttends m = (k : ℕ) → is_attending (marker_of m k).presence ≡ false
 
@@ -95,6 +100,7 @@ pub record SnapshotTells (c : Config) {es : List Event} (begin : At is_begin es)
       → (i : ℕ) × (is_quarantined (placed_at (left c begin.before).allocations i) ≡ true)
       × (cell_of_allocation c (placed_at (left c begin.before).allocations i) ≡ cell)
 
+-- Until a `release` each snapshot is what was freed at the last `begin`.
 abbrev pub SnapshotsTell : Config → List Event → Type 0
 SnapshotsTell c es =
     (begin : At is_begin es) → list_any (λ (e : Event). is_begin e.step || is_release e.step) begin.behind ≡ false

@@ -78,6 +78,7 @@ abbrev pub UnreleasedStorageIsOfAllocations : Type 0
 UnreleasedStorageIsOfAllocations =
     (c : Config) (xs : List PlacedAllocation) (s : Storage) → Contains (unreleased_storage c xs) s ↔ HasStorage c xs s
 
+-- The unreleased storage of two lists is that of the one and then that of the other.
 abbrev pub UnreleasedStorageInParts : Type 0
 UnreleasedStorageInParts =
     (c : Config) (xs ys : List PlacedAllocation)

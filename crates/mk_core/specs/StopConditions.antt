@@ -10,10 +10,12 @@ use Rattle.mk_core.specs.Cells.{cell_bits, has_no_pointers, pointed_cell, is_mar
 use Rattle.mk_core.specs.{Cells.none_is_left_unmarked, declared.seats.Object.Object, NewPlaces.{object_made, bits_made}}
 use Rattle.mk_core.specs.{TurnConditions.place_now, Moments.{Moment, is_phase}}
 
+-- the marker attends
 abbrev pub is_attending : Presence → Bool
 is_attending Attending = true
 is_attending _ = false
 
+-- no marker attends
 abbrev pub none_attends : List Marker → Bool
 none_attends markers = list_all (λ (marker : Marker). not (is_attending marker.presence)) markers
 
@@ -21,6 +23,7 @@ none_attends markers = list_all (λ (marker : Marker). not (is_attending marker.
 abbrev pub is_bit_of : Option Cell → ℕ → ℕ → Bool
 is_bit_of cell page value = is_some_and (λ (x : Cell). (page == x.page) && (value == 2 ^ x.index)) cell
 
+-- the mark is that of the cell into which the hand points
 abbrev pub marks_by_hand : ℕ → Words → Option Hand → ℕ → ℕ → Bool
 marks_by_hand pages w hand page value =
     is_some_and (λ (x : Hand). is_bit_of (pointed_cell pages w.pages x.value) page value) hand
@@ -32,6 +35,7 @@ marks_place w o place page value =
     (λ (x : Place). is_phase w 1 && (page == x.page) && (header_at w page == 0) && (value == bits_made o))
     place
 
+-- the own condition of `mark`
 abbrev pub may_mark : Config → Moment → Flight → ℕ → ℕ → Bool
 may_mark c m f page value =
     marks_by_hand c.pages m.words m.seats.holding.hand page value || marks_place m.words (object_made c f.op)
@@ -42,6 +46,7 @@ abbrev pub has_clean_page : Words → ℕ → Bool
 has_clean_page w p =
     (slice_index w.marks p == 0) && (slice_index w.blacks p == 0) && (slice_index w.freed p == slice_index w.snapshot p)
 
+-- the own condition of `begin`
 abbrev pub may_begin : ℕ → Words → Bool
 may_begin pages w = all_below pages (has_clean_page w) && (w.fresh == 0)
 
@@ -51,9 +56,11 @@ has_closed_page w p =
     (without (bit_and (slice_index w.marks p) (cell_bits w p)) (slice_index w.blacks p) == 0)
     && (slice_index w.dirty p == 0)
 
+-- all registers and globals point well
 abbrev pub roots_point_well : ℕ → Words → Bool
 roots_point_well pages w = list_all (points_well pages w) w.registers && list_all (points_well pages w) w.globals
 
+-- the own condition of `close`
 abbrev pub may_close : Config → Moment → Bool
 may_close c m = none_attends m.seats.markers && all_below c.pages (has_closed_page m.words)
     && roots_point_well c.pages m.words
@@ -63,6 +70,7 @@ abbrev pub has_settled_page : Words → ℕ → Bool
 has_settled_page w p =
     none_is_left_unmarked w p && ((header_at w p == 0) || not (used_at w (head_page w p) == 0))
 
+-- the own condition of `end`
 abbrev pub may_end : ℕ → Words → Bool
 may_end pages w = all_below pages (has_settled_page w)
 
@@ -73,6 +81,7 @@ may_undirty m page =
     || (none_attends m.seats.markers && (slice_index m.words.blacks page == 0)
     && (slice_index m.words.blacks (head_page m.words page) == 0))
 
+-- the own condition of `unblack`
 abbrev pub may_unblack : Moment → Bool
 may_unblack m = not (is_phase m.words 2) || none_attends m.seats.markers
 
@@ -86,6 +95,7 @@ may_turn_black pages w cell =
 abbrev pub blackens : ℕ → Words → ℕ → ℕ → ℕ → Bool
 blackens pages w page value k = (value == 2 ^ k) && may_turn_black pages w (record { page = page; index = k })
 
+-- the own condition of `black`
 abbrev pub may_black : Config → Moment → ℕ → ℕ → Bool
 may_black c m page value =
     none_attends m.seats.markers && not (all_below 32 (λ k. not (blackens c.pages m.words page value k)))

@@ -26,14 +26,17 @@ IsWordOfAllocation c w n a =
 
 -- After the list a register of the never-reusing heap, a global or a heap word points into the allocation.
 
+-- Register i points into allocation b after these events.
 abbrev pub RegisterPointsInto : Config → List Event → ℕ → ℕ → Type 0
 RegisterPointsInto c front i b =
     PointsIntoAllocation c (left c front)
     (image_of (bases_of (left c front).allocations) (slice_index_or (never_behind c front).registers i Null)) b
 
+-- Global g points into allocation b.
 abbrev pub GlobalPointsInto : Config → List Event → ℕ → ℕ → Type 0
 GlobalPointsInto c front g b = PointsIntoAllocation c (left c front) (slice_index (left c front).now.words.globals g) b
 
+-- Heap word n points into allocation b.
 abbrev pub WordPointsInto : Config → List Event → ℕ → ℕ → Type 0
 WordPointsInto c front n b = PointsIntoAllocation c (left c front) (slice_index (left c front).now.words.heap n) b
 

@@ -44,6 +44,7 @@ empties w page value =
     (value == 0) && (used_at w (head_page w page) == 0)
     && (slice_index w.freed (head_page w page) == 0) && (slice_index w.snapshot (head_page w page) == 0)
 
+-- the own condition of `head`
 abbrev pub may_head : Config → Moment → Flight → ℕ → ℕ → Bool
 may_head c m f page value =
     if is_phase m.words 4
@@ -59,6 +60,7 @@ takes_cell w o place page value =
     && (value == used_at w page + 2 ^ x.index))
     place
 
+-- the New's cell is used already
 abbrev pub is_used_once : Placing → Bool
 is_used_once (Used place) = true
 is_used_once _ = false
@@ -75,6 +77,7 @@ gives_back w page value =
     (bit_and value (used_at w page) == value) && are_left_unmarked w page (used_at w page - value)
     && are_wiped w page (used_at w page - value)
 
+-- the own condition of `used`
 abbrev pub may_use : Config → Moment → Flight → ℕ → ℕ → Bool
 may_use c m f page value =
     if is_phase m.words 4
@@ -108,12 +111,14 @@ drops w page freed snapshot =
     && (bit_and (used_at w page) (slice_index w.snapshot page - snapshot) == 0)
     && (freed == without (slice_index w.freed page) (slice_index w.snapshot page - snapshot))
 
+-- the own condition of `quar`
 abbrev pub may_quarantine : Config → Moment → Flight → ℕ → ℕ → Bool
 may_quarantine c m f page value =
     if is_phase m.words 4
     then drops m.words page (value % 2 ^ 32) (value / 2 ^ 32)
     else frees m.words (target c.pages m.words f) page value || takes_snapshot m.words page value
 
+-- the words held, as the pages show them
 abbrev pub held_by_pages : Words → ℕ
 held_by_pages w = held_by_uses (uses_of_pages w.pages)
 

@@ -52,21 +52,27 @@ zero_words_of pages =
       heap = replicate (64 * pages) 0;
     }
 
+-- page p, free if there is none
 abbrev pub page_of : Words → ℕ → Page
 page_of w p = slice_index_or w.pages p free_page
 
+-- its header word
 abbrev pub header_at : Words → ℕ → ℕ
 header_at w p = (page_of w p).header
 
+-- its used bits
 abbrev pub used_at : Words → ℕ → ℕ
 used_at w p = (page_of w p).used
 
+-- the word with these freed and snapshot bits
 abbrev pub quarantine_word : ℕ → ℕ → ℕ
 quarantine_word freed snapshot = freed + 2 ^ 32 * snapshot
 
+-- register r of the caller
 abbrev pub register_word : Words → ℕ → ℕ → ℕ
 register_word w caller r = slice_index w.registers (8 * caller + r)
 
+-- the word of this name
 abbrev pub named_word : Words → Word → ℕ
 named_word w word.Phase = w.phase
 named_word w (word.Gate caller) = slice_index w.gates caller
@@ -85,10 +91,12 @@ named_word w word.Cycles = w.cycles
 named_word w word.Released = w.released
 named_word w word.Full = w.full
 
+-- the word of the table
 abbrev pub word_in : Words → TableWord → ℕ
 word_in w Turn = w.turn
 word_in w (Named name) = named_word w name
 
+-- the words, with this word changed
 abbrev pub with_named : Words → Word → ℕ → Words
 with_named w word.Phase value = record w { phase = value }
 with_named w (word.Gate caller) value = record w { gates = slice_set w.gates caller value }
@@ -110,6 +118,7 @@ with_named w word.Cycles value = record w { cycles = value }
 with_named w word.Released value = record w { released = value }
 with_named w word.Full value = record w { full = value }
 
+-- the same of each word of the table
 abbrev pub with_word_in : Words → TableWord → ℕ → Words
 with_word_in w Turn value = record w { turn = value }
 with_word_in w (Named name) value = with_named w name value

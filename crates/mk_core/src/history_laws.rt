@@ -11,6 +11,7 @@ use crate::Event;
 /// A list of events leaves, decides and asks for what its earlier part does, and then its later part after that. The
 /// earlier part of a history is a history.
 
+/// A list in two parts: what it leaves, whether it is enabled, its calls and replies are those of its parts.
 #[tactic(auto, using(crate::proofs::HistoryParts::histories_are_of_two_parts_facts))]
 pub fn histories_are_of_two_parts()
     ensures left { (c : Config) (es more : List Event) → LeftInParts c es more }

@@ -63,5 +63,6 @@ pub mod Since
 pub mod MarksBeside
 pub mod BesideSteps
 pub mod HeldGates
+pub mod HeldFirst
 pub mod ReachedMarks
 pub mod MarkedRoots

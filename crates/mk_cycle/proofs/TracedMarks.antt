@@ -10,7 +10,7 @@ use Rattle.mk_cycle.specs.Stops.{HolderIsLoaded, IsWanted, is_loaded}
 use Rattle.mk_words.specs.Doing.{Does, are_of, done_in}
 use Rattle.mk_core.specs.{Frames.CountsAreLeft, Growing.Finding}
 use Rattle.mk_cycle.proofs.KeptInParts.{keeps_at_once}
-use Rattle.mk_cycle.specs.EngineLaw.{BeginsMarking, ClosesMarks, IsFreeForCycle, is_pending_free}
+use Rattle.mk_cycle.specs.EngineLaw.{BeginsMarking, ClosesMarks, IsFreeForCycle, WantsFirst, is_pending_free}
 use Rattle.mk_cycle.specs.TurnKeeps.{Done, KeepsCall, LeavesTurn, but_phase, unchanged}
 use Rattle.mk_cycle.specs.Kinds.{begins_marking, closes_marks, is_want as is_wish}
 use Rattle.mk_words.specs.{States.IsTurn, States.PassState, States.now_of, States.world_of, Steps.IsEnabledTo}
@@ -102,9 +102,9 @@ module _ (p q : PassState) (pass : q ≡ record p { seen = q.seen })
   unfolding steady_as
   keeps_turn counts = record { call = keeps_call; steady = ap steady_as same; counts = counts }
 
-pub closes_by_tracing : {p q : PassState} → Counted is_tracing TracesReached is_want p q 1 → IsWanted q
-    → IsEnabledTo q Step.Close → MarksAreClosed q.table.config (world_of q) → ClosesMarks p q
-closes_by_tracing {p} {q} counted wanted close closed =
+pub closes_by_tracing : {p q : PassState} → WantsFirst p q → Counted is_tracing TracesReached is_want p q 1
+    → IsWanted q → IsEnabledTo q Step.Close → MarksAreClosed q.table.config (world_of q) → ClosesMarks p q
+closes_by_tracing {p} {q} wants counted wanted close closed =
     let t : Traces is_tracing TracesReached p q = counted.traces in
     let d : Does is_tracing p q = t.does in
     let pass : q ≡ record p { seen = q.seen } = d.is ∙ ap (λ (x : PassState). record p { seen = x.seen }) (sym d.is) in
@@ -115,6 +115,7 @@ closes_by_tracing {p} {q} counted wanted close closed =
         own_or_others = d.own_or_others;
         of_kinds = closing_kinds (done_in p d.more) d.of_kinds;
       };
+      wants = wants;
       one_want = same_count (done_in p d.more) ∙ counted.count;
       keeps = keeps_turn p q pass t.untouched t.counts;
       phase = wanted.phase;

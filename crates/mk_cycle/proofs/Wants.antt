@@ -1,12 +1,14 @@
 -- The wish to close the marks, and the looks at the phase after it.
-use Rattle.mk_words.proofs.Below.Laws.Vocabulary.{Config, Moment, Steady, Step, Word, World, ℕ, ap, arith, false}
-use Rattle.mk_words.proofs.Below.Laws.Vocabulary.{phase_of, refl, true, ◌%◌, ◌+◌, ◌<◌, ◌^◌, ◌∙◌, ◌≡◌}
+use Rattle.mk_words.proofs.Below.Laws.Vocabulary.{Bool, Config, Event, List, Moment, Steady, Step, Word, World, ℕ, ap}
+use Rattle.mk_words.proofs.Below.Laws.Vocabulary.{append-nil, append_assoc, arith, false, phase_of, refl, sym, true}
+use Rattle.mk_words.proofs.Below.Laws.Vocabulary.{[], ◌%◌, ◌+◌, ◌++◌, ◌<◌, ◌^◌, ◌∙◌, ◌≡◌}
 use Rattle.mk_words.proofs.{Below.Laws.ProtocolReadings.words_tell, PointedCells.found_there}
 use Rattle.mk_cycle.proofs.Parts.{counted_then, counted_wider, traces_step, traces_wider}
 use Rattle.mk_cycle.proofs.Steps.{step_counts, step_untouched, still_ready}
 use Rattle.mk_cycle.specs.Tracing.{Counted, Traces, is_marking, is_tracing, is_waiting, is_want}
-use Rattle.mk_cycle.specs.{Grays.{TracesReached, WaitsForMarkers}, Stops.{HolderIsLoaded, IsWanted}}
-use Rattle.mk_words.proofs.TurnSteps.{still_stopped}
+use Rattle.mk_cycle.specs.{EngineLaw.WantsFirst, Grays.{TracesReached, WaitsForMarkers}}
+use Rattle.mk_cycle.specs.Stops.{HolderIsLoaded, IsWanted}
+use Rattle.mk_words.{proofs.TurnSteps.still_stopped, specs.Doing.Does}
 use Rattle.mk_words.specs.{States.{PassState, TurnState, now_of}, Steps.Finds, TurnSteps.{Acts, IsStopped, world_at}}
 
 phase_there : {p q : PassState} {s : Step} (a : Acts p s q)
@@ -53,6 +55,25 @@ look_wanted {t} {u} waits {n = n} finds few =
       phase = waits.phase;
       none = tell.phase.none_in (omega arith);
     }
+
+-- The wish comes before all else,
+
+pub wants_now : {p q : PassState} → Acts p Step.Want q → WantsFirst p q
+wants_now {q = q} a = record { wanted = q; want = a.makes; rest = []; is = sym (append-nil q.seen) }
+
+-- also when more was seen after it.
+
+pub wants_later : {p q r : PassState} → WantsFirst p q → (more : List Event) → r.seen ≡ q.seen ++ more
+    → WantsFirst p r
+wants_later {q = q} w more is = record {
+  wanted = w.wanted;
+  want = w.want;
+  rest = w.rest ++ more;
+  is = is ∙ ap (λ (l : List Event). l ++ more) w.is ∙ append_assoc w.wanted.seen w.rest more;
+}
+
+pub wants_by : {kinds : Step → Bool} {p q r : PassState} → WantsFirst p q → Does kinds q r → WantsFirst p r
+wants_by w d = wants_later w d.more (ap (λ (x : PassState). x.seen) d.is)
 
 -- Looks after the wish add no other, nor does the marking.
 

@@ -28,6 +28,7 @@ with_cycle_begun s =
       allocations = map no_longer_fresh s.allocations;
     }
 
+-- A cycle began, and nothing else changed.
 pub record BeginsCycle (p q : PassState) : Type 0 where
   pub makes : MakesBegin p q
   pub pass : q ≡ record p { seen = q.seen }

@@ -21,15 +21,18 @@ done_since p q = done_in p (seen_since p q)
 
 -- looks at a root
 
+-- they are one register, or one global
 abbrev pub is_same_root : Word → Word → Bool
 is_same_root (word.Reg j r) (word.Reg k s) = (j == k) && (r == s)
 is_same_root (word.Global g) (word.Global h) = g == h
 is_same_root _ _ = false
 
+-- it is a look at this word
 abbrev pub looks_at : Word → Step → Bool
 looks_at x (step.Look y) = is_same_root x y
 looks_at x _ = false
 
+-- it is a look at a root
 abbrev pub looks_at_root : Step → Bool
 looks_at_root (step.Look x) = is_root x
 looks_at_root _ = false
@@ -40,9 +43,11 @@ LooksAt x p q = list_any (λ (f : Finding). looks_at x f.event.step) (done_since
 
 -- Each value that its looks found in roots points well now.
 
+-- what the look found points well now
 abbrev pub found_well : ℕ → Words → Finding → Bool
 found_well pages w f = not (looks_at_root f.event.step) || points_well pages w f.found
 
+-- So does all that was found at roots.
 abbrev pub FoundPointsWell : PassState → PassState → Type 0
 FoundPointsWell p q = list_all (found_well p.table.config.pages (now_of q).words) (done_since p q) ≡ true
 

@@ -5,9 +5,11 @@ use Rattle.mk_words.specs.States.{PassState, now_of}
 use Rattle.mk_words.specs.Doing.{Does}
 use Rattle.mk_cycle.specs.{Kinds.clears, TurnKeeps.{LeavesTurn, KeepsGates, but_cleaned}}
 
+-- Nothing on the page is marked.
 abbrev pub IsUnmarked : PassState → ℕ → Type 0
 IsUnmarked p page = slice_index (now_of p).words.marks page ≡ 0
 
+-- Nothing on the page is black.
 abbrev pub IsUnscanned : PassState → ℕ → Type 0
 IsUnscanned p page = slice_index (now_of p).words.blacks page ≡ 0
 
@@ -23,6 +25,7 @@ pub record WasUndirty (page : ℕ) (p q : PassState) : Type 0 where
   pub is : q.seen ≡ p.seen ++ (before ++ behind)
   pub zero : slice_index (left p.table.config (p.seen ++ before)).now.words.dirty page ≡ 0
 
+-- The page is ready for a `begin`.
 pub record IsClean (p : PassState) (page : ℕ) : Type 0 where
   pub unmarked : IsUnmarked p page
   pub unscanned : IsUnscanned p page

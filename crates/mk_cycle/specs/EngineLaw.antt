@@ -1,10 +1,11 @@
 -- The law of an engine: what it makes of a cycle, and what it leaves alone.
-use Rattle.std.specs.Prelude.{◌≡◌, ℕ, Bool, true, false}
+use Rattle.std.specs.Prelude.{◌≡◌, ℕ, Bool, true, false, List, ◌++◌}
 use Rattle.mk_never.specs.declared.operations.Op.{Op}
-use Rattle.mk_core.specs.{declared.events.Word.Word, declared.seats.Flight.Flight, declared.seats.Stage.Stage}
+use Rattle.mk_core.specs.{declared.events.Event.Event, declared.events.Word.Word, declared.seats.Flight.Flight}
+use Rattle.mk_core.specs.declared.seats.Stage.{Stage}
 use Rattle.mk_core.specs.{Words.phase_of, ClosedMarks.MarksAreClosed}
 use Rattle.mk_words.specs.{Below.Laws.Protocol.has_place, Doing.{Does, count_done}}
-use Rattle.mk_words.specs.{States.{PassState, WordsState, world_of, now_of, call_of}, Steps.IsEnabledTo}
+use Rattle.mk_words.specs.{States.{PassState, WordsState, world_of, now_of, call_of}, Steps.{IsEnabledTo, Makes}}
 use Rattle.mk_cycle.specs.{Kinds.{is_want, begins_marking, closes_marks}, TurnKeeps.{LeavesTurn, KeepsGates, IsGone}}
 use Rattle.mk_cycle.specs.TurnKeeps.{unchanged, but_phase}
 use Rattle.mk_never.specs.declared.operations.Op.TheVariants as op
@@ -18,6 +19,7 @@ is_pending_free_at (op.Free p) stage.Give = false
 is_pending_free_at (op.Free p) _ = true
 is_pending_free_at _ _ = false
 
+-- the call is a Free that isn't decided
 abbrev pub is_pending_free : Flight → Bool
 is_pending_free f = is_pending_free_at f.op f.stage
 
@@ -28,6 +30,7 @@ pub record IsFreeForCycle (p : PassState) : Type 0 where
   pub unplaced : has_place (now_of p).seats.holding.placing ≡ false
   pub gone : IsGone p
 
+-- The phase is this number.
 abbrev pub IsAtPhase : PassState → ℕ → Type 0
 IsAtPhase p n = phase_of (now_of p).words ≡ n
 
@@ -48,15 +51,24 @@ pub record BeginsMarking (p q : PassState) : Type 0 where
   pub keeps : LeavesTurn unchanged p q
   pub gates : KeepsGates p q
 
--- What it does in `close_marks`: it wants the close, once, and then it may close, with all marks closed.
+-- Before all else that it does it wants the close.
+pub record WantsFirst (p q : PassState) : Type 0 where
+  pub wanted : PassState
+  pub want : Makes p step.Want wanted
+  pub rest : List Event
+  pub is : q.seen ≡ wanted.seen ++ rest
+
+-- What it does in `close_marks`: it wants the close, first and once, and then it may close, with all marks closed.
 pub record ClosesMarks (p q : PassState) : Type 0 where
   pub does : Does closes_marks p q
+  pub wants : WantsFirst p q
   pub one_want : count_done is_want does ≡ 1
   pub keeps : LeavesTurn but_phase p q
   pub phase : IsAtPhase q 2
   pub close : IsEnabledTo q step.Close
   pub closed : MarksAreClosed q.table.config (world_of q)
 
+-- it is a register
 abbrev pub is_register : Word → Bool
 is_register (word.Reg j r) = true
 is_register _ = false

@@ -41,6 +41,7 @@ pub record FinishesCycle (p q : PassState) : Type 0 where
   pub exact : TalliesAreExact p.table.config p.seen → TalliesAreExact q.table.config q.seen
   pub tidy : TalliesAreTidy p.table.config p.seen → TalliesAreTidy q.table.config q.seen
 
+-- the allocation was released in between
 abbrev pub is_newly_released : PlacedAllocation → PlacedAllocation → Bool
 is_newly_released before behind = not before.released && behind.released
 

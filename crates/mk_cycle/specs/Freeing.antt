@@ -22,6 +22,7 @@ pub record IsUnmappedWord (p : PassState) (n : ℕ) : Type 0 where
   pub within : n < 64 * p.table.config.pages
   pub unmapped : IsUnmapped p n
 
+-- Heap word n is 0.
 abbrev pub IsZero : PassState → ℕ → Type 0
 IsZero p n = slice_index (now_of p).words.heap n ≡ 0
 
@@ -39,6 +40,7 @@ pub record PageState : Type 0 where
   pub freed : ℕ
   pub snapshot : ℕ
 
+-- what giving back changes of a page
 abbrev pub page_state : PassState → ℕ → PageState
 page_state p r =
     record {
@@ -47,6 +49,7 @@ page_state p r =
       snapshot = slice_index (now_of p).words.snapshot r;
     }
 
+-- The page is as it was.
 abbrev pub SamePage : PassState → PassState → ℕ → Type 0
 SamePage p q r = page_state q r ≡ page_state p r
 
@@ -80,6 +83,7 @@ pub record MayGiveBackOn (w : WordsState) (p : PassState) (pages page header : �
   pub is_header : header ≡ header_at (now_of p).words page
   pub cells : HasFreeCells p page
 
+-- It is the page's quarantine word.
 abbrev pub IsQuarantineWord : PassState → ℕ → ℕ → Type 0
 IsQuarantineWord p page n =
     n ≡ quarantine_word (slice_index (now_of p).words.freed page) (slice_index (now_of p).words.snapshot page)
@@ -98,6 +102,7 @@ IsSettledPage p page = has_settled_page (now_of p).words page ≡ true
 abbrev pub is_occupied_page : Words → ℕ → Bool
 is_occupied_page w page = (header_at w page == 0) || not (used_at w (head_page w page) == 0)
 
+-- Something on the page is used.
 abbrev pub IsOccupied : PassState → ℕ → Type 0
 IsOccupied p page = is_occupied_page (now_of p).words page ≡ true
 

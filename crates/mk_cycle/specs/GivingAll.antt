@@ -6,6 +6,7 @@ use Rattle.mk_words.specs.Doing.{Does}
 use Rattle.mk_cycle.specs.{EngineLaw.IsAtPhase, Freeing.{Frees, IsSettledPage}, Holding.HoldsGates}
 use Rattle.mk_cycle.specs.{Kinds.is_giving_back, Releasing.ReleasesUnmarked}
 
+-- All that was released is given back, by these stages.
 pub record GivesAllBack (p q : PassState) : Type 0 where
   pub held : PassState
   pub released : PassState

@@ -14,6 +14,7 @@ use Rattle.mk_cycle.specs.Tracing.{is_marking, is_waiting, is_want}
 use Rattle.mk_core.specs.declared.events.Step.TheVariants as step
 use Rattle.mk_core.specs.declared.events.Word.TheVariants as word
 
+-- the cell is black
 abbrev pub is_black : Words → Cell → Bool
 is_black w cell = has_bit (slice_index w.blacks cell.page) cell.index
 
@@ -88,15 +89,19 @@ pub record HandPointsInto (p : PassState) (cell : Cell) : Type 0 where
 
 -- The words with one of them changed: a page's mark or black word gets bits, or its black or dirty word is cleared.
 
+-- the words, with these bits marked
 abbrev pub with_marks : ℕ → ℕ → Words → Words
 with_marks p bits w = record w { marks = slice_set w.marks p (bit_or (slice_index w.marks p) bits) }
 
+-- the words, with these bits black
 abbrev pub with_blacks : ℕ → ℕ → Words → Words
 with_blacks p bits w = record w { blacks = slice_set w.blacks p (bit_or (slice_index w.blacks p) bits) }
 
+-- the words, with no black bit on the page
 abbrev pub without_blacks : ℕ → Words → Words
 without_blacks p w = record w { blacks = slice_set w.blacks p 0 }
 
+-- the words, with the page no more dirty
 abbrev pub without_dirty : ℕ → Words → Words
 without_dirty p w = record w { dirty = slice_set w.dirty p 0 }
 
@@ -130,10 +135,12 @@ AllAreBlack count marks blacks = (k : ℕ) → k < count → has_bit marks k ≡
 
 -- What a caller's registers were points well now, and so does what a global was.
 
+-- All registers of the caller point well.
 abbrev pub RegistersAreWell : Config → PassState → PassState → ℕ → Type 0
 RegistersAreWell c p q k =
     (r : ℕ) → r < 8 → points_well c.pages (still_words q) (register_word (still_words p) k r) ≡ true
 
+-- The global points well.
 abbrev pub GlobalIsWell : Config → PassState → PassState → ℕ → Type 0
 GlobalIsWell c p q g = points_well c.pages (still_words q) (slice_index (still_words p).globals g) ≡ true
 

@@ -16,9 +16,11 @@ pub data HoldsSuch (such : ℕ → Bool) (t : TurnState) : TurnState → Type 0 
 
 -- this gate, and those of all other callers
 
+-- only this caller's gate
 abbrev pub only_gate : ℕ → ℕ → Bool
 only_gate caller j = j == caller
 
+-- the gates of all others
 abbrev pub all_others : Seat → ℕ → Bool
 all_others s j = not (is_number_of s j)
 

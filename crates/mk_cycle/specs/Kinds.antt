@@ -2,7 +2,9 @@
 use Rattle.std.specs.Prelude.{Bool, true, false}
 use Rattle.mk_core.specs.declared.events.Step.{Step}
 use Rattle.mk_core.specs.declared.events.Step.TheVariants as step
+use Rattle.mk_core.specs.declared.events.Word.TheVariants as word
 
+-- it is a `want`
 abbrev pub is_want : Step → Bool
 is_want step.Want = true
 is_want _ = false
@@ -35,9 +37,9 @@ clears (step.Quar p v) = true
 clears (step.Tally n v) = true
 clears _ = false
 
--- before the stop: the gates are held
+-- before the stop: the gates are held, of which each is looked at first
 abbrev pub holds_gates : Step → Bool
-holds_gates (step.Look x) = true
+holds_gates (step.Look (word.Gate j)) = true
 holds_gates (step.Hold j) = true
 holds_gates _ = false
 

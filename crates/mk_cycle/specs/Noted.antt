@@ -22,6 +22,7 @@ pub record Notes : Type 0 where
 abbrev pub listed : Worklist → Notes
 listed work = record { cells = work.cells.items; is_whole = work.is_whole }
 
+-- the noted cells, with one that isn't in the list yet
 abbrev pub with_last : Worklist → Option Noted → Notes
 with_last work last = record { cells = work.cells.items ++ option_to_list last; is_whole = work.is_whole }
 

@@ -15,23 +15,29 @@ left_marked w p = bit_and (slice_index w.snapshot p) (slice_index w.marks p)
 -- how many cells of a page are left unmarked, the words of these, how many of them are held, and how many cells are
 -- marked
 
+-- the cells of a page that are in the snapshot and not marked
 abbrev pub cells_unmarked : Words → ℕ → ℕ
 cells_unmarked w p = count_ones (left_unmarked w p)
 
+-- their words
 abbrev pub words_unmarked : Words → ℕ → ℕ
 words_unmarked w p = cells_unmarked w p * words_under (header_in w p)
 
+-- those of them that are held
 abbrev pub held_unmarked : Words → ℕ → ℕ
 held_unmarked w p = if is_unmapped_header (header_in w p) then 0 else words_unmarked w p
 
+-- the cells that are in the snapshot and marked
 abbrev pub cells_marked : Words → ℕ → ℕ
 cells_marked w p = count_ones (left_marked w p)
 
 -- on one page, and on the first pages, of this many
 
+-- what a page's release comes to
 abbrev pub released_on : Words → ℕ → Released
 released_on w p = record { count = cells_unmarked w p; words = words_unmarked w p; kept = cells_marked w p }
 
+-- what that of all pages below this one comes to
 abbrev pub released_below : Words → ℕ → Released
 released_below w n =
     record {
@@ -40,6 +46,7 @@ released_below w n =
       kept = sum_below n (cells_marked w);
     }
 
+-- the held words among them
 abbrev pub held_below : Words → ℕ → ℕ
 held_below w n = sum_below n (held_unmarked w)
 

@@ -17,6 +17,7 @@ pub record MakesRelease (p q : PassState) : Type 0 where
 abbrev pub words_released : {p q : PassState} → MakesRelease p q → Words
 words_released m = (moment_of m.release).words
 
+-- What is in the snapshot and not marked is released.
 pub record ReleasesUnmarked (p q : PassState) : Type 0 where
   pub makes : MakesRelease p q
   pub call : KeepsCall p q

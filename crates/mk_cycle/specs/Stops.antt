@@ -9,11 +9,13 @@ use Rattle.mk_core.specs.declared.seats.Stage.TheVariants as stage
 
 -- A caller's New or Free has loaded what it loads, so that any step of a holder may come.
 
+-- a stage at which a Free's register was loaded
 abbrev pub is_loaded_at : Stage → Bool
 is_loaded_at stage.Turn = true
 is_loaded_at stage.Give = true
 is_loaded_at _ = false
 
+-- the seat is no caller, or its Free has loaded its register
 abbrev pub is_loaded : Seat → Flight → Bool
 is_loaded (Caller k) f = is_loaded_at f.stage
 is_loaded _ f = true
@@ -58,5 +60,6 @@ is_root _ = false
 abbrev pub still_words : PassState → Words
 still_words p = record (now_of p).words { phase = 0 }
 
+-- what the turn's holder has in hand
 abbrev pub hand_of : PassState → Option Hand
 hand_of p = (now_of p).seats.holding.hand

@@ -15,6 +15,7 @@ pub record Sets (becomes : Steady → Steady) (p q : PassState) : Type 0 where
   pub counts : CountsAreLeft p.table.config p.seen q.seen
   pub gates : KeepsGates p q
 
+-- the tallies, with this one set
 abbrev pub with_tally : Tally → ℕ → Steady → Steady
 with_tally tally.Held v s = record s { held = v }
 with_tally tally.Fresh v s = record s { fresh = v }

@@ -13,6 +13,7 @@ use Rattle.mk_core.specs.declared.events.Word.TheVariants as word
 
 -- the kinds by which marks are made in a stop, with and without the wish to close them
 
+-- steps that look, mark and blacken
 abbrev pub is_marking : Step → Bool
 is_marking (step.Look x) = true
 is_marking (step.Mark p v) = true
@@ -21,10 +22,12 @@ is_marking (step.Black p v) = true
 is_marking (step.Unblack p) = true
 is_marking _ = false
 
+-- it is a `want`
 abbrev pub is_want : Step → Bool
 is_want step.Want = true
 is_want _ = false
 
+-- these, and the `want` before them
 abbrev pub is_tracing : Step → Bool
 is_tracing step.Want = true
 is_tracing s = is_marking s
@@ -57,6 +60,7 @@ pub record Untouched : Type 0 where
   pub fresh_words : ℕ
   pub allocations : List PlacedAllocation
 
+-- what marking leaves as it is
 abbrev pub untouched_of : World → Untouched
 untouched_of w =
     record {

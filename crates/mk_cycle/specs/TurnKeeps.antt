@@ -11,6 +11,7 @@ pub record Done : Type 0 where
   pub freed : Option RunPages
   pub cycle : OwnCycle
 
+-- what the turn's holder has done in its call
 abbrev pub done_of : Moment → Done
 done_of m =
     record { placing = m.seats.holding.placing; freed = m.seats.holding.freed; cycle = m.seats.holding.cycle }
@@ -39,9 +40,11 @@ KeepsGates p q = (j : ℕ) → j < p.table.config.callers → is_held (now_of q)
 
 -- views
 
+-- nothing changes
 abbrev pub unchanged : Steady → Steady
 unchanged s = s
 
+-- only the phase changes, to 0
 abbrev pub but_phase : Steady → Steady
 but_phase s = record s { phase = 0 }
 

@@ -2,7 +2,7 @@
 ghost use Rattle.std.specs.Prelude.{◌≡◌, ℕ, ◌<◌, slice_index};
 ghost use Rattle.mk_core.specs.{ClosedMarks.MarksAreClosed, Words.phase_of};
 ghost use Rattle.mk_words.specs.{States.{now_of, world_of}, Steps.IsEnabledTo};
-ghost use Rattle.mk_cycle.specs.Grays.{HasNoGray, MarksOn, RootsPointWell, TracesReached};
+ghost use Rattle.mk_cycle.specs.{EngineLaw.WantsFirst, Grays.{HasNoGray, MarksOn, RootsPointWell, TracesReached}};
 ghost use Rattle.mk_cycle.specs.Stops.{HolderIsLoaded, IsWanted, MayTrace, still_words};
 ghost use Rattle.mk_cycle.specs.Tracing.{Counted, is_tracing, is_want};
 ghost use Rattle.mk_core.specs.declared.events.Step.TheVariants as step;
@@ -38,6 +38,7 @@ pub fn close_marks<R: Wait>(rt: &R, words: &Words, stop: &mut Stopped, work: &mu
     requires phase { phase_of (now_of stop.old.pass).words ≡ 1 }
     ensures table { stop.new.pass.table ≡ stop.old.pass.table }
     ensures wanted { IsWanted stop.new.pass }
+    ensures wants { WantsFirst stop.old.pass stop.new.pass }
     ensures traces { Counted is_tracing TracesReached is_want stop.old.pass stop.new.pass 1 }
     ensures closes { IsEnabledTo stop.new.pass step.Close }
     ensures closed { MarksAreClosed stop.new.pass.table.config (world_of stop.new.pass) }

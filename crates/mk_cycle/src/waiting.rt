@@ -2,7 +2,8 @@
 ghost use Rattle.std.specs.Prelude.{◌≡◌, ◌<◌};
 ghost use Rattle.mk_core.specs.Words.{phase_of};
 ghost use Rattle.mk_words.specs.{States.now_of, TurnSteps.IsStopped};
-ghost use Rattle.mk_cycle.specs.{Grays.{TracesReached, WaitsForMarkers}, Stops.{HolderIsLoaded, IsWanted}};
+ghost use Rattle.mk_cycle.specs.{EngineLaw.WantsFirst, Grays.{TracesReached, WaitsForMarkers}};
+ghost use Rattle.mk_cycle.specs.Stops.{HolderIsLoaded, IsWanted};
 ghost use Rattle.mk_cycle.specs.Tracing.{Counted, is_waiting, is_want};
 
 use crossbeam_utils::Backoff;
@@ -15,7 +16,8 @@ fn want(words: &Words, stop: &mut Stopped)
     requires one_table { stop.old.pass.table ≡ words.now }
     requires ready { HolderIsLoaded stop.old.pass }
     requires phase { phase_of (now_of stop.old.pass).words ≡ 1 }
-    ensures { WaitsForMarkers stop.old stop.new 1 }
+    ensures waits { WaitsForMarkers stop.old stop.new 1 }
+    ensures wants { WantsFirst stop.old.pass stop.new.pass }
 {
     stop.holds_gates();
     stop.want(words);
@@ -40,6 +42,7 @@ pub fn want_and_wait<R: Wait>(rt: &R, words: &Words, stop: &mut Stopped)
     requires phase { phase_of (now_of stop.old.pass).words ≡ 1 }
     ensures table { stop.new.pass.table ≡ stop.old.pass.table }
     ensures wanted { IsWanted stop.new.pass }
+    ensures wants { WantsFirst stop.old.pass stop.new.pass }
     ensures traces { Counted is_waiting TracesReached is_want stop.old.pass stop.new.pass 1 }
 {
     want(words, stop);

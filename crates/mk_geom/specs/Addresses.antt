@@ -17,6 +17,7 @@ heap_word_at address = (address - 65536) / 8
 abbrev pub is_heap_address : ℕ → ℕ → Bool
 is_heap_address pages address = nat_le 65536 address && nat_lt address (65536 + 512 * pages)
 
+-- the page of an address
 abbrev pub page_at_address : ℕ → ℕ
 page_at_address address = (address - 65536) / 512
 

@@ -6,6 +6,7 @@ use Rattle.std.specs.Prelude.{if◌then◌else◌}
 abbrev pub class_sizes : List ℕ
 class_sizes = 2 ∷ 4 ∷ 6 ∷ 8 ∷ 12 ∷ 16 ∷ 24 ∷ 32 ∷ []
 
+-- the words of a cell of this class
 abbrev pub class_words_of : ℕ → ℕ
 class_words_of class = slice_index class_sizes class
 

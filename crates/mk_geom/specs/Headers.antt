@@ -13,6 +13,7 @@ IsInRange (Later distance mapped) = (1 ≤ distance) × (distance ≤ 63)
 IsInRange (LeafBlock class) = class < 8
 IsInRange (LeafRun pages) = (1 ≤ pages) × (pages ≤ 64)
 
+-- the header word
 abbrev pub word_of : Header → ℕ
 word_of Free = 0
 word_of (Block class) = 1 + class
@@ -28,6 +29,7 @@ abbrev pub header_within : ℕ → ℕ → ℕ → Header → Option Header
 header_within least parameter greatest header =
     if nat_le least parameter && nat_le parameter greatest then Some header else None
 
+-- the header of this kind and parameter, if there is one
 abbrev pub header_with : ℕ → ℕ → Option Header
 header_with kind parameter =
     if kind == 0 then header_within 0 parameter 0 Free
@@ -44,6 +46,7 @@ header_with kind parameter =
 abbrev pub header_of : ℕ → Option Header
 header_of word = header_with (word % 16) (word / 16)
 
+-- It is the word of some header.
 abbrev pub IsHeaderWord : ℕ → Type 0
 IsHeaderWord word = IsSome (header_of word)
 

@@ -11,6 +11,7 @@ pub data PageUse : Type 0 where
   Cells : (class : ℕ) (leaf : Bool) (taken : List Bool) → PageUse
   PartOfRun : (mapped : Bool) → PageUse
 
+-- nothing stands on the page
 abbrev pub is_free_page : PageUse → Bool
 is_free_page Nothing = true
 is_free_page (Cells class leaf taken) = false
@@ -22,9 +23,11 @@ is_resident_page Nothing = false
 is_resident_page (Cells class leaf taken) = true
 is_resident_page (PartOfRun mapped) = mapped
 
+-- how many pages are resident
 abbrev pub resident_pages : List PageUse → ℕ
 resident_pages pages = count_by is_resident_page pages
 
+-- both are leaf, or neither is
 abbrev pub is_same_sort : Bool → Bool → Bool
 is_same_sort true leaf = leaf
 is_same_sort false leaf = not leaf
@@ -40,10 +43,12 @@ abbrev pub first_where : {A : Type 0} → (A → Bool) → List A → Option ℕ
 first_where p [] = None
 first_where p (x ∷ xs) = if p x then Some 0 else option_map (λ n. n + 1) (first_where p xs)
 
+-- the first, or the other if there is none
 abbrev pub or_else : {A : Type 0} → Option A → Option A → Option A
 or_else (Some x) other = Some x
 or_else None other = other
 
+-- the place, one page further
 abbrev pub page_behind : Place → Place
 page_behind place = record place { page = place.page + 1 }
 
@@ -88,6 +93,7 @@ place_on_uses limit words leaf pages =
     then option_and_then (λ class. small_place limit class leaf pages) (class_for words)
     else large_place limit (run_pages_of words) pages
 
+-- the most free pages side by side
 abbrev pub longest_free_range : List PageUse → ℕ
 longest_free_range [] = 0
 longest_free_range (page ∷ pages) = max (free_range (page ∷ pages)) (longest_free_range pages)
@@ -98,12 +104,15 @@ held_by_use Nothing = 0
 held_by_use (Cells class leaf taken) = class_words_of class * count_by (λ cell. cell) taken
 held_by_use (PartOfRun mapped) = if mapped then 64 else 0
 
+-- the words held on all pages
 abbrev pub held_by_uses : List PageUse → ℕ
 held_by_uses pages = sum_by held_by_use pages
 
+-- how many cells of a class and sort are free in blocks
 abbrev pub free_cells_among : Bool → List PageUse → ℕ → ℕ
 free_cells_among leaf pages class = sum_by (λ page. count_by not (cells_taken class leaf page)) pages
 
+-- the counts of what stands on the pages
 abbrev pub census_among : List PageUse → Census
 census_among pages = record {
   free_pages = count_by is_free_page pages;

@@ -20,11 +20,14 @@ use_under (Some (Later distance mapped)) used = PartOfRun mapped
 use_under (Some (LeafBlock class)) used = Cells class true (bits_of (cells_of class) used)
 use_under (Some (LeafRun pages)) used = PartOfRun true
 
+-- what stands on a page, by its header and used word
 abbrev pub use_of_page : Page → PageUse
 use_of_page page = use_under (header_of page.header) page.used
 
+-- what stands on each page
 abbrev pub uses_of_pages : List Page → List PageUse
 uses_of_pages pages = map use_of_page pages
 
+-- Each page has a header word.
 abbrev pub HaveHeaderWords : List Page → Type 0
 HaveHeaderWords pages = All (λ page. IsHeaderWord page.header) pages

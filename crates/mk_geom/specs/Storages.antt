@@ -16,6 +16,7 @@ pub record Storage : Type 0 where
   pub mapped : Bool
   pub leaf : Bool
 
+-- the storage is a cell
 abbrev pub is_small : Storage → Bool
 is_small s = is_small_size s.words
 
@@ -23,9 +24,11 @@ is_small s = is_small_size s.words
 abbrev pub first_page : Storage → ℕ
 first_page s = s.first / 64
 
+-- its last page
 abbrev pub last_page : Storage → ℕ
 last_page s = (s.first + s.words - 1) / 64
 
+-- it stands on the page
 abbrev pub stands_on : ℕ → Storage → Bool
 stands_on page s = nat_le (first_page s) page && nat_le page (last_page s)
 
@@ -37,6 +40,7 @@ class_of_storage s = unwrap_or (class_for s.words) 0
 abbrev pub is_cell_taken : List Storage → ℕ → ℕ → ℕ → Bool
 is_cell_taken storages page words k = list_any (λ s. s.first == 64 * page + k * words) storages
 
+-- which cells of a page's class are taken
 abbrev pub taken_cells : List Storage → ℕ → ℕ → List Bool
 taken_cells storages page class =
     map (is_cell_taken storages page (class_words_of class)) (range_with_len 0 (cells_of class))
@@ -48,6 +52,7 @@ use_by storages page (Some s) =
     if is_small s then Cells (class_of_storage s) s.leaf (taken_cells storages page (class_of_storage s))
     else PartOfRun s.mapped
 
+-- what these storages make of a page
 abbrev pub use_of_storages : List Storage → ℕ → PageUse
 use_of_storages storages page = use_by storages page (find (stands_on page) storages)
 
@@ -59,9 +64,11 @@ uses_of_storages pages storages = map (use_of_storages storages) (range_with_len
 abbrev pub place_among_storages : ℕ → ℕ → ℕ → Bool → List Storage → Option Place
 place_among_storages pages limit words leaf storages = place_on_uses limit words leaf (uses_of_storages pages storages)
 
+-- There is a place for so many words, leaf or not.
 abbrev pub Fits : ℕ → ℕ → ℕ → Bool → List Storage → Type 0
 Fits pages limit words leaf storages = IsSome (place_among_storages pages limit words leaf storages)
 
+-- the counts of pages with these storages
 abbrev pub census_of : ℕ → List Storage → Census
 census_of pages storages = census_among (uses_of_storages pages storages)
 
@@ -75,6 +82,7 @@ pub record IsCell (s : Storage) : Type 0 where
   pub first : s.first % 64 ≡ index * class_words_of class
   pub mapped : s.mapped ≡ true
 
+-- Whole pages, at most 64.
 pub record IsRun (s : Storage) : Type 0 where
   pub pages : ℕ
   pub some : 1 ≤ pages
@@ -82,6 +90,7 @@ pub record IsRun (s : Storage) : Type 0 where
   pub words : s.words ≡ 64 * pages
   pub first : s.first % 64 ≡ 0
 
+-- A cell or a run, on the heap's pages.
 abbrev pub IsStorage : ℕ → Storage → Type 0
 IsStorage pages s = (IsCell s ⊎ IsRun s) × (s.first + s.words ≤ 64 * pages)
 
@@ -91,6 +100,7 @@ pub record LieApart (s t : Storage) : Type 0 where
   pub alike : (page : ℕ) → stands_on page s ≡ true → stands_on page t ≡ true
       → (is_small s ≡ true) × (is_small t ≡ true) × (s.words ≡ t.words) × (s.leaf ≡ t.leaf)
 
+-- Each is a storage of the heap, and no two share a word or the page of different classes.
 pub record AreLaidOut (pages : ℕ) (storages : List Storage) : Type 0 where
   pub each : All (IsStorage pages) storages
   pub apart : (i j : ℕ) (d : Storage) → i < length storages → j < length storages → i ≢ j
@@ -101,6 +111,7 @@ abbrev pub used_word : List Bool → ℕ
 used_word [] = 0
 used_word (bit ∷ bits) = (if bit then 1 else 0) + 2 * used_word bits
 
+-- the header of a block
 abbrev pub block_header : ℕ → Bool → Header
 block_header class true = LeafBlock class
 block_header class false = Block class
@@ -119,9 +130,11 @@ run_used (suc distance) = 0
 abbrev pub free_page : Page
 free_page = record { header = 0; used = 0 }
 
+-- the page of a block
 abbrev pub block_page : ℕ → Bool → ℕ → Page
 block_page class leaf used = record { header = word_of (block_header class leaf); used = used }
 
+-- a page of a run, so many pages after its first one
 abbrev pub run_page : ℕ → Bool → Bool → ℕ → Page
 run_page pages mapped leaf distance =
     record { header = word_of (run_header pages mapped leaf distance); used = run_used distance }

@@ -1,12 +1,14 @@
 -- What the engine does after each `begin` of the host's.
 use Rattle.std.proofs.Common.{⊎_elim}
-use Rattle.mk_alloc.proofs.Below.Laws.Vocabulary.{Config, Event, List, None, Seat, Step, Word, arith, false, refl}
-use Rattle.mk_alloc.proofs.{Below.Laws.Vocabulary.{subst, sym, ◌≡◌}, Below.Cycles.Begun.{begun_then, does_begin_none}}
-use Rattle.mk_alloc.proofs.Below.Cycles.Begun.{finish_begins_none, has_on, step_begins_none}
+use Rattle.mk_alloc.proofs.Below.Laws.Vocabulary.{Config, Event, List, None, Seat, Step, Word, ap, arith, false, refl}
+use Rattle.mk_alloc.proofs.Below.Laws.Vocabulary.{subst, sym, ◌∙◌, ◌≡◌}
+use Rattle.mk_alloc.proofs.Below.Cycles.Begun.{begun_then, does_begin_none}
+use Rattle.mk_alloc.proofs.Below.Cycles.Begun.{finish_begins_none, has_on, left_then, step_begins_none}
+use Rattle.mk_alloc.proofs.Below.Cycles.HeldFirst.{finish_holds}
 use Rattle.mk_alloc.proofs.Below.Words.Sweeping.{only_seen, only_seen_by, other_step_sweeps, others_sweep}
 use Rattle.mk_alloc.proofs.{Below.Words.Sweeping.{step_then_sweeps, sweeps_then}, Below.Words.TakesAlone.taking_does}
 use Rattle.mk_alloc.proofs.Below.Words.Unswept.{taking_sweeps}
-use Rattle.mk_alloc.specs.{Below.Cycles.BeginCycle.BeginsCycle, Below.Cycles.Begun.EachIsBegun}
+use Rattle.mk_alloc.specs.{Below.Cycles.BeginCycle.BeginsCycle, Below.Cycles.Begun.{EachIsBegun, EachIsBegunYet}}
 use Rattle.mk_alloc.specs.{Below.Cycles.EngineLaw.IsAtPhase, Below.Cycles.FinishCycle.FinishesCycle}
 use Rattle.mk_alloc.specs.{Below.Words.Sweeping.{SweepsNothing, is_mark}, Below.Words.Taking.{TakesTurn, is_take}}
 use Rattle.mk_alloc.specs.{Below.Words.Seats.Has, Below.Words.States.{PassState, world_of}, Below.Words.Steps.Makes}
@@ -37,12 +39,14 @@ module _ (begins : Config → Seat → List Event → List Event → Type 0) whe
 
   -- a whole cycle
   pub cycle_begun : {p idle begun ended q : PassState} → TakesIdleTurn p idle → BeginsCycle idle begun
-      → EachIsBegun begins idle begun → FinishesCycle begun ended → Makes ended Step.Give q → EachIsBegun begins p q
+      → EachIsBegunYet begins idle begun → FinishesCycle begun ended → Makes ended Step.Give q → EachIsBegun begins p q
   cycle_begun {p} {idle} {begun} {ended} {q} takes law part finishes gives =
       let own_begun = has_on idle begun law.pass (has_on p idle (idle_same takes) (taken_own takes.takes)) in
-      begun_then begins p idle q (idle_same takes) (idle_begun takes) (begun_then begins idle begun q law.pass part
-      (begun_then begins begun ended q finishes.pass (finish_begins_none begins begun ended own_begun finishes)
-      (step_begins_none begins ended q Step.Give (has_on begun ended finishes.pass own_begun) gives refl)))
+      let whole : EachIsBegun begins idle ended = left_then begins law.pass part
+      (finish_begins_none begins begun ended own_begun finishes) (finish_holds own_begun finishes) in
+      let same_ended = finishes.pass ∙ ap (λ (x : PassState). record x { seen = ended.seen }) law.pass in
+      begun_then begins p idle q (idle_same takes) (idle_begun takes) (begun_then begins idle ended q same_ended whole
+      (step_begins_none begins ended q Step.Give (has_on begun ended finishes.pass own_begun) gives refl))
 
   -- and an `over`, which begins none
   pub over_begun : (p q : PassState) → SaysOver p q → EachIsBegun begins p q

@@ -29,6 +29,7 @@ abbrev pub is_of_callers : Group → Bool
 is_of_callers group.Callers = true
 is_of_callers _ = false
 
+-- a step of a call that needs no turn
 abbrev pub is_beside_turns : Step → Bool
 is_beside_turns s = is_of_callers (group_of s)
 

@@ -12,20 +12,24 @@ pub record HostState : Type 0 where
   pub callers : ℕ
   pub markers : ℕ
 
+-- the host of a new heap
 abbrev pub first_host : WordsState → HostState
 first_host w =
     record { pass = record { table = w; seat = Host; seats = all_seats w.config; seen = [] }; callers = 0; markers = 0 }
 
 -- the pass of a seat, cut from the host's, and what stays
 
+-- the pass that the host splits off for a seat
 abbrev pub pass_for : HostState → Seat → PassState
 pass_for h s = record { table = h.pass.table; seat = s; seats = s ∷ []; seen = h.pass.seen }
 
+-- the host's pass after that
 abbrev pub pass_without : HostState → Seat → PassState
 pass_without h s = record h.pass { seats = without_seat s h.pass.seats }
 
 -- a caller is made, or a marker
 
+-- the host with one caller more
 abbrev pub with_caller_made : HostState → HostState
 with_caller_made h =
     record { pass = pass_without h (Caller h.callers); callers = h.callers + 1; markers = h.markers }
@@ -34,6 +38,7 @@ with_caller_made h =
 abbrev pub with_caller_out : HostState → ℕ → HostState
 with_caller_out h k = record h { pass = pass_without h (Caller k) }
 
+-- the host with one marker more
 abbrev pub with_marker_made : HostState → HostState
 with_marker_made h =
     record { pass = pass_without h (Marker h.markers); callers = h.callers; markers = h.markers + 1 }
@@ -82,6 +87,7 @@ pub record IsHost (h : HostState) : Type 0 where
 
 -- What a host is made of: its pass, which is home between its calls, and the two numbers.
 
+-- what stands for a table that doesn't exist
 abbrev pub no_table : WordsState
 no_table =
     record {
@@ -89,10 +95,12 @@ no_table =
       config = no_config;
     }
 
+-- the host with this pass
 abbrev pub host_of : Option PassState → ℕ → ℕ → HostState
 host_of (Some p) callers markers = record { pass = p; callers = callers; markers = markers }
 host_of None callers markers = first_host no_table
 
+-- The host has its pass, and all is in order.
 abbrev pub IsWholeHost : Option PassState → ℕ → ℕ → Type 0
 IsWholeHost (Some p) callers markers = IsHost (record { pass = p; callers = callers; markers = markers })
 IsWholeHost None callers markers = ⊥

@@ -9,9 +9,11 @@ use Rattle.mk_alloc.specs.Below.Words.Finals as final
 
 -- the history of the heap, and what it was made for
 
+-- the history of the heap that was closed
 abbrev pub history_of : Report → List Event
 history_of r = final.history_of r.last
 
+-- its configuration
 abbrev pub config_of : Report → Config
 config_of r = final.config_of r.last
 

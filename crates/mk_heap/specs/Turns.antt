@@ -5,6 +5,7 @@ use Rattle.mk_alloc.specs.{Below.Words.States.PassState, Below.Words.Steps.{Make
 use Rattle.mk_core.specs.declared.events.Step.TheVariants as step
 use Rattle.mk_core.specs.declared.events.Word.TheVariants as word
 
+-- it is a register
 abbrev pub is_register : Word → Bool
 is_register (word.Reg k r) = true
 is_register _ = false

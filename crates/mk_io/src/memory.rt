@@ -76,6 +76,8 @@ impl Model for MemSource {
 }
 
 impl MemSource {
+    /// A source of these bytes, which gives at most `chunk` bytes a call and fails at the calls that `fails` numbers,
+    /// from 0.
     pub fn new(bytes: Vec<u8>, chunk: usize, fails: Vec<u64>) -> MemSource
         requires { 1 ≤ chunk }
         ensures { result ≡ new_source bytes.items chunk fails.items }

@@ -1,28 +1,26 @@
 -- The law on longer lists: what others' events leave of a caller's own calls, of what it is admitted, and of what an
 -- event of it asks and decides.
 use Rattle.std.proofs.{Common.filter, lemmas.List.Elements.filter-append}
-use Rattle.mk_laws.proofs.Vocabulary.{AccessIsAdmitted, Answer, AreAdmitted, Bool, Caller, Cell, Config, Continues}
-use Rattle.mk_laws.proofs.Vocabulary.{Decided, Event, Flight, Holds, IsAdmitted, IsEnabled, IsHistory, IsInCall, IsLeft}
-use Rattle.mk_laws.proofs.Vocabulary.{IsNumber, IsPointer, IsSound, IsTidy, IsTyped, KeepsRegisters, Kind, List, Stage}
-use Rattle.mk_laws.proofs.Vocabulary.{Steady, Step, TalliesAreTidy, TurnIsLeft, Value, Word, Words, World, ℕ}
-use Rattle.mk_laws.proofs.Vocabulary.{allocation_at, answer_decided, ap, append-nil, arith, asked, begun, call_decided}
-use Rattle.mk_laws.proofs.Vocabulary.{calls, cases_Bool, cell_freed, cond, decided, enabled_meets, entry_of, eq-eqb}
-use Rattle.mk_laws.proofs.Vocabulary.{false, flight_of, found, frees, header_in, header_of, if◌then◌else◌, in_a_word}
-use Rattle.mk_laws.proofs.Vocabulary.{inl, inr, is_some, is_unmapped_header, kinds_of, left, ltb-true, ne_eqb}
-use Rattle.mk_laws.proofs.Vocabulary.{never_behind, not, onward, page_met, progress, progress_freed, progress_read}
-use Rattle.mk_laws.proofs.Vocabulary.{progress_reg, q_of, refl, refused, register_at, sees_double, slice_index_or}
-use Rattle.mk_laws.proofs.Vocabulary.{still, subst, sym, target, true, word_accessed, world_behind, [], ◌&&◌, ◌*◌, ◌++◌}
-use Rattle.mk_laws.proofs.{Vocabulary.{◌+◌, ◌<◌, ◌==◌, ◌∙◌, ◌∷◌, ◌≡◌, ◌≢◌}, Basics.{Meets, actor_of, at_its_stage}}
-use Rattle.mk_laws.proofs.Basics.{calls_stand, in_call_told, is_call_stage, is_holders, not_astray, operands_of}
-use Rattle.mk_laws.proofs.{Basics.register_small, CallSorts.{admitted_call, call_outside}}
-use Rattle.mk_laws.proofs.{EnabledStill.{before, enabled_still, left_to}, FramesHolders.{acts_as_holder, holds_is}}
-use Rattle.mk_laws.proofs.LastEvents.{Stands, comes_last, goes_on_by, stands}
+use Rattle.mk_laws.proofs.Vocabulary.{Answer, AreAdmitted, Bool, Caller, Cell, Config, Continues, Decided, Event}
+use Rattle.mk_laws.proofs.Vocabulary.{Flight, Holds, IsEnabled, IsHistory, IsInCall, IsLeft, IsTidy, IsTyped}
+use Rattle.mk_laws.proofs.Vocabulary.{KeepsRegisters, Kind, List, Stage, Steady, Step, TalliesAreTidy, TurnIsLeft, Word}
+use Rattle.mk_laws.proofs.Vocabulary.{Words, World, ℕ, answer_decided, ap, append-nil, arith, asked, begun}
+use Rattle.mk_laws.proofs.Vocabulary.{call_decided, calls, cases_Bool, cell_freed, cond, decided, enabled_meets}
+use Rattle.mk_laws.proofs.Vocabulary.{entry_of, eq-eqb, false, flight_of, found, frees, header_in, header_of}
+use Rattle.mk_laws.proofs.Vocabulary.{if◌then◌else◌, in_a_word, inl, inr, is_some, is_unmapped_header, left, ltb-true}
+use Rattle.mk_laws.proofs.Vocabulary.{ne_eqb, never_behind, not, onward, page_met, progress, progress_freed}
+use Rattle.mk_laws.proofs.Vocabulary.{progress_read, progress_reg, q_of, refl, refused, register_at, sees_double, still}
+use Rattle.mk_laws.proofs.Vocabulary.{subst, sym, target, true, word_accessed, world_behind, [], ◌&&◌, ◌++◌, ◌<◌, ◌==◌}
+use Rattle.mk_laws.proofs.{Vocabulary.{◌∙◌, ◌∷◌, ◌≡◌, ◌≢◌}, Basics.{Meets, actor_of, at_its_stage, calls_stand}}
+use Rattle.mk_laws.proofs.Basics.{in_call_told, is_call_stage, is_holders, not_astray, operands_of, register_small}
+use Rattle.mk_laws.proofs.{CallSorts.{admitted_call, call_outside}, EnabledStill.{before, enabled_still, left_to}}
+use Rattle.mk_laws.proofs.{FramesHolders.{acts_as_holder, holds_is}, AdmittedAlike.{admitted_alike, meets_alike}}
+use Rattle.mk_laws.proofs.{AdmittedAlike.shows_alike, LastEvents.{Stands, comes_last, goes_on_by, stands}}
 use Rattle.mk_laws.proofs.{OtherCalls.{never_continues, registers_are_left}, ProbesStill.probe_still}
 use Rattle.mk_laws.proofs.{ProtocolFrames.other_seat, Reaching.{events_reach_the_table, others_leave_accesses}}
-use Rattle.mk_never.specs.Admitted.{IsBase, IsOfKind, OperandsAreInRange, StoreIsAdmitted}
-use Rattle.mk_core.{proofs.HistoryParts.{calls_in_parts}, specs.{History.calls_from, LongerLists.LongerListsGoOn}}
-use Rattle.mk_core.specs.{Counts.releases, Effects.begins_where_free, Frames.CountsAreLeft, Growing.AreOfOthers}
-use Rattle.mk_laws.proofs.Vocabulary.{Meets as MeetsWord, Moment, NeverState, None, Number, Op, Option, Ptr, Seat, Some}
+use Rattle.mk_core.{proofs.HistoryParts.{calls_in_parts}, specs.{Frames.CountsAreLeft, Growing.AreOfOthers}}
+use Rattle.mk_core.specs.{History.calls_from, LongerLists.LongerListsGoOn, Counts.releases, Effects.begins_where_free}
+use Rattle.mk_laws.proofs.Vocabulary.{Meets as MeetsWord, Moment, NeverState, None, Op, Option, Seat, Some}
 
 -- The calls of one caller: events of others have none of them.
 
@@ -67,52 +65,13 @@ others_add_none c k es others of_others =
 
 module _ (globals : List ℕ) (n m : NeverState) (k : ℕ) (on : Continues n m) (own : KeepsRegisters k n m)
     (typed : IsTyped globals n) where
-  operands_on : (o : Op) → OperandsAreInRange n o → OperandsAreInRange m o
-  operands_on (Op.New d ty full) h = (h.0, rw on.types h.1)
-  operands_on (Op.GetGlobal d g) h = (h.0, rw on.globals h.1)
-  operands_on (Op.SetGlobal g p) h = (rw on.globals h.0, h.1)
-  operands_on _ h = h
-
-  meets_value : (v : Value) (i : ℕ) (P : Kind → Type 0) → IsSound n v → MeetsWord n v i P → MeetsWord m v i P
-  meets_value (Ptr a t o) i P sound h = (rw (on.size a sound.0) h.0, subst P kind h.1)
-    where
-      kind : slice_index_or (kinds_of n.types (allocation_at n a).ty) (o + i) Number
-          ≡ slice_index_or (kinds_of m.types (allocation_at m a).ty) (o + i) Number
-      kind = cc (on.types, on.ty a sound.0)
-  meets_value _ i P sound h = tt
-
   pub meets_register : (q i : ℕ) (P : Kind → Type 0) → q < 8 → MeetsWord n (register_at n k q) i P
       → MeetsWord m (register_at m k q) i P
-  meets_register q i P lt h = rw (own q lt) (meets_value _ i P (typed.registers (8 * k + q)) h)
-
-  access_on : (o : Op) → OperandsAreInRange n o → AccessIsAdmitted n k o → AccessIsAdmitted m k o
-  access_on (Op.GetNum q i) r h = meets_register q i IsNumber r h
-  access_on (Op.SetNum q i x) r h = meets_register q i IsNumber r h
-  access_on (Op.GetPtr d q i) r h = meets_register q i IsPointer r.1 h
-  access_on (Op.SetPtr q i p) r h = meets_register q i IsPointer r.0 h
-  access_on (Op.CasPtr q i p s) r h = meets_register q i IsPointer r.0 h
-  access_on (Op.Lea d q i) r h = meets_register q i (λ kind. Unit {0}) r.1 h
-  access_on _ r h = tt
-
-  store_on : (o : Op) → OperandsAreInRange n o → StoreIsAdmitted globals n k o → StoreIsAdmitted globals m k o
-  store_on (Op.Free p) r h = subst IsBase (sym (own p r)) h
-  store_on (Op.SetPtr q i p) r h = rw (own p r.1) (meets_register q i _ r.0 h)
-  store_on (Op.CasPtr q i p s) r h = rw (own p r.1) (rw (own s r.2)
-      (meets_register q i (λ kind. IsOfKind (register_at n k p) kind × IsOfKind (register_at n k s) kind) r.0 h))
-  store_on (Op.SetGlobal g p) r h = rw (own p r.1) h
-  store_on _ r h = tt
-
-  admitted_on : {o : Op} → IsAdmitted globals n k o → IsAdmitted globals m k o
-  admitted_on {o} h = record {
-    of_a_caller = rw on.registers h.of_a_caller;
-    in_range = operands_on o h.in_range;
-    access = access_on o h.in_range h.access;
-    store = store_on o h.in_range h.store;
-  }
+  meets_register = meets_alike globals n m k (shows_alike globals n m k on own typed)
 
   pub call_on : (o : Op) (a : Option Answer) → AreAdmitted globals n (asked (entry_of k o a))
       → AreAdmitted globals m (asked (entry_of k o a))
-  call_on o (Some a) h = (admitted_on h.0, tt)
+  call_on o (Some a) h = (admitted_alike globals n m k (shows_alike globals n m k on own typed) h.0, tt)
   call_on o None h = tt
 
 -- What a step asks of the heap that never reuses storage it asks after a longer list too: what it finds may differ,

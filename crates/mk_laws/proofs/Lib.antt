@@ -48,6 +48,12 @@ pub mod Reached
 pub mod KnownWorlds
 pub mod ImagesBefore
 pub mod CallSorts
+pub mod CallsGoOn
+pub mod WordsMet
+pub mod StepsAside
+pub mod AdmittedAlike
+pub mod EarlierCalls
+pub mod Waiting
 pub mod GrantMoves
 pub mod TurnMoves
 pub mod EventSorts

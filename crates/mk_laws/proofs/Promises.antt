@@ -9,7 +9,7 @@ use Rattle.mk_laws.proofs.{PrecisionFreeing.frees_the_untouched, PrecisionStoppe
 use Rattle.mk_laws.proofs.{Quarantines.few_pages_are_resident, ReadingsStands.headers_and_quarantine_tell}
 use Rattle.mk_laws.proofs.{ReleasedCycles.releases_are_of_cycles, Snapshots.snapshots_tell}
 use Rattle.mk_laws.proofs.{Tallies.tallies_are_exact_at_gives, UnmappedRuns.unmapped_runs_take_no_memory}
-use Rattle.mk_laws.specs.Promises.{AtEachMoment, KeepsAllPromises}
+use Rattle.mk_laws.{proofs.Waiting.{nobody_ever_waits_in_a_ring}, specs.Promises.{AtEachMoment, KeepsAllPromises}}
 use Rattle.mk_laws.proofs.InvariantHistories as invariant
 
 at_each : (claim : Config → List Event → Type 0) → OfHistories claim → OfHistories (AtEachMoment claim)
@@ -44,5 +44,6 @@ histories_keep_all_promises c es h = record {
   guarded = at_each _ invariant.black_cells_are_guarded c es h;
   precise = releases_the_untouched c es h;
   freed = frees_the_untouched c es h;
+  waits = nobody_ever_waits_in_a_ring c es h;
   compared = invariant.exchanges_compare c es h;
 }

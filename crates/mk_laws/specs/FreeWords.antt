@@ -10,9 +10,11 @@ use Rattle.mk_core.specs.Readings.{IsTaken}
 
 -- no unreleased allocation has the word, or no mapped one
 
+-- Heap word n is of no unreleased allocation.
 abbrev pub IsOfNone : Config → List PlacedAllocation → ℕ → Type 0
 IsOfNone c xs n = (i : ℕ) → (placed_at xs i).released ≡ false → IsWordOf (storage_of c (placed_at xs i)) n → ⊥
 
+-- Heap word n is of no mapped allocation.
 abbrev pub IsOfNoneMapped : Config → List PlacedAllocation → ℕ → Type 0
 IsOfNoneMapped c xs n = (i : ℕ) → is_mapped c (placed_at xs i) ≡ true → IsWordOf (storage_of c (placed_at xs i)) n → ⊥
 

@@ -13,6 +13,7 @@ pub record Ground : Type 0 where
   pub run : Option RunPages
   pub allocations : List PlacedAllocation
 
+-- what the layout and the quarantine read of a world
 abbrev pub ground_of : World → Ground
 ground_of w =
     record {

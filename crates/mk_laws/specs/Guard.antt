@@ -16,6 +16,7 @@ pub record HeaderGoesOn (pages before after : ℕ) : Type 0 where
   pub unscanned : cells_under (header_of before) ≢ 0 → has_no_pointers (header_of before) ≡ true
       → has_no_pointers (header_of after) ≡ true
 
+-- the cell that a marker scans
 abbrev pub cell_scanned : Scan → Cell
 cell_scanned x = record { page = x.page; index = x.index }
 
@@ -41,6 +42,7 @@ pub record MarkerStands (c : Config) (m : Moment) (x : Marker) : Type 0 where
   pub scan : (s : Scan) → x.scan ≡ Some s → ScanStands c m x.hand s
   pub seen : (s : SeenHeader) → x.seen ≡ Some s → HeaderGoesOn c.pages s.header (header_at m.words s.page)
 
+-- Black cells are guarded, and so is what markers have scanned and hold in hand.
 pub record Guard (c : Config) (m : Moment) : Type 0 where
   pub black : BlackIsGuarded c m
   pub markers : (k : ℕ) → is_attending (marker_of m k).presence ≡ true → MarkerStands c m (marker_of m k)

@@ -59,6 +59,7 @@ pub data MayHoldWords (c : Config) (w : World) (n : ℕ) : Type 0 where
       → MayHoldWords c w n
   OfFreedRun : (run : RunPages) → w.now.seats.holding.freed ≡ Some run → is_in_run run n ≡ true → MayHoldWords c w n
 
+-- What the images ask of the other groups.
 pub record ImagePremises (c : Config) (w : World) : Type 0 where
   -- Unreleased allocations are laid out, and apart.
   pub laid_out : (i : ℕ) → (placed_at w.allocations i).released ≡ false

@@ -18,6 +18,7 @@ pub record ImageScene : Type 0 where
   pub flights : List Flight
   pub allocations : List PlacedAllocation
 
+-- what the images read of a world
 abbrev pub image_scene_of : World → ImageScene
 image_scene_of w =
     record {
@@ -37,6 +38,7 @@ abbrev pub is_put : Stage → Bool
 is_put stage.Put = true
 is_put _ = false
 
+-- the call is about to store null in this register
 abbrev pub owes : Stage → ℕ → ℕ → Bool
 owes stage.Put d r = d == r
 owes _ d r = false
@@ -47,6 +49,7 @@ shown f r x = if owes f.stage (d_of f.op) r then f.loaded else x
 
 -- Whether the stage is after the load of q, p or r, and what was loaded is used there; and whether it isn't null.
 
+-- the call has loaded its register q
 abbrev pub has_q : Stage → Op → Bool
 has_q stage.LoadP (op.SetPtr q i p) = true
 has_q stage.LoadP (op.CasPtr q i p r) = true
@@ -59,10 +62,12 @@ has_q stage.Store (op.Lea d q i) = true
 has_q stage.Store (op.Move d q) = true
 has_q _ _ = false
 
+-- the same, where a pointer is needed
 abbrev pub has_some_q : Stage → Op → Bool
 has_some_q stage.Store (op.Move d q) = false
 has_some_q s o = has_q s o
 
+-- the call has loaded its register p
 abbrev pub has_p : Stage → Op → Bool
 has_p stage.LoadR o = true
 has_p stage.Probe (op.SetPtr q i p) = true
@@ -74,10 +79,12 @@ has_p stage.LoadQ (op.Same p q) = true
 has_p stage.Turn (op.Free p) = true
 has_p _ _ = false
 
+-- the same, where a pointer is needed
 abbrev pub has_some_p : Stage → Op → Bool
 has_some_p stage.Turn (op.Free p) = true
 has_some_p _ _ = false
 
+-- the call has loaded its register r
 abbrev pub has_r : Stage → Op → Bool
 has_r stage.Probe (op.CasPtr q i p r) = true
 has_r stage.Cas o = true
@@ -110,6 +117,7 @@ IsMet n (Num m) i = Unit {0}
 IsMet n (Ptr number ty offset) i = offset + i < length (words_of n number)
     → is_unmapped (allocation_at n number) ≡ false
 
+-- A call after its probe meets a word of its object.
 abbrev pub ProbedOwn : NeverState → ℕ → Flight → Type 0
 ProbedOwn n k f = is_past_probe f.stage ≡ true → IsMet n (register_at n k (q_of f.op)) (i_of f.op)
 

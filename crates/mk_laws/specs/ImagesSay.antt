@@ -28,6 +28,7 @@ pub record StoresNow (c : Config) (w : World) (n : NeverState) (k : ℕ) (x : St
   pub enabled : IsEnabled c w.now (record { seat = Caller k; step = x })
   pub admitted : AreAdmitted c.globals n (asked (call_decided c w.now (record { seat = Caller k; step = x })))
 
+-- What the images tell the other groups.
 pub record ImagesSay (c : Config) (w : World) (n : NeverState) : Type 0 where
   -- What a Free's register points into is the cell of an unreleased allocation.
   pub target : (seat : Seat) (cell : Cell) → target c.pages w.now.words (flight_of w.now seat) ≡ Some cell

@@ -4,6 +4,7 @@ use Rattle.mk_core.specs.{declared.config.Config.Config, History.World}
 use Rattle.mk_laws.specs.{LayoutLaws.StandsInOrder, Mirrors.Mirrors, Guard.MarksStand, Zeros.HasZeros}
 use Rattle.mk_laws.specs.RunGates.{HoldsRunGates}
 
+-- All groups of facts, which every enabled event keeps.
 pub record Invariant (c : Config) (w : World) (n : NeverState) : Type 0 where
   -- The pages show what stands on them, and the quarantine is that of the freed allocations.
   pub order : StandsInOrder c w

@@ -18,6 +18,7 @@ pub record LayoutPremises (c : Config) (w : World) : Type 0 where
       is_phase w.now.words 3 ≡ true → (run : RunPages) → w.now.seats.holding.freed ≡ Some run
       → has_bit (slice_index w.now.words.marks run.page) 0 ≡ true
 
+-- The layout, the quarantine, and that freed cells are known.
 pub record StandsInOrder (c : Config) (w : World) : Type 0 where
   pub laid : LayoutStands c w
   pub quarantined : IsQuarantined c w
@@ -51,6 +52,7 @@ LayoutHasHeaderWords =
     (c : Config) (es : List Event) → IsWithinLimits c → AreEnabled c es → LayoutPremisesFrom c (first_world c) es
     → HasHeaderWords (left c es)
 
+-- At most as many pages are resident as may be.
 abbrev pub LayoutHasFewResidentPages : Type 0
 LayoutHasFewResidentPages =
     (c : Config) (es : List Event) → IsWithinLimits c → AreEnabled c es → LayoutPremisesFrom c (first_world c) es

@@ -29,10 +29,12 @@ HasHeader Mapped o distance header = header ≡ header_made o distance
 HasHeader Unmapping o distance header = IsHeaderOf o distance header
 HasHeader Unmapped o distance header = IsUnmappedHeaderOf o distance header
 
+-- The claim is one of these.
 abbrev pub Among : Claim → List Claim → Type 0
 Among x [] = ⊥
 Among x (y ∷ ys) = (x ≡ y) ⊎ Among x ys
 
+-- Two claims are of one cell.
 abbrev pub IsOfOneCell : Claim → Claim → Type 0
 IsOfOneCell x y = (x.page ≡ y.page) × (x.index ≡ y.index)
 
@@ -46,6 +48,7 @@ pub data Plot : Type 0 where
   NoPlot : Plot
   Plotted : (first : ℕ) (object : Object) → Plot
 
+-- The page is one of those that a New makes a block or a run of.
 abbrev pub InPlot : Plot → ℕ → Type 0
 InPlot NoPlot p = ⊥
 InPlot (Plotted first o) p = (first ≤ p) × (p < first + pages_made o)
@@ -59,12 +62,15 @@ pub record LayoutScene : Type 0 where
   pub snapshot : List ℕ
   pub marks : List ℕ
 
+-- the header word of page p
 abbrev pub header_on : List Page → ℕ → ℕ
 header_on pages p = (slice_index_or pages p free_page).header
 
+-- its used bits
 abbrev pub used_on : List Page → ℕ → ℕ
 used_on pages p = (slice_index_or pages p free_page).used
 
+-- what its header word says
 abbrev pub shows_on : List Page → ℕ → Option Header
 shows_on pages p = header_of (header_on pages p)
 
@@ -83,6 +89,7 @@ abbrev pub is_released_in : Bool → List ℕ → List ℕ → ℕ → ℕ → B
 is_released_in releasing snapshot marks p k =
     releasing && has_bit (slice_index snapshot p) k && not (has_bit (slice_index marks p) k)
 
+-- the cell is released
 abbrev pub is_released_on : LayoutScene → ℕ → ℕ → Bool
 is_released_on s p k = is_released_in s.releasing s.snapshot s.marks p k
 
@@ -110,6 +117,7 @@ pub record IsPlotShown (pages : List Page) (first : ℕ) (o : Object) : Type 0 w
       → (header_on pages (first + distance) ≡ 0) ⊎ (header_on pages (first + distance) ≡ header_made o distance)
   pub used : (distance : ℕ) → distance < pages_made o → used_on pages (first + distance) ≡ 0
 
+-- The plot's pages are free, or headers that the New stored already.
 abbrev pub PlotStands : List Page → Plot → Type 0
 PlotStands pages NoPlot = Unit {0}
 PlotStands pages (Plotted first o) = IsPlotShown pages first o
@@ -125,6 +133,7 @@ HasItsHead pages releasing p distance =
     × ((distance < run_count (shows_on pages (p - distance)))
     ⊎ ((releasing ≡ true) × (header_on pages (p - distance) ≡ 0)))
 
+-- What stands on the pages: each claim is shown, all apart, each used bit is a claim's.
 pub record IsLaidOn (s : LayoutScene) : Type 0 where
   -- Each claim is shown, and no two are of one cell.
   pub shown : (x : Claim) → Among x s.claims → IsShown s.pages x

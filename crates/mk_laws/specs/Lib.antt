@@ -33,4 +33,5 @@ pub mod WordReadings
 pub mod Releases
 pub mod UnmappedRuns
 pub mod UnsetWords
+pub mod Waiting
 pub mod Promises

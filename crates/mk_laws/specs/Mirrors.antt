@@ -21,6 +21,7 @@ OwnsFreedRun w n =
     → is_decided_free (flight_of w.now (Caller k)) ≡ true
     → PointsAtRun w n k (p_of (flight_of w.now (Caller k)).op) run
 
+-- The heap that never reuses storage is that of the world: registers, globals and words are the images.
 pub record Mirrors (c : Config) (w : World) (n : NeverState) : Type 0 where
   -- That heap has the types, the callers' registers and the globals of the configuration, and its values are typed.
   pub types : n.types ≡ c.types

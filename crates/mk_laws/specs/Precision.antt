@@ -10,6 +10,7 @@ use Rattle.mk_core.specs.{Cycles.{NoneSweeps, Releasing, before_end, before_rele
 abbrev pub through_release : {es : List Event} → Releasing es → List Event
 through_release k = before_release k ++ k.release.at.event ∷ []
 
+-- the events up to a cycle's `end`
 abbrev pub through_end : {es : List Event} → Cycle es → List Event
 through_end k = before_end k ++ k.end.at.event ∷ []
 
@@ -21,11 +22,13 @@ KeepsOnlyTheTouched c es =
 
 -- what isn't touched is released.
 
+-- This cycle releases each allocation of its snapshot that it didn't touch.
 abbrev pub ReleasesUntouched : Config → {es : List Event} → Releasing es → Type 0
 ReleasesUntouched c k =
     (i : ℕ) → IsInSnapshot c k.marking i → (IsTouched c k.marking i → ⊥)
     → (placed_at (left c (through_release k)).allocations i).released ≡ true
 
+-- So does each cycle without a sweeping mark.
 abbrev pub ReleasesTheUntouched : Config → List Event → Type 0
 ReleasesTheUntouched c es = (k : Releasing es) → NoneSweeps c k.marking → ReleasesUntouched c k
 
@@ -40,12 +43,14 @@ pub record CountsAsFree (storages : List Storage) (s : Storage) : Type 0 where
 
 -- After the cycle's `end` its storage counts as free in place and fits.
 
+-- After this cycle's `end` what it didn't touch of its snapshot counts as free.
 abbrev pub FreesUntouched : Config → {es : List Event} → Cycle es → Type 0
 FreesUntouched c k =
     (i : ℕ) → IsInSnapshot c k.releasing.marking i → (IsTouched c k.releasing.marking i → ⊥)
     → CountsAsFree (unreleased_storage c (left c (through_end k)).allocations)
     (storage_of c (placed_at (left c (through_end k)).allocations i))
 
+-- So it does after each cycle without a sweeping mark.
 abbrev pub FreesTheUntouched : Config → List Event → Type 0
 FreesTheUntouched c es = (k : Cycle es) → NoneSweeps c k.releasing.marking → FreesUntouched c k
 

@@ -11,12 +11,13 @@ use Rattle.mk_laws.specs.FreePages.{DirtyPagesHaveAllocations, FreePagesHaveNoth
 use Rattle.mk_laws.specs.FreeWords.{FreeCellsAreZero, Leaves, WordsBehindCellsAreZero}
 use Rattle.mk_laws.specs.{WordReadings.HeadersAndQuarantineTell, Releases.{NoOthersRelease, ReleasesAreExact}}
 use Rattle.mk_laws.specs.{Releases.{ReleasesAreOfCycles, ReleasesNoneReached}, UnmappedRuns.UnmappedRunsTakeNoMemory}
-use Rattle.mk_laws.specs.UnsetWords.{RegistersOfNoCallerAreZero, UnsetGlobalsAreZero}
+use Rattle.mk_laws.specs.{UnsetWords.{RegistersOfNoCallerAreZero, UnsetGlobalsAreZero}, Waiting.NobodyEverWaitsInARing}
 
 -- It holds after each front of the list.
 abbrev pub AtEachMoment : (Config → List Event → Type 0) → Config → List Event → Type 0
 AtEachMoment claim c es = (front more : List Event) → es ≡ front ++ more → claim c front
 
+-- All that is promised of each history.
 pub record KeepsAllPromises (c : Config) (es : List Event) : Type 0 where
   -- Refined: the answers are those of the heap that never reuses storage.
   pub refined : RefinesNever c es
@@ -66,5 +67,7 @@ pub record KeepsAllPromises (c : Config) (es : List Event) : Type 0 where
   -- as free.
   pub precise : ReleasesTheUntouched c es
   pub freed : FreesTheUntouched c es
+  -- No deadlock: nobody waits in a ring, if the calls that are in flight at the end are admitted.
+  pub waits : NobodyEverWaitsInARing c es
   -- No ABA: a compare and exchange compares values, though storage is used again.
   pub compared : ExchangesCompareValues c es

@@ -20,25 +20,31 @@ has_stage o s = list_any (is_same_stage s) (steps_of o)
 
 -- a New that is decided, and a Free, up to the `give`
 
+-- a decided New, about to give the turn back
 abbrev pub is_decided_new_at : Stage → Op → Bool
 is_decided_new_at stage.Give (op.New d ty full) = true
 is_decided_new_at _ _ = false
 
+-- a decided Free, about to give the turn back
 abbrev pub is_decided_free_at : Stage → Op → Bool
 is_decided_free_at stage.Give (op.Free p) = true
 is_decided_free_at _ _ = false
 
+-- the call is a decided New
 abbrev pub is_decided_new : Flight → Bool
 is_decided_new f = is_decided_new_at f.stage f.op
 
+-- the call is a decided Free
 abbrev pub is_decided_free : Flight → Bool
 is_decided_free f = is_decided_free_at f.stage f.op
 
+-- the New has a place
 abbrev pub has_place : Placing → Bool
 has_place (Chosen place) = true
 has_place (Used place) = true
 has_place _ = false
 
+-- its object is granted
 abbrev pub is_granted : Placing → Bool
 is_granted Granted = true
 is_granted _ = false
@@ -55,6 +61,7 @@ pub record SomeCaller (c : Config) (m : Moment) (test : Flight → Bool) : Type 
   pub within : caller < c.callers
   pub holds : test (flight_of m (Caller caller)) ≡ true
 
+-- Who has the turn, who holds which gate, who is in a call, and what each may be in the middle of.
 pub record Protocol (c : Config) (m : Moment) : Type 0 where
   -- Each caller has a call or none, and there are eight markers.
   pub callers : length m.seats.flights ≡ c.callers

@@ -17,6 +17,7 @@ pub record IsFreedCell (c : Config) (xs : List PlacedAllocation) (p k : ℕ) : T
 abbrev pub has_bit_of : Config → List ℕ → PlacedAllocation → Bool
 has_bit_of c words a = has_bit (slice_index words (cell_of_allocation c a).page) (cell_of_allocation c a).index
 
+-- The quarantine bits are those of the freed allocations.
 pub record HasQuarantine (c : Config) (releasing : Bool) (marks : List ℕ) (t : Ground) : Type 0 where
   -- Both halves of a quarantine word fit it.
   pub small : (p : ℕ) → (slice_index t.freed p < 2 ^ 32) × (slice_index t.snapshot p < 2 ^ 32)
@@ -36,6 +37,7 @@ pub record HasQuarantine (c : Config) (releasing : Bool) (marks : List ℕ) (t :
       (cell_of_allocation c (placed_at t.allocations i)).index
       ≡ false
 
+-- So it is in this world.
 abbrev pub IsQuarantined : Config → World → Type 0
 IsQuarantined c w = HasQuarantine c (is_phase w.now.words 4) w.now.words.marks (ground_of w)
 
@@ -57,5 +59,6 @@ pub record HasSnapshot (c : Config) (cycling : Bool) (snapshot : List ℕ) (xs :
   pub quarantined : cycling ≡ true → (i : ℕ) → (placed_at xs i).released ≡ false
       → has_bit_of c snapshot (placed_at xs i) ≡ ((placed_at xs i).freed && not (placed_at xs i).fresh)
 
+-- While a cycle is on, the snapshot bits are those of what was freed when it began.
 abbrev pub KeepsSnapshot : Config → World → Type 0
 KeepsSnapshot c w = HasSnapshot c (is_cycling (phase_of w.now.words)) w.now.words.snapshot w.allocations

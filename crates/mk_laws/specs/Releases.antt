@@ -8,9 +8,11 @@ use Rattle.mk_core.specs.declared.events.Step.TheVariants as step
 
 -- an allocation before a cycle's `release`, and after it
 
+-- an allocation before the `release`
 abbrev pub allocation_before : Config → {es : List Event} → Releasing es → ℕ → PlacedAllocation
 allocation_before c r i = placed_at (left c (before_release r)).allocations i
 
+-- the same allocation after it
 abbrev pub allocation_behind : Config → {es : List Event} → Releasing es → ℕ → PlacedAllocation
 allocation_behind c r i = placed_at (left c (before_release r ++ r.release.at.event ∷ [])).allocations i
 

@@ -10,6 +10,7 @@ unfoldable pub count_below : ℕ → (ℕ → Bool) → ℕ
 count_below zero test = 0
 count_below (suc n) test = count_below n test + (if test n then 1 else 0)
 
+-- the page is one of the plot
 abbrev pub in_plot : Plot → ℕ → Bool
 in_plot NoPlot p = false
 in_plot (Plotted first o) p = nat_le first p && nat_lt p (first + pages_made o)
@@ -23,5 +24,6 @@ abbrev pub HasRoom : Config → World → Type 0
 HasRoom c w = count_below c.pages
     (is_taken_page w.now.words.pages (plot_of (object_now c w.now) w.now.seats.holding.placing)) ≤ c.resident
 
+-- Each page has a header word.
 abbrev pub HasHeaderWords : World → Type 0
 HasHeaderWords w = (p : ℕ) → IsHeaderWord (header_at w.now.words p)

@@ -18,5 +18,6 @@ pub record IsSafeSet (safe : ℕ → Bool) (xs : List PlacedAllocation) (n : Nev
   pub closed : (a i : ℕ) → safe a ≡ true → is_unmapped (allocation_at n a) ≡ false → IsSafe safe (word_at n a i)
   pub unreleased : (a : ℕ) → safe a ≡ true → (placed_at xs a).released ≡ false
 
+-- There is a set of allocations that has all that is reached and nothing that is released.
 abbrev pub HasSafeSet : List PlacedAllocation → NeverState → Type 0
 HasSafeSet xs n = (safe : ℕ → Bool) × IsSafeSet safe xs n

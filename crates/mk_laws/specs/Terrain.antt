@@ -22,6 +22,7 @@ mode_of false going = Mapped
 mode_of true true = Unmapping
 mode_of true false = Unmapped
 
+-- the claim of an unreleased allocation
 abbrev pub claim_of : Config → Option RunPages → PlacedAllocation → Claim
 claim_of c run a =
     record {
@@ -40,10 +41,12 @@ claims_of c run (a ∷ xs) = if a.released then claims_of c run xs else claim_of
 abbrev pub place_claim : Object → Place → Claim
 place_claim o place = record { page = place.page; index = place.index; object = o; mode = Mapped }
 
+-- the claim of a New whose cell is used already
 abbrev pub claims_placed : Object → Placing → List Claim
 claims_placed o (Used place) = place_claim o place ∷ []
 claims_placed o _ = []
 
+-- the pages of a New whose place is chosen
 abbrev pub plot_of : Object → Placing → Plot
 plot_of o (Chosen place) = Plotted place.page o
 plot_of o _ = NoPlot
@@ -52,6 +55,7 @@ plot_of o _ = NoPlot
 abbrev pub claims_on : Config → Object → Ground → List Claim
 claims_on c o t = claims_of c t.run t.allocations ++ claims_placed o t.placing
 
+-- what the layout reads
 abbrev pub layout_scene_of : Config → Object → Bool → List ℕ → Ground → LayoutScene
 layout_scene_of c o releasing marks t =
     record {
@@ -72,6 +76,7 @@ pub record IsClaimedRun (claims : List Claim) (run : RunPages) : Type 0 where
   pub large : is_small_object claim.object ≡ false
   pub mode : claim.mode ≡ Unmapping
 
+-- The run that a Free unmaps is a claim's.
 abbrev pub RunStands : List Claim → Option RunPages → Type 0
 RunStands claims None = Unit {0}
 RunStands claims (Some run) = IsClaimedRun claims run
@@ -92,6 +97,7 @@ abbrev pub IsFirst : Placing → Type 0
 IsFirst (Chosen place) = place.index ≡ 0
 IsFirst _ = Unit {0}
 
+-- The claims are laid out on these pages.
 pub record HasLayout (c : Config) (o : Object) (releasing : Bool) (marks : List ℕ) (t : Ground) : Type 0 where
   pub scene : IsLaidOn (layout_scene_of c o releasing marks t)
   pub gone : RunStands (claims_of c t.run t.allocations) t.run
@@ -102,5 +108,6 @@ pub record HasLayout (c : Config) (o : Object) (releasing : Bool) (marks : List 
 abbrev pub object_now : Config → Moment → Object
 object_now c m = object_made c (flight_of m (Caller (m.words.turn - 1))).op
 
+-- So they are in this world.
 abbrev pub LayoutStands : Config → World → Type 0
 LayoutStands c w = HasLayout c (object_now c w.now) (is_phase w.now.words 4) w.now.words.marks (ground_of w)

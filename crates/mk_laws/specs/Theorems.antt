@@ -26,6 +26,7 @@ EventsKeepTheInvariant =
     (c : Config) (es : List Event) (e : Event) → IsHistory c (es ++ e ∷ [])
     → Invariant c (left c es) (never_behind c es) → Invariant c (left c (es ++ e ∷ [])) (never_behind c (es ++ e ∷ []))
 
+-- The invariant holds after these events.
 abbrev pub KeepsTheInvariant : Config → List Event → Type 0
 KeepsTheInvariant c es = Invariant c (left c es) (never_behind c es)
 

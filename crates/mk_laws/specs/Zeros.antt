@@ -30,6 +30,7 @@ zero_scene_with releasing marks w =
       allocations = w.allocations;
     }
 
+-- what this group reads of a world
 abbrev pub zero_scene_of : World → ZeroScene
 zero_scene_of w = zero_scene_with (is_phase w.now.words 4) w.now.words.marks w
 
@@ -38,6 +39,7 @@ abbrev pub is_released_there : ZeroScene → Cell → Bool
 is_released_there s cell =
     s.releasing && has_bit (without (slice_index s.snapshot cell.page) (slice_index s.marks cell.page)) cell.index
 
+-- the first heap word of a cell
 abbrev pub first_word_on : List Page → Cell → ℕ
 first_word_on pages cell = 64 * cell.page + cell.index * words_under (shows_on pages cell.page)
 
@@ -64,13 +66,16 @@ pub record IsFreedWord (freed : Option RunPages) (n : ℕ) : Type 0 where
   pub there : freed ≡ Some run
   pub word : is_in_run run n ≡ true
 
+-- Heap word n may hold something: it is a mapped allocation's, a released cell's, or of a run that is being wiped.
 pub data MayHold (c : Config) (s : ZeroScene) (n : ℕ) : Type 0 where
   OfMapped : IsWordOfMapped c s.allocations n → MayHold c s n
   OfReleased : IsReleasedWord c s.pages (is_released_there s) n → MayHold c s n
   OfFreedRun : IsFreedWord s.run n → MayHold c s n
 
+-- All other heap words are 0.
 abbrev pub OthersAreZero : Config → ZeroScene → Type 0
 OthersAreZero c s = (n : ℕ) → slice_index s.heap n ≢ 0 → MayHold c s n
 
+-- So it is in this world.
 abbrev pub HasZeros : Config → World → Type 0
 HasZeros c w = OthersAreZero c (zero_scene_of w)

@@ -13,4 +13,5 @@ pub mod precision_laws;
 pub mod protocol_laws;
 pub mod reading_laws;
 pub mod theorem_laws;
+pub mod waiting_laws;
 pub mod zero_laws;

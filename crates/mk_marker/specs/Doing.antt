@@ -22,10 +22,12 @@ pub record Did (p : PassState) (xs : List Finding) (q : PassState) : Type 0 wher
   pub own_or_others : AreOwnOrOfOthers p.seat p.seats more
   pub done : done_in p more ≡ xs
 
+-- it is an `mlook`
 abbrev pub is_markers_look : Step → Bool
 is_markers_look (step.Mlook x) = true
 is_markers_look _ = false
 
+-- it is an `mload`
 abbrev pub is_markers_load : Step → Bool
 is_markers_load step.Mload = true
 is_markers_load _ = false
@@ -37,5 +39,6 @@ is_of_scan step.Mload = true
 is_of_scan step.Mmark = true
 is_of_scan _ = false
 
+-- how many of these are loads
 abbrev pub count_loads : List Finding → ℕ
 count_loads xs = count_by (λ (x : Finding). is_markers_load x.event.step) xs

@@ -5,6 +5,7 @@ use Rattle.mk_core.specs.{declared.seats.SeenHeader.SeenHeader, StopConditions.i
 use Rattle.mk_words.specs.{States.{WordsState, PassState}, Markers.marker_in}
 use Rattle.mk_core.specs.declared.seats.Marker.{Marker as MarkerState}
 
+-- the marker attends
 abbrev pub attends : PassState → Bool
 attends p = is_attending (marker_in p).presence
 
@@ -22,6 +23,7 @@ pub record IsMarkers (p : PassState) : Type 0 where
 abbrev pub between_scans : Option SeenHeader → MarkerState
 between_scans seen = record { presence = Attending; scan = None; hand = None; seen = seen }
 
+-- It scans nothing and has nothing in hand.
 abbrev pub IsBetweenScans : PassState → Type 0
 IsBetweenScans p = (seen : Option SeenHeader) × (marker_in p ≡ between_scans seen)
 

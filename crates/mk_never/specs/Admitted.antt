@@ -38,9 +38,11 @@ Meets n (Ptr number ty offset) i P =
     (offset + i < length (words_of n number))
     × P (slice_index_or (kinds_of n.types (allocation_at n number).ty) (offset + i) Number)
 
+-- It is a number.
 abbrev pub IsNumber : Kind → Type 0
 IsNumber kind = IsTrue (is_number kind)
 
+-- It is a pointer.
 abbrev pub IsPointer : Kind → Type 0
 IsPointer kind = is_number kind ≡ false
 

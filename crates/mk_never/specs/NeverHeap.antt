@@ -16,6 +16,7 @@ pub record Allocation : Type 0 where
   pub words : List Value
   pub freed : Bool
 
+-- a heap that never reuses storage
 pub record NeverState : Type 0 where
   pub types : List (List Kind)
   pub allocations : List Allocation  -- in the order of the grants: an allocation's number is its place
@@ -27,30 +28,39 @@ abbrev pub start_of : List (List Kind) → ℕ → NeverState
 start_of types callers =
     record { types = types; allocations = []; registers = replicate (8 * callers) Null; globals = replicate 64 Null }
 
+-- register r of the caller
 abbrev pub register_at : NeverState → ℕ → ℕ → Value
 register_at n caller r = slice_index_or n.registers (8 * caller + r) Null
 
+-- the heap, with this value there
 abbrev pub with_register : NeverState → ℕ → ℕ → Value → NeverState
 with_register n caller r value = record n { registers = slice_set n.registers (8 * caller + r) value }
 
+-- global g
 abbrev pub global_at : NeverState → ℕ → Value
 global_at n g = slice_index_or n.globals g Null
 
+-- the heap, with this value there
 abbrev pub with_global : NeverState → ℕ → Value → NeverState
 with_global n g value = record n { globals = slice_set n.globals g value }
 
+-- what stands for an allocation that doesn't exist
 abbrev pub no_allocation : Allocation
 no_allocation = record { ty = 0; words = []; freed = false }
 
+-- the allocation of this number
 abbrev pub allocation_at : NeverState → ℕ → Allocation
 allocation_at n number = slice_index_or n.allocations number no_allocation
 
+-- its words
 abbrev pub words_of : NeverState → ℕ → List Value
 words_of n number = (allocation_at n number).words
 
+-- its word at this place
 abbrev pub word_at : NeverState → ℕ → ℕ → Value
 word_at n number place = slice_index_or (words_of n number) place Null
 
+-- the heap, with this value there
 abbrev pub with_word : NeverState → ℕ → ℕ → Value → NeverState
 with_word n number place value =
     record n {
@@ -58,6 +68,7 @@ with_word n number place value =
           (record (allocation_at n number) { words = slice_set (words_of n number) place value });
     }
 
+-- the heap, with this allocation freed
 abbrev pub with_freed : NeverState → ℕ → NeverState
 with_freed n number =
     record n { allocations = slice_set n.allocations number (record (allocation_at n number) { freed = true }) }
@@ -84,11 +95,13 @@ target_of n (Num m) i = Nothing
 target_of n (Ptr number ty offset) i = if is_unmapped (allocation_at n number) then Unmapped
     else WordOf number (offset + i)
 
+-- the number that a load of this value gives
 abbrev pub number_of : Value → ℕ
 number_of Null = 0
 number_of (Num m) = m
 number_of (Ptr number ty offset) = 0
 
+-- the two values are equal
 abbrev pub is_same : Value → Value → Bool
 is_same Null Null = true
 is_same (Num m) (Num k) = m == k
@@ -100,6 +113,7 @@ is_same (Num m) (Ptr number' ty' offset') = false
 is_same (Ptr number ty offset) Null = false
 is_same (Ptr number ty offset) (Num k) = false
 
+-- 1 if it is so, otherwise 0
 abbrev pub bit : Bool → ℕ
 bit true = 1
 bit false = 0
@@ -116,16 +130,19 @@ left_at Nothing refused at = refused
 left_at Unmapped refused at = refused
 left_at (WordOf number place) refused at = at number place
 
+-- the reply to a Free of this value
 abbrev pub free_reply : NeverState → Value → Reply
 free_reply n Null = Done
 free_reply n (Num m) = Done
 free_reply n (Ptr number ty offset) = if (allocation_at n number).freed then Double else Done
 
+-- what the Free leaves
 abbrev pub after_free : NeverState → Value → NeverState
 after_free n Null = n
 after_free n (Num m) = n
 after_free n (Ptr number ty offset) = with_freed n number
 
+-- the reply to a Lea from this value
 abbrev pub lea_reply : Value → Reply
 lea_reply Null = WasNull
 lea_reply (Num m) = WasNull

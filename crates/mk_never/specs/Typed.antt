@@ -17,6 +17,7 @@ IsSound n (Num m) = ⊥
 IsSound n (Ptr number ty offset) =
     (number < length n.allocations) × (ty ≡ (allocation_at n number).ty) × IsPlaceIn (kinds_of n.types ty) offset
 
+-- It is a number.
 abbrev pub IsNum : Value → Type 0
 IsNum Null = ⊥
 IsNum (Num m) = Unit {0}

@@ -26,5 +26,6 @@ abbrev pub zero_of : Kind → Value
 zero_of Num = Number 0
 zero_of (To ty offset) = Null
 
+-- the words of a new object
 abbrev pub zero_words : List Kind → List Value
 zero_words kinds = map zero_of kinds

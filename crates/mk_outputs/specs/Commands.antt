@@ -24,31 +24,38 @@ abbrev pub marking_by : Bool → ℕ → Option Marking
 marking_by true markers = if nat_lt 0 markers then None else Some Sweep
 marking_by false markers = Some (traced_by markers)
 
+-- `run` with these options, if they go together
 abbrev pub run_with : Bool → Bool → Bool → ℕ → Option Command
 run_with sweep why report markers =
     option_map (λ marking. OnText (Run (record { marking = marking; why = why; report = report })))
     (marking_by sweep markers)
 
+-- `run` with what was given
 abbrev pub run_of : Given → Option Command
 run_of g = option_and_then (run_with g.sweep g.why g.report) (markers_of g.markers)
 
+-- the first number that was given
 abbrev pub start_of : Numbers → Option (List ℕ)
 start_of no_number = None
 start_of (one_number start) = Some start
 start_of (two_numbers start count) = Some start
 
+-- the second one
 abbrev pub count_of : Numbers → Option (List ℕ)
 count_of (two_numbers start count) = Some count
 count_of _ = None
 
+-- `gen` with these numbers, if they are within their bounds
 abbrev pub gen_with : ℕ → ℕ → ℕ → Option Command
 gen_with markers start count = if nat_lt count 48 || nat_lt 3000000 count then None
     else Some (Gen (record { start = start; count = count; markers = markers }))
 
+-- the same, if all three are there
 abbrev pub gen_from : Option ℕ → Option ℕ → Option ℕ → Option Command
 gen_from markers start count =
     option_and_then (λ m. option_and_then (λ s. option_and_then (gen_with m s) count) start) markers
 
+-- `gen` with what was given
 abbrev pub gen_of : Given → Option Command
 gen_of g = gen_from (markers_of g.markers) (option_and_then number_of_word (start_of g.numbers))
     (option_and_then number_of_word (count_of g.numbers))
@@ -57,6 +64,7 @@ gen_of g = gen_from (markers_of g.markers) (option_and_then number_of_word (star
 abbrev pub alone_of : TextCommand → Given → Option Command
 alone_of command g = Some (OnText command)
 
+-- the command of this name, with what the words after it give
 abbrev pub command_named : List ℕ → List (List ℕ) → Option Command
 command_named name words =
     if bytes_eq name (codes "run") then option_and_then run_of (given_by runs words)
@@ -72,6 +80,7 @@ abbrev pub markers_beside : Marking → ℕ
 markers_beside (Beside markers) = markers
 markers_beside _ = 0
 
+-- cycles sweep
 abbrev pub is_sweep : Marking → Bool
 is_sweep Sweep = true
 is_sweep _ = false
@@ -81,6 +90,7 @@ abbrev pub MarkersAreWithin : Marking → Type 0
 MarkersAreWithin (Beside markers) = (0 < markers) × (markers ≤ 8)
 MarkersAreWithin _ = Unit {0}
 
+-- The number of markers is within its bounds.
 abbrev pub AreWithin : TextCommand → Type 0
 AreWithin (Run options) = MarkersAreWithin options.marking
 AreWithin Check = Unit {0}

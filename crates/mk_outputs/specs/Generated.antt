@@ -9,15 +9,19 @@ use Rattle.mk_outputs.specs.Draws.{next_state, draw}
 
 -- The names of the types, the global and the scripts.
 
+-- the name of the type of nodes
 abbrev pub node : List ℕ
 node = codes "Node"
 
+-- the name of the type of buffers
 abbrev pub buf : List ℕ
 buf = codes "Buf"
 
+-- the name of the global
 abbrev pub shared : List ℕ
 shared = codes "g"
 
+-- the names of the scripts
 abbrev pub all_names : List (List ℕ)
 all_names = codes "s0" ∷ codes "s1" ∷ codes "s2" ∷ codes "s3" ∷ []
 

@@ -3,6 +3,7 @@ use Rattle.std.specs.{Prelude.{ℕ, List, [], ◌∷◌, ◌++◌}, Fmt.decimal}
 use lib.Chars.{codes}
 use Rattle.mk_outputs.specs.{Draws.{next_state, draw}, Generated.{all_names, count_of_numbers, turns_of}}
 
+-- the lines before the scripts
 abbrev pub declaration_lines : ℕ → List (List ℕ)
 declaration_lines numbers =
     codes "heap 256 256" ∷
@@ -36,12 +37,14 @@ body_lines turns number place =
     codes "end" ∷
     []
 
+-- the lines of these scripts
 abbrev pub lines_of_scripts : ℕ → ℕ → ℕ → List (List ℕ) → List (List ℕ)
 lines_of_scripts turns numbers x [] = []
 lines_of_scripts turns numbers x (name ∷ names) =
     ((codes "script " ++ name) ∷ body_lines turns (draw (next_state x) 1000) (draw (next_state (next_state x)) numbers))
     ++ lines_of_scripts turns numbers (next_state (next_state x)) names
 
+-- the lines of the generated text
 abbrev pub generated_lines : ℕ → ℕ → List (List ℕ)
 generated_lines start count =
     declaration_lines (count_of_numbers start)

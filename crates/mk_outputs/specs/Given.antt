@@ -9,10 +9,12 @@ pub data Form : Type 0 where
   gens : Form
   bare : Form
 
+-- the form takes `--markers`
 abbrev pub takes_markers : Form → Bool
 takes_markers bare = false
 takes_markers _ = true
 
+-- the form takes flags
 abbrev pub takes_flags : Form → Bool
 takes_flags runs = true
 takes_flags _ = false
@@ -42,10 +44,12 @@ abbrev pub said_dashed : Option (List ℕ) → Said
 said_dashed None = plain
 said_dashed (Some rest) = if is_some (slice_get (chars rest) 0) then unknown else plain
 
+-- what a word that is no flag says
 abbrev pub said_other : Option (List ℕ) → List ℕ → Said
 said_other (Some digits) word = markers_said (Some digits)
 said_other None word = said_dashed (behind (codes "-") word)
 
+-- what a word says
 abbrev pub said : List ℕ → Said
 said word =
     if bytes_eq word (codes "--") then ends
@@ -79,6 +83,7 @@ pub record Given : Type 0 where
   -- `--` was read: no option comes after it
   pub ended : Bool
 
+-- nothing was given yet
 abbrev pub nothing_given : Given
 nothing_given = record {
   markers = None;
@@ -92,26 +97,32 @@ nothing_given = record {
 
 -- Each option is given at most once.
 
+-- the number of markers is given, once
 abbrev pub with_markers : Given → List ℕ → Option Given
 with_markers g digits = if is_some g.markers then None else Some (record g { markers = Some digits; awaits = false })
 
+-- the same, if it is in this word; otherwise the next word has it
 abbrev pub markers_by : Option (List ℕ) → Given → Option Given
 markers_by None g = Some (record g { awaits = true })
 markers_by (Some digits) g = with_markers g digits
 
+-- the flag was given
 abbrev pub has_flag : Flag → Given → Bool
 has_flag sweep_flag g = g.sweep
 has_flag why_flag g = g.why
 has_flag report_flag g = g.report
 
+-- with this flag
 abbrev pub set_flag : Flag → Given → Given
 set_flag sweep_flag g = record g { sweep = true }
 set_flag why_flag g = record g { why = true }
 set_flag report_flag g = record g { report = true }
 
+-- the flag is given, once
 abbrev pub with_flag : Flag → Given → Option Given
 with_flag flag g = if has_flag flag g then None else Some (set_flag flag g)
 
+-- a number is given
 abbrev pub with_number : Form → Given → List ℕ → Option Given
 with_number gens g word = option_map (λ numbers. record g { numbers = numbers }) (more_numbers g.numbers word)
 with_number _ g word = None
@@ -141,5 +152,6 @@ abbrev pub with_words : Form → List (List ℕ) → Given → Option Given
 with_words form [] g = if g.awaits then None else Some g
 with_words form (word ∷ words) g = option_and_then (with_words form words) (given_with_word form g word)
 
+-- what the words give, if they have the form
 abbrev pub given_by : Form → List (List ℕ) → Option Given
 given_by form words = with_words form words nothing_given

@@ -21,10 +21,12 @@ root_words program (Some (Register caller register)) =
 abbrev pub links_text : List ℕ → List ℕ
 links_text links = flat_map (λ (link : ℕ). line_text (codes "word" ∷ decimal link ∷ [])) links
 
+-- the lines of an entry
 abbrev pub entry_text : List Item → Kept → List ℕ
 entry_text program entry =
     line_text (codes "kept" ∷ decimal entry.address ∷ decimal entry.words ∷ [])
     ++ (line_text (root_words program entry.root) ++ links_text entry.links.items)
 
+-- the lines of all entries
 abbrev pub kept_text : List Item → List Kept → List ℕ
 kept_text program kept = flat_map (entry_text program) kept

@@ -49,15 +49,18 @@ status_of_read_stop reading.ReadFault = ReadFault
 status_of_read_stop reading.TooLong = Limit 0 Bytes 1048577
 status_of_read_stop reading.NoMemory = NoMemory
 
+-- the status of a text that is refused
 abbrev pub status_of_text_stop : TextStop → Status
 status_of_text_stop (stop.Text line kind) = Text line kind
 status_of_text_stop (stop.Limit line which found) = Limit line which found
 status_of_text_stop stop.NoMemory = NoMemory
 
+-- the status of a command on a text
 abbrev pub status_of_text : TextCommand → Result (List Item) TextStop → Status
 status_of_text command (Accepted program) = status_of_program command program
 status_of_text command (Refused stop) = status_of_text_stop stop
 
+-- the status of an ill-typed program
 abbrev pub status_of_type_stop : TypeStop → Status
 status_of_type_stop (typing.IllTyped line kind) = IllTyped line kind
 status_of_type_stop typing.NoMemory = NoMemory
@@ -68,14 +71,17 @@ status_of_refusal None = Ok
 status_of_refusal (Some (replay.NotEnabled line event condition)) = NotEnabled line event condition
 status_of_refusal (Some replay.NoMemory) = NoMemory
 
+-- the status of a replay
 abbrev pub status_of_schedule : List Item → List Entry → Status
 status_of_schedule program schedule =
     typed_or (first_typing_fault program) (status_of_refusal (refusal_of program schedule))
 
+-- the same, of a text that may be refused
 abbrev pub status_of_replay : Result (List Item × List Entry) TextStop → Status
 status_of_replay (Accepted parts) = status_of_schedule parts.0 parts.1
 status_of_replay (Refused stop) = status_of_text_stop stop
 
+-- the status of a trace that is refused
 abbrev pub status_of_trace_stop : TraceStop → Status
 status_of_trace_stop (trace.Text line kind) = Text line kind
 status_of_trace_stop (trace.IllTyped line kind) = IllTyped line kind
@@ -152,6 +158,7 @@ pub record IsOutputOfRequest (request : Request) (old new : Option (List ℕ)) (
   pub output_is : IsSomeAnd output.report (λ report. IsSummaryOfRun (generated_program request.start request.count)
       request.markers (history_of_report report) output.bytes.items)
 
+-- What the command writes, whether it reads a text or not.
 abbrev pub IsOutputOfCommand : Command → Option (List ℕ) → Option (List ℕ) → Output → Type 0
 IsOutputOfCommand (asked.OnText on_text) old new output = IsOutputOnSource on_text old new output
 IsOutputOfCommand (asked.Gen request) old new output = IsOutputOfRequest request old new output
@@ -170,6 +177,7 @@ IsStatusOf (asked.OnText on_text) (Some input) status = (status ≡ NoMemory) �
 IsStatusOf (asked.OnText on_text) None status = Unit {0}
 IsStatusOf (asked.Gen request) left status = (status ≡ NoMemory) ⊎ (status ≡ Ok)
 
+-- The status that the command has on this input.
 abbrev pub IsStatusOn : Option Command → Option (List ℕ) → Status → Type 0
 IsStatusOn (Some command) left status = IsStatusOf command left status
 IsStatusOn None left status = Unit {0}

@@ -7,9 +7,11 @@ use Rattle.mk_core.specs.Counts.{in_a_word}
 use Rattle.mk_script.specs.Canonical.{line_text}
 use Rattle.mk_trace.specs.Below.Heaps.{Reports.quarantined, declared.reports.Report.Report}
 
+-- the line of a count
 abbrev pub count_line : List ℕ → ℕ → List ℕ
 count_line name count = line_text (name ∷ decimal count ∷ [])
 
+-- the lines of these counts
 abbrev pub count_lines : ℕ → ℕ → ℕ → ℕ → ℕ → ℕ → List ℕ
 count_lines held fresh quarantined released cycles full =
     count_line (codes "held") held ++ (count_line (codes "fresh") fresh ++

@@ -11,6 +11,7 @@ use Rattle.mk_outputs.specs.declared.statuses.Status.TheVariants.{NotEnabled}
 use Rattle.mk_script.specs.declared.faults.TextKind.TheVariants as text
 use Rattle.mk_check.specs.declared.typing_faults.TypeKind.TheVariants as typing
 
+-- the number with which the program ends
 abbrev pub status_number : Status → ℕ
 status_number Ok = 0
 status_number NoMemory = 1
@@ -22,6 +23,7 @@ status_number (IllTyped line fault) = 6
 status_number (Limit line which found) = 7
 status_number (NotEnabled line event condition) = 8
 
+-- the words of a text fault
 abbrev pub text_words : TextKind → List ℕ
 text_words text.Header = codes "header"
 text_words text.Word = codes "word"
@@ -30,6 +32,7 @@ text_words text.Name = codes "name"
 text_words text.Twice = codes "twice"
 text_words text.End = codes "end"
 
+-- the words of a type fault
 abbrev pub typing_words : TypeKind → List ℕ
 typing_words typing.NoType = codes "no type"
 typing_words typing.NoRegister = codes "no register"
@@ -39,6 +42,7 @@ typing_words typing.Kind = codes "kind"
 typing_words typing.InteriorFree = codes "interior free"
 typing_words (typing.TooLong count) = codes "too long " ++ decimal count
 
+-- the word of a quantity
 abbrev pub which_word : Which → List ℕ
 which_word Bytes = codes "bytes"
 which_word Pages = codes "pages"
@@ -51,13 +55,16 @@ which_word Pointers = codes "pointers"
 which_word Numbers = codes "numbers"
 which_word Depth = codes "depth"
 
+-- the words of a limit
 abbrev pub limit_words : Which → ℕ → List ℕ
 limit_words which found = codes "limit " ++ (which_word which ++ (codes " " ++ decimal found))
 
+-- the words of an event that may not come
 abbrev pub not_enabled_words : ℕ → ℕ → List ℕ
 not_enabled_words event condition =
     codes "event " ++ (decimal event ++ (codes " not enabled, condition " ++ decimal condition))
 
+-- a line on standard error that names a line
 abbrev pub message_at_line : ℕ → List ℕ → List ℕ
 message_at_line line words = codes "line " ++ (decimal line ++ (codes ": " ++ (words ++ codes "\n")))
 

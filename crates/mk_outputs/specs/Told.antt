@@ -6,32 +6,40 @@ use Rattle.clap.specs.{Simple.new_shape, declared.builder.action.ArgAction.TheVa
 use Rattle.mk_outputs.specs.{Commands.{start_of, count_of}, Given.{Flag, Form, Given, bare, gens, report_flag, runs}}
 use Rattle.mk_outputs.specs.Given.{sweep_flag, why_flag}
 
+-- what clap is told of `--markers`
 abbrev pub markers_rule : Rule
 markers_rule = record (new_rule (codes "markers")) { long = Some (codes "markers"); action = Some Set }
 
+-- what it is told of a flag
 abbrev pub flag_rule : Text → Rule
 flag_rule name = record (new_rule name) { long = Some name; action = Some SetTrue }
 
+-- what it is told of a number
 abbrev pub positional_rule : Text → Rule
 positional_rule name = record (new_rule name) { action = Some Set }
 
+-- the name of a flag
 abbrev pub flag_name : Flag → Text
 flag_name sweep_flag = codes "sweep"
 flag_name why_flag = codes "why"
 flag_name report_flag = codes "report"
 
+-- what it is told of a form's words
 abbrev pub rules_of : Form → List Rule
 rules_of runs =
     markers_rule ∷ flag_rule (codes "sweep") ∷ flag_rule (codes "why") ∷ flag_rule (codes "report") ∷ []
 rules_of gens = markers_rule ∷ positional_rule (codes "start") ∷ positional_rule (codes "count") ∷ []
 rules_of bare = []
 
+-- a command without help and version
 abbrev pub bare_shape : Text → Shape
 bare_shape name = record (new_shape name) { disable_help_flag = true; disable_version_flag = true }
 
+-- a command with these rules
 abbrev pub app_with : List Rule → Text → App
 app_with rules name = record { top = record (bare_shape name) { rules = rules }; subs = [] }
 
+-- the command of a form
 abbrev pub app_named : Form → Text → App
 app_named form name = app_with (rules_of form) name
 
@@ -42,6 +50,7 @@ HasFlags runs rows g = (one_of (codes "sweep") rows ≡ Some (bool_text g.sweep)
     × (one_of (codes "report") rows ≡ Some (bool_text g.report))
 HasFlags _ rows g = Unit {0}
 
+-- What clap has taken is what was given.
 pub record HasGiven (form : Form) (rows : List Row) (g : Given) : Type 0 where
   pub markers : first_of (codes "markers") rows ≡ g.markers
   pub flags : HasFlags form rows g

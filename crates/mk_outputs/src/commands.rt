@@ -11,6 +11,7 @@ pub enum Command {
     Gen(Request),
 }
 
+/// A command that reads a text.
 #[derive(Clone, Copy, Debug, PartialEq, Eq)]
 pub enum TextCommand {
     /// Runs the scripts of a text.

@@ -24,16 +24,19 @@ worse_fault kind.Word other = kind.Word
 worse_fault first kind.Word = kind.Word
 worse_fault first other = first
 
+-- what both parts say, or the first fault
 abbrev pub both : {A B C : Type 0} → (A → B → C) → Result A TextKind → Result B TextKind → Result C TextKind
 both f (Ok x) (Ok y) = Ok (f x y)
 both f (Ok x) (Err e) = Err e
 both f (Err e) (Ok y) = Err e
 both f (Err e) (Err e') = Err (worse_fault e e')
 
+-- what the part says, or its fault
 abbrev pub on_ok : {A B : Type 0} → (A → B) → Result A TextKind → Result B TextKind
 on_ok f (Ok x) = Ok (f x)
 on_ok f (Err e) = Err e
 
+-- the number that a word is
 abbrev pub number : List ℕ → Result ℕ TextKind
 number w = ok_or (number_of_word w) kind.Number
 
@@ -72,17 +75,20 @@ forms_of_numbers =
 abbrev pub forms_of_word : List (List ℕ × (Word → Step))
 forms_of_word = (codes "look", (λ x. step.Look x)) ∷ (codes "mlook", (λ x. step.Mlook x)) ∷ []
 
+-- the names of tallies
 abbrev pub tallies : List (List ℕ × Tally)
 tallies =
     (codes "held", tally.Held) ∷ (codes "fresh", tally.Fresh) ∷ (codes "cycles", tally.Cycles)
     ∷ (codes "released", tally.Released) ∷ (codes "full", tally.Full) ∷ []
 
+-- the words of the table whose names are one word
 abbrev pub plain_words : List (List ℕ × Word)
 plain_words =
     (codes "phase", word.Phase) ∷ (codes "held", word.Held) ∷ (codes "fresh", word.Fresh)
     ∷ (codes "cycles", word.Cycles)
     ∷ (codes "released", word.Released) ∷ (codes "full", word.Full) ∷ []
 
+-- words of the table with one number
 abbrev pub words_of_number : List (List ℕ × (ℕ → Word))
 words_of_number =
     (codes "gate", (λ n. word.Gate n)) ∷ (codes "global", (λ n. word.Global n)) ∷ (codes "head", (λ n. word.Head n))
@@ -90,10 +96,12 @@ words_of_number =
     ∷ (codes "black", (λ n. word.Black n)) ∷ (codes "dirty", (λ n. word.Dirty n))
     ∷ (codes "heap", (λ n. word.Heap n)) ∷ []
 
+-- the form, with its number
 abbrev pub form_with_number : {A : Type 0} → Option (ℕ → A) → List ℕ → Result A TextKind
 form_with_number None w = Err kind.Word
 form_with_number (Some f) w = on_ok f (number w)
 
+-- the form, with its two numbers
 abbrev pub with_numbers : {A : Type 0} → Option (ℕ → ℕ → A) → List ℕ → List ℕ → Result A TextKind
 with_numbers None v w = Err kind.Word
 with_numbers (Some f) v w = both f (number v) (number w)
@@ -106,10 +114,12 @@ table_word (a ∷ c ∷ r ∷ []) =
     with_numbers (if bytes_eq a (codes "reg") then Some (λ caller register. word.Reg caller register) else None) c r
 table_word _ = Err kind.Word
 
+-- the form, with its word of the table
 abbrev pub with_table_word : Option (Word → Step) → List (List ℕ) → Result Step TextKind
 with_table_word None ws = Err kind.Word
 with_table_word (Some f) ws = on_ok f (table_word ws)
 
+-- the form of a `tally`
 abbrev pub tally_form : List ℕ → List ℕ → Result Step TextKind
 tally_form n v = both (λ t value. step.Tally t value) (ok_or (value_among tallies n) kind.Word) (number v)
 
@@ -124,6 +134,7 @@ two_operands a v w =
     two_or_look (Some f) = both f (number v) (number w)
     two_or_look None = with_table_word (value_among forms_of_word a) (v ∷ w ∷ [])
 
+-- an event of two words
 abbrev pub one_operand : List ℕ → List ℕ → Result Step TextKind
 one_operand a v = one_or_look (value_among forms_of_number a)
   where

@@ -26,6 +26,7 @@ served_behind false decided x = record { answers = x.answers; kept = option_or d
 abbrev pub served_by : ℕ → Event → Option Answer → Served → Served
 served_by k e decided x = if is_same_seat (Caller k) e.seat then served_behind (ends_call e.step) decided x else x
 
+-- what a script was given, and the answer that waits for its call to end
 abbrev pub served_to : Config → List Event → ℕ → Served
 served_to c es k = record { answers = answers_given c es k; kept = answer_waiting c es k }
 
@@ -63,6 +64,7 @@ pub record PlayerHasRoom (p : Player) : Type 0 where
   pub ops : p.ops < 18446744073709551615
   pub refused : p.refused < 18446744073709551615
 
+-- Each player can take one answer more.
 abbrev pub EachHasRoom : List Player → Type 0
 EachHasRoom players = (k : ℕ) (d : Player) → k < length players → PlayerHasRoom (slice_index_or players k d)
 
@@ -72,6 +74,7 @@ TakeEvent e decided old new = (program : List Item) (k : ℕ) (d : Player) (x : 
     → IsPlayerOf program k x (slice_index_or old k d)
     → IsPlayerOf program k (served_by k e decided x) (slice_index_or new k d)
 
+-- Each is in the middle of its script, after these events.
 abbrev pub ArePlayersOf : List Item → List Event → List Player → Type 0
 ArePlayersOf program es players = (k : ℕ) (d : Player) → k < length players
     → IsPlayerOf program k (served_to (config_of program 8) es k) (slice_index_or players k d)

@@ -35,6 +35,7 @@ unfoldable pub history_from : List Item → List Event → List Entry → List E
 history_from program es [] = es
 history_from program es (x ∷ xs) = history_from program (es ++ event_of_entry program es x ∷ []) xs
 
+-- the events of a schedule
 abbrev pub history_of : List Item → List Entry → List Event
 history_of program schedule = history_from program [] schedule
 
@@ -51,6 +52,7 @@ refusal_from program es (x ∷ xs) =
     then refusal_from program (es ++ event_of_entry program es x ∷ []) xs
     else Some (NotEnabled x.line x.place (failing_entry program es x))
 
+-- its first event that may not come
 abbrev pub refusal_of : List Item → List Entry → Option ReplayStop
 refusal_of program schedule = refusal_from program [] schedule
 

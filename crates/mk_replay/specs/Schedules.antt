@@ -22,6 +22,7 @@ pieces_of (byte ∷ []) = (byte ∷ []) ∷ []
 pieces_of (byte ∷ next ∷ rest) =
     if (byte == 59) && (next == 32) then [] ∷ pieces_of rest else in_front byte (pieces_of (next ∷ rest))
 
+-- the steps of a line of events
 abbrev pub forms_of : List (List (List ℕ)) → Result (List Step) TextKind
 forms_of [] = Ok []
 forms_of (words ∷ more) = both (λ form forms. form ∷ forms) (form_of words) (forms_of more)
@@ -38,6 +39,7 @@ entries_of_pieces line [] = Err kind.Word
 entries_of_pieces line ([] ∷ pieces) = Err kind.Word
 entries_of_pieces line ((seat ∷ words) ∷ pieces) = both (entries_from line 1) (seat_of seat) (forms_of (words ∷ pieces))
 
+-- the events of a line, with their seat
 abbrev pub entries_of_line : ℕ → List ℕ → Result (List Entry) TextKind
 entries_of_line line text = entries_of_pieces line (map words_of_line (pieces_of text))
 
@@ -57,6 +59,7 @@ abbrev pub is_only_word : List (List ℕ) → Bool
 is_only_word (word ∷ []) = bytes_eq word (codes "schedule")
 is_only_word words = false
 
+-- the line's only word is `schedule`
 abbrev pub is_schedule_line : List ℕ → Bool
 is_schedule_line line = is_only_word (words_of_line line)
 
@@ -65,6 +68,7 @@ unfoldable pub script_lines : List (List ℕ) → List (List ℕ)
 script_lines [] = []
 script_lines (line ∷ lines) = if is_schedule_line line then [] else line ∷ script_lines lines
 
+-- the lines after it
 unfoldable pub schedule_lines : List (List ℕ) → Option (List (List ℕ))
 schedule_lines [] = None
 schedule_lines (line ∷ lines) = if is_schedule_line line then Some lines else schedule_lines lines
@@ -74,12 +78,14 @@ abbrev pub schedule_behind : ℕ → Option (List (List ℕ)) → Result (List E
 schedule_behind count None = Err (stop.Text count kind.End)
 schedule_behind count (Some lines) = entries_of_lines (count + 2) lines
 
+-- the script part with the schedule, or the first fault
 abbrev pub with_schedule : Result (List Item) TextStop → Result (List Entry) TextStop
     → Result (List Item × List Entry) TextStop
 with_schedule (Err fault) entries = Err fault
 with_schedule (Ok items) (Err fault) = Err fault
 with_schedule (Ok items) (Ok entries) = Ok (items, entries)
 
+-- the script part and the schedule of a text
 abbrev pub replay_of_lines : List (List ℕ) → Result (List Item × List Entry) TextStop
 replay_of_lines lines =
     with_schedule (items_of_lines (script_lines lines))

@@ -64,6 +64,7 @@ pub record KeepsRunPromises (program : List Item) (markers : ℕ) (sweep : Bool)
   -- what is held and was given back since, the last cycle kept the rest, and freed large objects take no memory.
   pub bounded : QuarantineIsBounded (cycles_go_on markers) (config_of program markers) history
 
+-- Each run that stands in one history keeps them.
 abbrev pub RunsKeepTheirPromises : Type 0
 RunsKeepTheirPromises =
     (program : List Item) (markers : ℕ) (sweep last_cycle : Bool) (history : List Event)

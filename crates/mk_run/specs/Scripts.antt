@@ -12,6 +12,7 @@ pub record Script : Type 0 where
   pub ops : ℕ
   pub refused : ℕ
 
+-- a script in the middle of its run
 abbrev pub script_of : FeedState → Counts → Script
 script_of s counts = record { feed = s; ops = counts.ops; refused = counts.refused }
 

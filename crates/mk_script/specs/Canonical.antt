@@ -16,6 +16,7 @@ at_text at = if at.offset == 0 then at.name else at.name ++ (codes "+" ++ decima
 abbrev pub numbers_text : ℕ → List ℕ
 numbers_text count = if count == 1 then codes "n" else codes "n*" ++ decimal count
 
+-- fields, with so many numbers before them
 abbrev pub numbers_before : ℕ → List (List ℕ) → List (List ℕ)
 numbers_before zero fields = fields
 numbers_before (suc more) fields = numbers_text (suc more) ∷ fields
@@ -65,5 +66,6 @@ line_text [] = codes "\n"
 line_text (word ∷ []) = word ++ codes "\n"
 line_text (word ∷ next ∷ words) = word ++ (codes " " ++ line_text (next ∷ words))
 
+-- the canonical text of a program
 abbrev pub canonical_text : List Item → List ℕ
 canonical_text items = flat_map (λ item. line_text (words_of_item item)) items

@@ -49,5 +49,6 @@ abbrev pub program_of : List ℕ → Result (List Item) TextStop
 program_of text =
     if nat_le (length text) longest_text then items_of_lines (lines_of text) else Err (fault_at 0 too_long)
 
+-- There is a text of this program.
 abbrev pub IsOfSomeText : List Item → Type 0
 IsOfSomeText items = (text : List ℕ) × (program_of text ≡ Ok items)

@@ -41,10 +41,12 @@ keywords =
     (codes "end", End) ∷
     []
 
+-- the keyword that a word is, of these
 abbrev pub keyword_among : List (List ℕ × Keyword) → List ℕ → Option Keyword
 keyword_among [] word = None
 keyword_among (k ∷ ks) word = if bytes_eq word k.0 then Some k.1 else keyword_among ks word
 
+-- the keyword that a word is
 abbrev pub keyword_of : List ℕ → Option Keyword
 keyword_of word = keyword_among keywords word
 

@@ -16,6 +16,7 @@ use Rattle.mk_script.specs.declared.faults.TextKind.TheVariants as kind
 
 -- Steps 1 to 3: the form, its place and its operands.
 
+-- a script has begun
 abbrev pub has_script : List Item → Bool
 has_script before = list_any is_script before
 
@@ -35,6 +36,7 @@ heap_line (word ∷ pages ∷ resident ∷ []) =
     if bytes_eq word (codes "heap") then item_from keyword.Heap (pages ∷ resident ∷ []) else Err (Text kind.Header)
 heap_line words = Err (Text kind.Header)
 
+-- what a line of this form says, if it is in its place
 abbrev pub placed_item : List Item → Option Keyword → List (List ℕ) → Result Item LineFault
 placed_item before None operands = Err (Text kind.Word)
 placed_item before (Some form) operands =
@@ -42,22 +44,27 @@ placed_item before (Some form) operands =
     then item_from form operands
     else Err (Text kind.Word)
 
+-- what a line after the first says
 abbrev pub other_line : List Item → List (List ℕ) → Result Item LineFault
 other_line before [] = Err (Text kind.Word)
 other_line before (word ∷ operands) = placed_item before (keyword_of word) operands
 
+-- what a line says by itself
 abbrev pub line_item : List Item → List (List ℕ) → Result Item LineFault
 line_item [] words = heap_line words
 line_item (first ∷ before) words = other_line (first ∷ before) words
 
 -- Step 4: names that are declared twice.
 
+-- the name is one of these
 abbrev pub is_among : List ℕ → List (List ℕ) → Bool
 is_among name names = list_any (bytes_eq name) names
 
+-- the registers that a script declares
 abbrev pub register_names : List Item → List (List ℕ)
 register_names lines = pointer_names lines ++ number_names lines
 
+-- the line declares a name again
 abbrev pub is_twice : List Item → Item → Bool
 is_twice before (TypeLine name words) = is_among name (type_names before)
 is_twice before (Global name ty) = is_among name (global_names before)
@@ -68,16 +75,20 @@ is_twice before item = false
 
 -- Step 5: limits, and what is found where one is passed.
 
+-- this limit, if more were found
 abbrev pub at_most : ℕ → ℕ → Which → Option LineFault
 at_most found greatest which = if nat_le found greatest then None else Some (Limit which (min found (2 ^ 64 - 1)))
 
+-- this limit, if what was found is outside
 abbrev pub within : ℕ → ℕ → ℕ → Which → Option LineFault
 within least found greatest which =
     if nat_le least found && nat_le found greatest then None else Some (Limit which found)
 
+-- a limit of the first line
 abbrev pub heap_limit : ℕ → ℕ → Option LineFault
 heap_limit pages resident = option_or (within 1 pages 4096 which.Pages) (within 1 resident pages which.Resident)
 
+-- the limit that a line breaks
 abbrev pub limit_fault : List Item → Item → Option LineFault
 limit_fault before (Heap pages resident) = heap_limit pages resident
 limit_fault before (TypeLine name words) =
@@ -92,22 +103,26 @@ limit_fault before item = None
 
 -- Step 6: blocks that are ended and aren't open, and a script inside an open block.
 
+-- an `else` may come here
 abbrev pub may_have_else : List OpenBlock → Bool
 may_have_else [] = false
 may_have_else (InRepeat ∷ blocks) = false
 may_have_else (InFirst ∷ blocks) = true
 may_have_else (InSecond ∷ blocks) = false
 
+-- no block is open
 abbrev pub has_none : List OpenBlock → Bool
 has_none [] = true
 has_none (block ∷ blocks) = false
 
+-- the blocks that are open may be so at this line
 abbrev pub ends_rightly : List OpenBlock → Item → Bool
 ends_rightly blocks (Script name) = has_none blocks
 ends_rightly blocks Else = may_have_else blocks
 ends_rightly blocks End = not (has_none blocks)
 ends_rightly blocks item = true
 
+-- what the line says, or this fault
 abbrev pub or_item : Option LineFault → Item → Result Item LineFault
 or_item None item = Ok item
 or_item (Some fault) item = Err fault
@@ -119,5 +134,6 @@ checked_item before item =
     (or_item (limit_fault before item) item
     >>= (λ item'. if ends_rightly (open_blocks before) item then Ok item' else Err (Text kind.End)))
 
+-- what a line says after the lines before it, or its first fault
 abbrev pub line_of : List Item → List (List ℕ) → Result Item LineFault
 line_of before words = line_item before words >>= checked_item before

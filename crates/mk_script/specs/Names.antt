@@ -13,6 +13,7 @@ is_name word =
     nat_lt 0 (length word) && nat_le (length word) 16 && is_ascii_alphabetic (slice_index word 0)
     && list_all is_name_byte word
 
+-- the name that a word is
 abbrev pub name_of : List ℕ → Option (List ℕ)
 name_of word = if is_name word then Some word else None
 

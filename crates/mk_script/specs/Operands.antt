@@ -15,16 +15,20 @@ use Rattle.mk_script.specs.declared.items.Item.TheVariants as item
 use Rattle.mk_script.specs.declared.faults.TextKind.TheVariants as kind
 
 infixl 10 ◌>>=◌
+-- goes on with what was found, or keeps the fault
 abbrev pub ◌>>=◌ : {A B : Type 0} → Result A LineFault → (A → Result B LineFault) → Result B LineFault
 (Ok x) >>= f = f x
 (Err e) >>= f = Err e
 
+-- the number that a word is
 abbrev pub number : List ℕ → Result ℕ LineFault
 number word = ok_or (number_of_word word) (Text kind.Number)
 
+-- the name that a word is
 abbrev pub name : List ℕ → Result (List ℕ) LineFault
 name word = ok_or (name_of word) (Text kind.Name)
 
+-- it is the byte `+`
 abbrev pub is_plus : ℕ → Bool
 is_plus byte = byte == 43
 
@@ -46,10 +50,12 @@ at word =
 abbrev pub numbers : ℕ → Option (List TypeWord)
 numbers count = if nat_le 1 count then Some (replicate count Number) else None
 
+-- the words of a field that begins with `n`
 abbrev pub number_field : List ℕ → Option (List TypeWord)
 number_field [] = Some (Number ∷ [])
 number_field (star ∷ digits) = if star == 42 then option_and_then numbers (number_of_word digits) else None
 
+-- the word of a field that begins with `p`
 abbrev pub pointer_field : List ℕ → Option (List TypeWord)
 pointer_field [] = None
 pointer_field (colon ∷ place) = if colon == 58 then option_map (λ a. Pointer a ∷ []) (result_ok (at place)) else None
@@ -60,6 +66,7 @@ field_of [] = None
 field_of (letter ∷ rest) =
     if letter == 110 then number_field rest else (if letter == 112 then pointer_field rest else None)
 
+-- the words of these fields
 abbrev pub fields_of : List (List ℕ) → List TypeWord
 fields_of fields = flat_map (λ field. unwrap_or (field_of field) []) fields
 
@@ -74,16 +81,20 @@ have_form keyword operands = true
 
 -- The item of what operands say, or the first of their faults.
 
+-- an item of one operand
 abbrev pub says1 : {A : Type 0} → (A → Item) → Result A LineFault → Result Item LineFault
 says1 f a = a >>= (λ x. Ok (f x))
 
+-- an item of two operands
 abbrev pub says2 : {A B : Type 0} → (A → B → Item) → Result A LineFault → Result B LineFault → Result Item LineFault
 says2 f a b = a >>= (λ x. b >>= (λ y. Ok (f x y)))
 
+-- an item of three operands
 abbrev pub says3 : {A B C : Type 0} → (A → B → C → Item)
     → Result A LineFault → Result B LineFault → Result C LineFault → Result Item LineFault
 says3 f a b c = a >>= (λ x. b >>= (λ y. c >>= (λ z. Ok (f x y z))))
 
+-- an item of five operands
 abbrev pub says5 : {A B C D E : Type 0} → (A → B → C → D → E → Item)
     → Result A LineFault → Result B LineFault → Result C LineFault → Result D LineFault → Result E LineFault
     → Result Item LineFault

@@ -7,10 +7,12 @@ use Rattle.mk_script.specs.{declared.faults.LineStop.TheVariants.{Fault, NoMemor
 use Rattle.mk_script.specs.Scopes.{type_names, global_names, script_names, pointer_names, number_names, this_script}
 use Rattle.mk_script.specs.Scopes.{is_instruction, open_blocks}
 
+-- there was a line
 abbrev pub has_lines : List Item → Bool
 has_lines [] = false
 has_lines (first ∷ before) = true
 
+-- What is known of the lines before.
 pub record IsScopeOf (scope : Scope) (before : List Item) : Type 0 where
   pub header : scope.has_header ≡ has_lines before
   pub script : scope.has_script ≡ has_script before

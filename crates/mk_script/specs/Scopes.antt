@@ -21,21 +21,27 @@ declared_name s item = None
 abbrev pub names_of : Sort → List Item → List (List ℕ)
 names_of s items = filter_map (declared_name s) items
 
+-- the types that are declared, in order
 abbrev pub type_names : List Item → List (List ℕ)
 type_names items = names_of sort.Type items
 
+-- the globals
 abbrev pub global_names : List Item → List (List ℕ)
 global_names items = names_of sort.Global items
 
+-- the scripts
 abbrev pub script_names : List Item → List (List ℕ)
 script_names items = names_of sort.Script items
 
+-- the pointer registers
 abbrev pub pointer_names : List Item → List (List ℕ)
 pointer_names items = names_of sort.Pointer items
 
+-- the number registers
 abbrev pub number_names : List Item → List (List ℕ)
 number_names items = names_of sort.Number items
 
+-- the line begins a script
 abbrev pub is_script : Item → Bool
 is_script (Script name) = true
 is_script _ = false
@@ -50,10 +56,12 @@ this_script items = fold (λ lines item. if is_script item then [] else lines ++
 
 -- The open blocks, each a `repeat`, or an `if` in its first or its second branch.
 
+-- the open blocks after an `else`
 abbrev pub behind_else : List OpenBlock → List OpenBlock
 behind_else [] = []
 behind_else (block ∷ blocks) = InSecond ∷ blocks
 
+-- the open blocks after an `end`
 abbrev pub behind_end : List OpenBlock → List OpenBlock
 behind_end [] = []
 behind_end (block ∷ blocks) = blocks
@@ -67,5 +75,6 @@ open_behind blocks Else = behind_else blocks
 open_behind blocks End = behind_end blocks
 open_behind blocks _ = blocks
 
+-- the blocks that are open after these lines
 abbrev pub open_blocks : List Item → List OpenBlock
 open_blocks items = fold open_behind [] items

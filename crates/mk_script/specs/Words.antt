@@ -6,6 +6,7 @@ use Rattle.std.specs.List.{slice_split}
 abbrev pub texts_of : List (Bor (List ℕ)) → List (List ℕ)
 texts_of texts = map (λ text. text.now) texts
 
+-- without a last line that is empty
 abbrev pub without_empty_last : List (List ℕ) → List (List ℕ)
 without_empty_last [] = []
 without_empty_last (x ∷ []) = if length x == 0 then [] else x ∷ []
@@ -15,6 +16,7 @@ without_empty_last (x ∷ y ∷ more) = x ∷ without_empty_last (y ∷ more)
 abbrev pub lines_of : List ℕ → List (List ℕ)
 lines_of text = without_empty_last (slice_split (λ byte. byte == 10) text)
 
+-- it has no byte
 abbrev pub is_empty : List ℕ → Bool
 is_empty word = length word == 0
 

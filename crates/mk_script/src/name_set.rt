@@ -22,6 +22,7 @@ impl Model for NameSet {
 }
 
 impl NameSet {
+    /// No names.
     pub fn new(alloc: Global) -> NameSet
         ensures { result ≡ [] }
     {
@@ -30,6 +31,7 @@ impl NameSet {
         }
     }
 
+    /// The name is one of them.
     pub fn contains(&self, name: &Name) -> bool
         ensures { result ≡ is_among name.now self.now }
     {

@@ -40,6 +40,7 @@ pub struct Scope {
 }
 
 impl Scope {
+    /// What is known before the first line.
     pub fn new(alloc: Global) -> Scope
         ensures { IsScopeOf result [] }
     {

@@ -74,6 +74,7 @@ next_point Freeing told = Reading
 next_point Reading told = Ended (Popped (number_answered told))
 next_point (Ended d) told = Ended d
 
+-- It points to the first word of an object of this type.
 pub record IsPointerTo (ty : ℕ) (v : Value) : Type 0 where
   pub number : ℕ
   pub is : v ≡ Ptr number ty 0
@@ -118,6 +119,7 @@ IsFit Pop (Popped n) = Unit {0}
 IsFit Pop Empty = Unit {0}
 IsFit _ _ = ⊥
 
+-- A job ends here.
 abbrev pub IsGoal : Point → Type 0
 IsGoal Founded = Unit {0}
 IsGoal (Ended d) = Unit {0}

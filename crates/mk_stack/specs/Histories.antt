@@ -30,6 +30,7 @@ pub record AddsJob (first : List Replied) (rs : List JobRun) (job : Job) (done :
   pub same_done : run.done ≡ done
   pub did : replied_to q ≡ first ++ all_of (rs ++ run ∷ [])
 
+-- The operations of one job more are those of the jobs so far and its own.
 abbrev pub JobsAddUp : Type 0
 JobsAddUp =
     (p q : PassState) (job : Job) (done : Done) (first : List Replied) (rs : List JobRun)

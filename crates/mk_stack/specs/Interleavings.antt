@@ -19,10 +19,12 @@ abbrev pub jobs_of_first : ℕ → List Replied → List Replied
 jobs_of_first zero founding = founding
 jobs_of_first (suc k) founding = []
 
+-- Each is the run of a job.
 abbrev pub AreJobRuns : List JobRun → Type 0
 AreJobRuns [] = Unit {0}
 AreJobRuns (r ∷ rs) = IsJobRun r × AreJobRuns rs
 
+-- All callers exist.
 abbrev pub AreBelow : ℕ → List Call → Type 0
 AreBelow callers [] = Unit {0}
 AreBelow callers (x ∷ xs) = (x.caller < callers) × AreBelow callers xs

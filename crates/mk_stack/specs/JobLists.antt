@@ -6,9 +6,11 @@ use Rattle.mk_stack.specs.{declared.jobs.Job.Job, declared.jobs.Done.Done, decla
 use Rattle.mk_stack.specs.{declared.job_lists.Jobs.Jobs, Interleavings.AreJobRuns, Jobs.{Replied, JobRun, all_of}}
 use Rattle.mk_stack.specs.Passes.{replied_in, replied_to}
 
+-- the jobs of these runs
 abbrev pub jobs_of : List JobRun → List Job
 jobs_of runs = map (λ (r : JobRun). r.job) runs
 
+-- what became of them
 abbrev pub dones_of : List JobRun → List Done
 dones_of runs = map (λ (r : JobRun). r.done) runs
 

@@ -14,9 +14,11 @@ use Rattle.mk_never.specs.declared.operations.Reply.TheVariants as reply
 
 -- Type 0 is a node: a number, and the node below it. Type 1 is a top: the uppermost node.
 
+-- a node: a number and a pointer to a node
 abbrev pub node_kinds : List Kind
 node_kinds = Number ∷ To 0 0 ∷ []
 
+-- a top: a pointer to a node
 abbrev pub top_kinds : List Kind
 top_kinds = To 0 0 ∷ []
 
@@ -70,9 +72,11 @@ pub record JobRun : Type 0 where
   pub done : Done
   pub all : List Replied
 
+-- The operations lead from the job's start to its outcome.
 abbrev pub IsJobRun : JobRun → Type 0
 IsJobRun r = Leads (Starting r.job) r.all (Ended r.done)
 
+-- the operations of these jobs, in order
 abbrev pub all_of : List JobRun → List Replied
 all_of [] = []
 all_of (r ∷ rs) = r.all ++ all_of rs

@@ -20,9 +20,11 @@ abbrev pub AreLinked : NeverState → Value → List ℕ → Type 0
 AreLinked n v [] = v ≡ Null
 AreLinked n v (a ∷ nodes) = (v ≡ Ptr a 0 0) × AreLinked n (word_at n a 1) nodes
 
+-- the numbers of these nodes
 abbrev pub numbers_in : NeverState → List ℕ → List ℕ
 numbers_in n nodes = map (λ a. number_of (word_at n a 0)) nodes
 
+-- It is one of these.
 abbrev pub IsOneOf : ℕ → List ℕ → Type 0
 IsOneOf a [] = ⊥
 IsOneOf a (b ∷ bs) = (a ≡ b) ⊎ IsOneOf a bs
@@ -32,21 +34,25 @@ abbrev pub is_pointer_to : ℕ → Value → Bool
 is_pointer_to a (Ptr b ty offset) = b == a
 is_pointer_to a _ = false
 
+-- the reply is Done
 abbrev pub is_done : Reply → Bool
 is_done reply.Done = true
 is_done _ = false
 
 -- how many Frees of the allocation were answered Done
 
+-- 1 if this call frees the allocation, otherwise 0
 abbrev pub freed_by : ℕ → NeverState → ℕ → Op → ℕ
 freed_by a n k (op.Free p) =
     if is_pointer_to a (register_at n k p) then (if is_done (reply_of n k (op.Free p)) then 1 else 0) else 0
 freed_by a n k _ = 0
 
+-- how often it is freed by these calls
 abbrev pub times_freed : ℕ → NeverState → List Call → ℕ
 times_freed a n [] = 0
 times_freed a n (x ∷ xs) = freed_by a n x.caller x.op + times_freed a (after_op n x.caller x.op) xs
 
+-- No reply is Double.
 abbrev pub NoneIsDouble : List Reply → Type 0
 NoneIsDouble [] = Unit {0}
 NoneIsDouble (r ∷ rs) = (r ≡ reply.Double → ⊥) × NoneIsDouble rs

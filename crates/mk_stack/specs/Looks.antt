@@ -11,6 +11,7 @@ IsLook (op.GetGlobal d g) = Unit {0}
 IsLook (op.IsNull p) = Unit {0}
 IsLook _ = ⊥
 
+-- Nothing is changed by these calls.
 abbrev pub AreLooks : List Call → Type 0
 AreLooks [] = Unit {0}
 AreLooks (x ∷ xs) = IsLook x.op × AreLooks xs

@@ -19,6 +19,7 @@ pub record HasStackTypes (c : Config) : Type 0 where
 abbrev pub replied_in : Config → ℕ → List Event → List Replied
 replied_in c k es = own_replied k (never_first c) (asked (calls c es))
 
+-- the operations of the pass's caller, with their replies
 abbrev pub replied_to : PassState → List Replied
 replied_to p = replied_in p.table.config (caller_of_pass p) p.seen
 

@@ -30,14 +30,17 @@ LeadsDown s (x ∷ xs) t = (next : WalkPoint) × Walks s x.op x.reply next × Le
 
 -- the numbers that were loaded, in order
 
+-- the number that a reply gives
 abbrev pub number_told : Reply → List ℕ
 number_told (reply.Num n) = n ∷ []
 number_told _ = []
 
+-- the number that an operation reads
 abbrev pub number_read : Op → Reply → List ℕ
 number_read (op.GetNum q i) r = number_told r
 number_read _ r = []
 
+-- those that these operations read
 abbrev pub numbers_read : List Replied → List ℕ
 numbers_read [] = []
 numbers_read (x ∷ xs) = number_read x.op x.reply ++ numbers_read xs
@@ -47,6 +50,7 @@ abbrev pub AreAllBy : ℕ → List Call → Type 0
 AreAllBy k [] = Unit {0}
 AreAllBy k (x ∷ xs) = (x.caller ≡ k) × AreAllBy k xs
 
+-- A walk down the stack reads its numbers, from the top.
 abbrev pub WalksReadTheStack : Type 0
 WalksReadTheStack =
     (n : NeverState) (k : ℕ) (calls : List Call) (nodes : List ℕ) → 8 * k + 7 < length n.registers

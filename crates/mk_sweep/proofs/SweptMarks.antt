@@ -10,12 +10,13 @@ use Rattle.mk_cycle.proofs.Below.Laws.Vocabulary.{ℕ, ap, arith, length, ne_eqb
 use Rattle.mk_cycle.proofs.{Below.Laws.Vocabulary.{◌<◌, ◌∙◌, ◌≡◌, ◌≤◌}, Below.Laws.InvariantHistories.allocations_stand}
 use Rattle.mk_cycle.proofs.{Below.Laws.Settled.gone_is_unmapped, TracedMarks.{closing_kind, keeps_turn, same_count}}
 use Rattle.mk_cycle.proofs.Parts.{counted_by_kinds, counted_wider, traces_alike}
-use Rattle.mk_cycle.proofs.{Closes.{marks_closed_now, may_close_now}, NoGrays.no_gray, Wants.wanted_once_then}
+use Rattle.mk_cycle.proofs.{Closes.{marks_closed_now, may_close_now}, NoGrays.no_gray}
+use Rattle.mk_cycle.proofs.Wants.{wanted_once_then, wants_by}
 use Rattle.mk_cycle.specs.{Tracing.{Counted, is_marking, is_waiting, is_want}, Grays.TracesReached, Stops.IsWanted}
 use Rattle.mk_cycle.specs.Below.Words.Doing.{Does, done_in}
 use Rattle.mk_core.proofs.PointedAllocations.{marked_where_its_cell_is, points_well_where_marked}
 use Rattle.mk_core.specs.ClosedMarks.{is_marked_allocation}
-use Rattle.mk_cycle.specs.{EngineLaw.{ClosesMarks, IsFreeForCycle}, Kinds.closes_marks}
+use Rattle.mk_cycle.specs.{EngineLaw.{ClosesMarks, IsFreeForCycle, WantsFirst}, Kinds.closes_marks}
 
 -- Waiting keeps to the rule of every sweep.
 waits : (w : World) (c : Config) (m : Moment) (s : Step) → is_waiting s ≡ true → SweepsBy w c m s
@@ -28,6 +29,7 @@ sweeping_behind {p} {q} waited wanted free one = grind (arith, settled_kept, ne_
 
 -- The sweep of a stop, from the want of the close on: it begins after the wait, and ends where the marks may be closed.
 pub record SweepsInStop (p : PassState) (t u : TurnState) : Type 0 where
+  pub wants : WantsFirst p t.pass
   pub waited : Counted is_waiting TracesReached is_want p t.pass 1
   pub sweeping : IsSweeping t.pass
   pub on : SweepsOn t u (words_below (still_words t.pass) t.pass.table.config.pages)
@@ -104,6 +106,7 @@ module _ {p : PassState} {t u : TurnState} (s : SweepsInStop p t u) where
       clean (record { registers = s.closed.registers; globals = s.closed.globals }) in
       record {
         does = wider.traces.does;
+        wants = wants_by s.wants s.on.traces.does;
         one_want = same_count (done_in p wider.traces.does.more) ∙ wider.count;
         keeps = keeps_turn p u.pass (d.is ∙ ap (λ (x : PassState). record p { seen = x.seen }) (sym d.is))
             whole.traces.untouched whole.traces.counts;

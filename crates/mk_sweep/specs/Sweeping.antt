@@ -14,10 +14,12 @@ use Rattle.mk_core.specs.declared.events.Word.TheVariants as word
 
 -- the heap word that a step looks at, if it looks at one
 
+-- the heap word that a step looks at
 abbrev pub word_looked_at : Step → List ℕ
 word_looked_at (step.Look (word.Heap n)) = n ∷ []
 word_looked_at _ = []
 
+-- those that these steps looked at, in order
 abbrev pub words_looked_at : List Finding → List ℕ
 words_looked_at [] = []
 words_looked_at (x ∷ xs) = word_looked_at x.event.step ++ words_looked_at xs
@@ -53,11 +55,13 @@ pub record IsReachedCell (p : PassState) (cell : Cell) : Type 0 where
 
 -- the words of a cell, if it is used
 
+-- so many words from this one on, if the cell is used
 abbrev pub words_if : Bool → ℕ → ℕ → List ℕ
 words_if used first size = if used then range_with_len first size else []
 
 -- those of a page's first cells, of this many words each
 
+-- the words of a page's used cells
 abbrev pub words_of_cells : ℕ → ℕ → ℕ → ℕ → List ℕ
 words_of_cells page size used zero = []
 words_of_cells page size used (suc n) =
@@ -65,11 +69,13 @@ words_of_cells page size used (suc n) =
 
 -- and those of a page, if its cells are scanned; and of the first pages
 
+-- the words of a page that may hold pointers
 abbrev pub words_on : Words → ℕ → List ℕ
 words_on w p =
     if has_no_pointers (header_in w p) then []
     else words_of_cells p (words_under (header_in w p)) (used_at w p) (cells_under (header_in w p))
 
+-- those of all pages below this one
 abbrev pub words_below : Words → ℕ → List ℕ
 words_below w zero = []
 words_below w (suc n) = words_below w n ++ words_on w n

@@ -4,6 +4,7 @@ use Rattle.mk_core.specs.{Allocations.placed_at, ClosedMarks.is_marked_allocatio
 use Rattle.mk_cycle.specs.{Below.Words.States.{PassState, now_of, world_of}, Tracing.{Traces, is_tracing}}
 use Rattle.mk_sweep.specs.{Swept.{IsScannedWord, IsSwept, SweepsBy, scanned_words}, Sweeping.heap_looks}
 
+-- What a sweep looked at and marked.
 pub record Sweeps (p q : PassState) (looks : ℕ) : Type 0 where
   -- Only words of mapped allocations that aren't leaf are looked at, and only cells are marked into which one of these
   -- points, or a register or a global.

@@ -41,6 +41,7 @@ abbrev pub words_of_some : (PlacedAllocation → ℕ) → List PlacedAllocation 
 words_of_some words xs None = 0
 words_of_some words xs (Some number) = words (placed_at xs number)
 
+-- what this operation frees, by this measure
 abbrev pub freed_words : Config → (PlacedAllocation → ℕ) → List Event → Op → ℕ
 freed_words c words es o = words_of_some words (left c es).allocations (number_freed (never_behind c es) o)
 
@@ -50,6 +51,7 @@ abbrev pub IsMostWhereFreed : Config → (List PlacedAllocation → ℕ) → (Pl
 IsMostWhereFreed c measure words es o fs =
     greatest c measure fs ≡ max (greatest c measure es) (measure (left c es).allocations + freed_words c words es o)
 
+-- Most is in quarantine right after the object is freed.
 pub record QuarantinesMostWhereFreed (c : Config) (es : List Event) (o : Op) (fs : List Event) : Type 0 where
   pub quarantined : IsMostWhereFreed c (quarantined_words c) (storage_words c) es o fs
   pub reserved : IsMostWhereFreed c (reserved_words c) (large_words c) es o fs
@@ -74,6 +76,7 @@ pub record FlagsBehind (xs ys : List PlacedAllocation) (x : Option ℕ) : Type 0
   pub kept : (i : ℕ) → (x ≡ Some i → ⊥) → (placed_at ys i).freed ≡ (placed_at xs i).freed
   pub frees : (i : ℕ) → x ≡ Some i → FreesFlag xs ys i
 
+-- Which allocations are freed and released after the call.
 abbrev pub FlagsBehindCall : Config → List Event → Op → List Event → Type 0
 FlagsBehindCall c es o fs =
     FlagsBehind (left c es).allocations (left c fs).allocations (number_freed (never_behind c es) o)

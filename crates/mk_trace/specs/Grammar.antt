@@ -13,6 +13,7 @@ abbrev pub text_fault_at : ℕ → LineFault → TraceStop
 text_fault_at line (Text kind) = stop.Text line kind
 text_fault_at line (Limit which found) = stop.Limit line which found
 
+-- the type fault of this line
 abbrev pub type_fault_at : ℕ → TypeKind → TraceStop
 type_fault_at line kind = stop.IllTyped line kind
 
@@ -29,6 +30,7 @@ along told read add number [] before = Ok before
 along told read add number (line ∷ lines) before =
     go_on (told number) (read before line) (λ given. along told read add (number + 1) lines (add before given))
 
+-- what a line says after the lines before it
 abbrev pub read_behind : LinesSoFar → List ℕ → Result Line LineFault
 read_behind written line = trace_line_of written (words_of_line line)
 
@@ -36,6 +38,7 @@ read_behind written line = trace_line_of written (words_of_line line)
 abbrev pub written_from : ℕ → List (List ℕ) → LinesSoFar → Result LinesSoFar TraceStop
 written_from number lines before = along text_fault_at read_behind with_trace_line number lines before
 
+-- one event more
 abbrev pub with_event : List TraceEvent → TraceEvent → List TraceEvent
 with_event events event = events ++ event ∷ []
 

@@ -20,6 +20,7 @@ freed_object_of c xs number =
       age = 0;
     }
 
+-- the age of an allocation, at most 2^64 - 1
 abbrev pub age_in_a_word : List (List PlacedAllocation) → ℕ → ℕ
 age_in_a_word found number = in_a_word (age_of number found)
 
@@ -37,6 +38,7 @@ aged_object c found xs number =
 abbrev pub aged : FreedObject → FreedObject
 aged x = record { cell = x.cell; storage = x.storage; reserved = x.reserved; age = in_a_word (x.age + 1) }
 
+-- the freed objects that aren't released
 abbrev pub objects_kept : Freed → List FreedObject
 objects_kept f = f.quarantine.items
 
@@ -91,10 +93,12 @@ abbrev pub risen : Peak → ℕ → Peak
 risen peak words =
     record { now = in_a_word (peak.now + words); most = max peak.most (in_a_word (peak.now + words)) }
 
+-- the words of an object, 0 if there is none
 abbrev pub some_words : (FreedObject → ℕ) → Option FreedObject → ℕ
 some_words words None = 0
 some_words words (Some object) = words object
 
+-- the object, as a list
 abbrev pub one_or_none : Option FreedObject → List FreedObject
 one_or_none None = []
 one_or_none (Some object) = object ∷ []
@@ -136,6 +140,7 @@ with_one (pair ∷ pairs) age =
 abbrev pub is_count_same : ℕ → Freed → Bool
 is_count_same count f = count == f.ends
 
+-- What the ledger does after a call in which a cycle ended, or none did.
 abbrev pub SettlesWhere : Bool → List ℕ → Freed → Freed → Type 0
 SettlesWhere true freed old new =
     (new.quarantined ≡ old.quarantined) × (new.reserved ≡ old.reserved) × (objects_kept new ≡ objects_kept old)

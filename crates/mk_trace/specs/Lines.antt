@@ -18,23 +18,28 @@ pub record LinesSoFar : Type 0 where
   pub slots : List Slot
   pub events : List EventLine
 
+-- no slot and no event
 abbrev pub nothing_written : LinesSoFar
 nothing_written = record { slots = []; events = [] }
 
+-- one line more
 abbrev pub with_trace_line : LinesSoFar → Line → LinesSoFar
 with_trace_line written (line.Slot slot) = record written { slots = written.slots ++ slot ∷ [] }
 with_trace_line written (line.Event event) = record written { events = written.events ++ event ∷ [] }
 
+-- this, or the fault
 abbrev pub ok_unless : {A : Type 0} → Option LineFault → A → Result A LineFault
 ok_unless None x = Ok x
 ok_unless (Some fault) x = Err fault
 
 -- line 1: `trace PAGES RESIDENT`
 
+-- the pages of the first line
 abbrev pub heap_pages : List ℕ → List ℕ → Result HeapPages LineFault
 heap_pages pages resident =
     number pages >>= (λ p. number resident >>= (λ r. ok_unless (heap_limit p r) (record { pages = p; resident = r })))
 
+-- what the first line says
 abbrev pub header_line_of : List (List ℕ) → Result HeapPages LineFault
 header_line_of (word ∷ pages ∷ resident ∷ []) =
     if bytes_eq word (codes "trace") then heap_pages pages resident else Err (Text kind.Header)
@@ -50,16 +55,19 @@ slot_number slots name' = position (λ (slot : Slot). bytes_eq name' slot.name) 
 abbrev pub slot_limit : ℕ → ℕ → Option LineFault
 slot_limit count words = option_or (at_most count 64 which.Types) (within 1 words 4096 which.Words)
 
+-- the slot, if its name and size are allowed
 abbrev pub checked_slot : List Slot → Slot → Result Slot LineFault
 checked_slot before slot =
     if is_some (slot_number before slot.name)
     then Err (Text kind.Twice)
     else ok_unless (slot_limit (length before + 1) slot.words) slot
 
+-- what a `slot` line says
 abbrev pub slot_from : List Slot → List ℕ → List ℕ → Result Slot LineFault
 slot_from before slot words =
     name slot >>= (λ s. number words >>= (λ n. checked_slot before (record { name = s; words = n })))
 
+-- the same, if it is in its place
 abbrev pub slot_line : LinesSoFar → List (List ℕ) → Result Line LineFault
 slot_line before (slot ∷ words ∷ []) =
     if length before.events == 0
@@ -69,6 +77,7 @@ slot_line before operands = Err (Text kind.Word)
 
 -- `a S`, `k S`, `f S`, `c S` and `w S i N`, after the first slot
 
+-- the event with this letter
 abbrev pub plain_action : List ℕ → Option Action
 plain_action word =
     if bytes_eq word (codes "a") then Some New else
@@ -76,13 +85,16 @@ plain_action word =
     if bytes_eq word (codes "f") then Some Free else
     if bytes_eq word (codes "c") then Some Clear else None
 
+-- what an event line of one slot says
 abbrev pub with_action : Option Action → List ℕ → Result EventLine LineFault
 with_action None slot = Err (Text kind.Word)
 with_action (Some action) slot = name slot >>= (λ s. Ok (record { slot = s; action = action }))
 
+-- the same, by its first word
 abbrev pub plain_event : List ℕ → List ℕ → Result EventLine LineFault
 plain_event word slot = with_action (plain_action word) slot
 
+-- what a `w` line says
 abbrev pub write_event : List ℕ → List ℕ → List ℕ → List ℕ → Result EventLine LineFault
 write_event word slot index value =
     if bytes_eq word (codes "w")
@@ -90,11 +102,13 @@ write_event word slot index value =
     >>= (λ s. number index >>= (λ i. number value >>= (λ n. Ok (record { slot = s; action = Write i n }))))
     else Err (Text kind.Word)
 
+-- what an event line says by itself
 abbrev pub event_line_of : List ℕ → List (List ℕ) → Result EventLine LineFault
 event_line_of word (slot ∷ []) = plain_event word slot
 event_line_of word (slot ∷ index ∷ value ∷ []) = write_event word slot index value
 event_line_of word operands = Err (Text kind.Word)
 
+-- the same, if it is in its place
 abbrev pub event_line : LinesSoFar → List ℕ → List (List ℕ) → Result Line LineFault
 event_line before word operands =
     if length before.slots == 0

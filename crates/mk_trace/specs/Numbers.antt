@@ -2,6 +2,7 @@
 use Rattle.std.specs.Prelude.{◌≡◌, ℕ, ◌+◌, Bool, ◌==◌, List, [], ◌∷◌, if◌then◌else◌}
 use Rattle.mk_core.specs.{Allocations.{PlacedAllocation, placed_at}, Cycles.is_quarantined}
 
+-- 1 if it is so, otherwise 0
 abbrev pub one_if : Bool → ℕ
 one_if b = if b then 1 else 0
 

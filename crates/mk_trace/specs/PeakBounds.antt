@@ -15,6 +15,7 @@ QuarantineIsQuarterOfPeak peaks c es =
     4 * quarantined_words c (left c es).allocations
     ≤ peaks.held + 4 * (reserved_words c (left c es).allocations + kept_mapped c (left c es).allocations)
 
+-- Whenever nobody has the turn, what is fresh is at most a quarter of the peak.
 pub record PeaksBoundQuarantine (c : Config) (es : List Event) (peaks : HistoryPeaks) : Type 0 where
   pub fresh : WhereTurnIsFree (FreshIsQuarterOfPeak peaks) c es
   pub quarantined : WhereTurnIsFree (QuarantineIsQuarterOfPeak peaks) c es

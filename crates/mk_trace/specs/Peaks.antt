@@ -10,12 +10,15 @@ use Rattle.mk_core.specs.History.{world_behind, left}
 
 -- the storage of the freed and unreleased allocations, and of the large ones among them, whose addresses are reserved
 
+-- the words of freed objects that aren't released
 abbrev pub quarantined_words : Config → List PlacedAllocation → ℕ
 quarantined_words c xs = sum_by (storage_words c) (filter is_quarantined xs)
 
+-- it is such an object, and large
 abbrev pub is_reserved : Config → PlacedAllocation → Bool
 is_reserved c a = is_quarantined a && is_large (kinds_of c.types a.ty)
 
+-- the words of those
 abbrev pub reserved_words : Config → List PlacedAllocation → ℕ
 reserved_words c xs = sum_by (storage_words c) (filter (is_reserved c) xs)
 
@@ -24,6 +27,7 @@ unfoldable pub greatest_from : Config → World → (List PlacedAllocation → �
 greatest_from c w measure [] = measure w.allocations
 greatest_from c w measure (e ∷ es) = max (measure w.allocations) (greatest_from c (world_behind c w e) measure es)
 
+-- the greatest measure at any moment
 abbrev pub greatest : Config → (List PlacedAllocation → ℕ) → List Event → ℕ
 greatest c measure es = greatest_from c (first_world c) measure es
 
@@ -35,6 +39,7 @@ found_by_ends_from c w (e ∷ es) =
     then w.allocations ∷ found_by_ends_from c (world_behind c w e) es
     else found_by_ends_from c (world_behind c w e) es
 
+-- the allocations that each ended cycle found
 abbrev pub found_by_ends : Config → List Event → List (List PlacedAllocation)
 found_by_ends c es = found_by_ends_from c (first_world c) es
 
@@ -63,6 +68,7 @@ with_age (pair ∷ pairs) age =
     then (age, pair.1 + 1) ∷ pairs
     else if nat_lt age pair.0 then (age, 1) ∷ pair ∷ pairs else pair ∷ with_age pairs age
 
+-- how many there are of each age, least age first
 abbrev pub counted : List ℕ → List (ℕ × ℕ)
 counted ages = map (λ (pair : ℕ × ℕ). (pair.0, in_a_word pair.1)) (fold with_age [] ages)
 
@@ -74,6 +80,7 @@ pub record HistoryPeaks : Type 0 where
   pub cycles : ℕ
   pub ages : List (ℕ × ℕ)
 
+-- the peaks of a history
 abbrev pub peaks_of : Config → List Event → HistoryPeaks
 peaks_of c es =
     record {

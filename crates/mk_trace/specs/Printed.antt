@@ -4,6 +4,7 @@ use lib.Chars.{codes}
 use Rattle.mk_script.specs.Canonical.{line_text}
 use Rattle.mk_trace.specs.declared.peaks.Peaks.{Peaks}
 
+-- the lines of the peaks, but for ages, as words
 abbrev pub lines_of_counts : Peaks → List (List (List ℕ))
 lines_of_counts peaks =
     (codes "events" ∷ decimal peaks.events ∷ []) ∷
@@ -14,6 +15,7 @@ lines_of_counts peaks =
     (codes "cycles" ∷ decimal peaks.cycles ∷ []) ∷
     []
 
+-- their text
 abbrev pub text_of_counts : Peaks → List ℕ
 text_of_counts peaks = flat_map line_text (lines_of_counts peaks)
 
@@ -21,5 +23,6 @@ text_of_counts peaks = flat_map line_text (lines_of_counts peaks)
 abbrev pub text_of_ages : List (ℕ × ℕ) → List ℕ
 text_of_ages ages = flat_map (λ (pair : ℕ × ℕ). line_text (codes "age" ∷ decimal pair.0 ∷ decimal pair.1 ∷ [])) ages
 
+-- the whole text
 abbrev pub peaks_text : Peaks → List ℕ
 peaks_text peaks = text_of_counts peaks ++ text_of_ages peaks.ages.items

@@ -26,6 +26,7 @@ slot_of (F slot) = slot
 slot_of (C slot) = slot
 slot_of (W slot index value) = slot
 
+-- a trace of these parts
 abbrev pub contents_from : ℕ → ℕ → List ℕ → List TraceEvent → Contents
 contents_from pages resident slots events =
     record { pages = pages; resident = resident; slots = slots; events = events }
@@ -35,6 +36,7 @@ abbrev pub and_then : {X Y : Type 0} → Result X TraceStop → (X → Result Y 
 and_then (Ok x) next = next x
 and_then (Err stop') next = Err stop'
 
+-- the words of each slot
 abbrev pub words_of_slots : List Slot → List ℕ
 words_of_slots slots = map (λ (slot : Slot). slot.words) slots
 
@@ -47,6 +49,7 @@ contents_of heap written =
     else and_then (events_from written.slots (length written.slots + 2) written.events [])
     (λ events. Ok (contents_from heap.pages heap.resident (words_of_slots written.slots) events))
 
+-- the trace that lines are, or their first fault
 abbrev pub trace_of_lines : List (List ℕ) → Result Contents TraceStop
 trace_of_lines [] = Err (stop.Text 1 kind.Header)
 trace_of_lines (first ∷ lines) =
@@ -58,5 +61,6 @@ abbrev pub trace_of : List ℕ → Result Contents TraceStop
 trace_of text =
     if nat_le (length text) longest_text then trace_of_lines (lines_of text) else Err (text_fault_at 0 too_long)
 
+-- There is a text of this trace.
 abbrev pub IsOfSomeTraceText : Contents → Type 0
 IsOfSomeTraceText contents = (text : List ℕ) × (trace_of text ≡ Ok contents)

@@ -8,6 +8,7 @@ use Rattle.mk_trace.specs.{declared.trace.TraceEvent.TraceEvent, declared.trace.
 use Rattle.mk_trace.specs.Lines.{slot_number}
 use Rattle.mk_trace.specs.declared.lines.Action.TheVariants as action
 
+-- a store into a slot's object, or its type fault
 abbrev pub typed_write : ℕ → ℕ → ℕ → ℕ → Result TraceEvent TypeKind
 typed_write slot words index value =
     if nat_le words index then Err kind.Offset else if index == 0 then Err kind.Kind else Ok (W slot index value)
@@ -24,9 +25,11 @@ event_on slot words (action.Write index value) = typed_write slot words index va
 abbrev pub words_at : List Slot → ℕ → ℕ
 words_at slots slot = (get_or slots slot (record { name = []; words = 0 })).words
 
+-- an event on this slot, or its type fault
 abbrev pub on_slot : List Slot → Option ℕ → Action → Result TraceEvent TypeKind
 on_slot slots None action' = Err kind.NoGlobal
 on_slot slots (Some slot) action' = event_on slot (words_at slots slot) action'
 
+-- an event line with its slot's number, or its type fault
 abbrev pub typed_event : List Slot → EventLine → Result TraceEvent TypeKind
 typed_event slots event = on_slot slots (slot_number slots event.slot) event.action

@@ -25,6 +25,7 @@ impl Model for Draft {
 }
 
 impl Draft {
+    /// Nothing written yet.
     pub fn new(alloc: Global) -> Draft
         ensures { result ≡ spec.nothing_written }
     {
@@ -34,12 +35,14 @@ impl Draft {
         }
     }
 
+    /// The slots that are declared.
     pub fn slots(&self) -> &[Slot]
         ensures { result.now ≡ self.now.slots }
     {
         self.slots.as_slice()
     }
 
+    /// The events, in order.
     pub fn events(&self) -> &[EventLine]
         ensures { result.now ≡ self.now.events }
     {

@@ -12,7 +12,7 @@ use Rattle.mk_sweep.proofs.Below.Cycles.KeptInParts.{free_then, keeps_at_once, k
 use Rattle.mk_sweep.proofs.{Below.Cycles.Allowed.in_turn_before, Below.Cycles.CleaningSteps.calm_keeps}
 use Rattle.mk_sweep.proofs.{Below.Cycles.MayAct.calm_admitted, Below.Cycles.Stilled.{none_after, phase_there}}
 use Rattle.mk_sweep.proofs.{Below.Cycles.Stilled.words_left, Below.Cycles.Closes.marks_closed_now}
-use Rattle.mk_sweep.proofs.{Below.Cycles.MaySteps.may_look, Below.Cycles.Steps.may_step}
+use Rattle.mk_sweep.proofs.{Below.Cycles.MaySteps.may_look, Below.Cycles.Steps.may_step, Below.Cycles.Wants.wants_by}
 use Rattle.mk_sweep.proofs.Below.Words.Doing.{does_nothing, does_step, does_then, done_in_parts}
 use Rattle.mk_sweep.proofs.{Below.Words.PointedCells.looked_for, Below.Words.Sweeping.{does_sweep, sweeps_then}}
 use Rattle.mk_sweep.proofs.{Below.Words.Seats.others_own, Below.Words.TurnSteps.still_stopped}
@@ -168,6 +168,7 @@ module _ {p : PassState} {t u : TurnState} (law : ClosesMarks p t.pass) (on : Lo
       let both = counts_then is_want law.does on.does does in
       record {
         does = does;
+        wants = wants_by law.wants on.does;
         one_want = omega arith;
         keeps = keeps_then but_phase p t.pass u.pass law.keeps on.keeps;
         phase = on.still.wanted;

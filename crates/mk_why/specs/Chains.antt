@@ -14,6 +14,7 @@ abbrev pub IsRoot : Config → Root → Type 0
 IsRoot c (Register caller register) = (caller < c.callers) × (register < 8)
 IsRoot c (Global global) = global < 64
 
+-- what the register or global holds
 abbrev pub word_of_root : Words → Root → ℕ
 word_of_root w (Register caller register) = register_word w caller register
 word_of_root w (Global global) = slice_index w.globals global

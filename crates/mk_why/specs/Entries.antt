@@ -11,17 +11,21 @@ use Rattle.mk_why.specs.{Searching.entry_at, Stops.{View, base_at, world_in}}
 
 -- one link back, and how the allocation was found that has it
 
+-- one step back along a chain
 abbrev pub back_to : ℕ → ℕ → Option Found → Option (ℕ × Found)
 back_to link links None = None
 back_to link links (Some before) = if nat_lt before.links links then Some (link, before) else None
 
+-- one step back, the way that an allocation was found
 abbrev pub back_by : List (Option Found) → Way → ℕ → Option (ℕ × Found)
 back_by found (Start root) links = None
 back_by found (Link link from) links = back_to link links (entry_at found from)
 
+-- the same, with the allocation from which it was found
 abbrev pub step_back : List (Option Found) → Found → Option (ℕ × Found)
 step_back found f = back_by found f.way f.links
 
+-- the root, if it was found from one
 abbrev pub root_of : Way → Option Root
 root_of (Start root) = Some root
 root_of (Link link from) = None
@@ -43,10 +47,12 @@ pub record IsLed (c : Config) (v : View) (b count : ℕ) (root : Option Root) (l
 
 -- what is known of an allocation by its entry in the table, and told of it
 
+-- It was found this way, if it was found.
 abbrev pub IsWayOf : Config → View → List (Option Found) → ℕ → Option Found → Type 0
 IsWayOf c v found b None = ⊤
 IsWayOf c v found b (Some f) = IsWay c v found f.way f.links b
 
+-- The root and the words are a shortest chain to it, or there is none.
 abbrev pub IsToldWhy : Config → View → ℕ → Option Found → Option Root → List ℕ → Type 0
 IsToldWhy c v b None root links = (root ≡ None) × (links ≡ [])
 IsToldWhy c v b (Some f) root links = IsLed c v b f.links root links

@@ -11,6 +11,7 @@ pub record IsStorageOf (c : Config) (v : View) (b : ℕ) (s : Storage) : Type 0 
   pub address : s.address ≡ address_of (base_at v b)
   pub words : s.words ≡ storage_words c (placed_at v.allocations b)
 
+-- The object with this first word is kept, and has this storage.
 pub record IsKeptAt (c : Config) (v : View) (base : ℕ) (s : Storage) : Type 0 where
   pub number : ℕ
   pub is : base_at v number ≡ base

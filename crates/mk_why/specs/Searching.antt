@@ -15,6 +15,7 @@ use Rattle.mk_core.specs.declared.events.Word.TheVariants as word
 abbrev pub entry_at : {A : Type 0} → List (Option A) → ℕ → Option A
 entry_at table base = slice_index_or table base None
 
+-- how many words the chain to it has
 abbrev pub links_in : Option Found → ℕ
 links_in (Some found) = found.links
 links_in None = 0
@@ -42,6 +43,7 @@ pub record PointsAtBase (c : Config) (v : View) (value base : ℕ) : Type 0 wher
   pub is : base_at v number ≡ base
   pub only : (b : ℕ) → PointsIntoAllocation c (world_in v) value b → b ≡ number
 
+-- It is the first word of the object that the value points into.
 abbrev pub IsBasePointed : Config → View → ℕ → Option ℕ → Type 0
 IsBasePointed c v value (Some base) = PointsAtBase c v value base
 IsBasePointed c v value None = (b : ℕ) → PointsIntoAllocation c (world_in v) value b → ⊥
@@ -62,6 +64,7 @@ pub record IsOnward (c : Config) (v : View) (found : List (Option Found)) (link 
   pub there : entry_at found from ≡ Some before
   pub one_more : links ≡ before.links + 1
 
+-- A way from a root, or from a word of an allocation that was found.
 abbrev pub IsWay : Config → View → List (Option Found) → Way → ℕ → ℕ → Type 0
 IsWay c v found (Start root) links b =
     (links ≡ 0) × IsRoot c root × PointsIntoAllocation c (world_in v) (word_of_root v.words root) b
@@ -74,6 +77,7 @@ pub record IsFoundAt (c : Config) (v : View) (found : List (Option Found)) (base
   pub is : base_at v number ≡ base
   pub way : IsWay c v found f.way f.links number
 
+-- Whatever was found was found by such a way.
 abbrev pub AreWays : Config → View → List (Option Found) → Type 0
 AreWays c v found = (base : ℕ) (f : Found) → entry_at found base ≡ Some f → IsFoundAt c v found base f
 
@@ -88,6 +92,7 @@ pub record IsFoundThrough (found : List (Option Found)) (base links : ℕ) : Typ
   pub there : entry_at found base ≡ Some entry
   pub through : entry.links ≡ links
 
+-- The allocation is one from which the search goes on.
 pub record IsQueued (r : Tables) (base : ℕ) : Type 0 where
   pub place : ℕ
   pub known : place < r.count

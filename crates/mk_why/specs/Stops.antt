@@ -14,9 +14,11 @@ pub record View : Type 0 where
   pub words : Words
   pub allocations : List PlacedAllocation
 
+-- what the search reads of a world
 abbrev pub view_of : World → View
 view_of w = record { words = record w.now.words { phase = 0 }; allocations = w.allocations }
 
+-- what it reads of what the pass has seen
 abbrev pub view_by : PassState → View
 view_by p = view_of (world_of p)
 
@@ -43,6 +45,7 @@ pub record IsStill (p : PassState) : Type 0 where
   pub wanted : IsAtPhase p 2
   pub none : NoneAttends (now_of p)
 
+-- it is a look
 abbrev pub is_look : Step → Bool
 is_look (step.Look x) = true
 is_look _ = false

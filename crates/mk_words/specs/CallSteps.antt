@@ -9,6 +9,7 @@ use Rattle.mk_core.specs.declared.events.Step.TheVariants as step
 abbrev pub register_of : PassState → ℕ → ℕ
 register_of p r = register_word (now_of p).words (caller_number p.seat) r
 
+-- All eight registers of the caller are as they were.
 abbrev pub LeavesRegisters : PassState → PassState → Type 0
 LeavesRegisters p q = (r : ℕ) → r < 8 → register_of q r ≡ register_of p r
 

@@ -13,6 +13,7 @@ AreOwnOrOfOthers s seats (e ∷ es) = (is_one_of seats e.seat ≡ is_same_seat s
 abbrev pub done_in : PassState → List Event → List Finding
 done_in p more = in_this_call p.table.config p.seat p.seen more
 
+-- all of them are of these kinds
 abbrev pub are_of : (Step → Bool) → List Finding → Bool
 are_of kinds xs = list_all (λ (x : Finding). kinds x.event.step) xs
 
@@ -29,12 +30,15 @@ count_done kind {p = p} d = count_by (λ (x : Finding). kind x.event.step) (done
 
 -- The laws.
 
+-- A pass that did nothing did steps of any kinds.
 abbrev pub NothingIsDone : Type 0
 NothingIsDone = (kinds : Step → Bool) (p : PassState) → Does kinds p p
 
+-- Steps of these kinds, and then more of them, are steps of these kinds.
 abbrev pub DoneInTurn : Type 0
 DoneInTurn = (kinds : Step → Bool) (p q r : PassState) → Does kinds p q → Does kinds q r → Does kinds p r
 
+-- So is one step of these kinds.
 abbrev pub StepsAreDone : Type 0
 StepsAreDone = (kinds : Step → Bool) (p q : PassState) (s : Step) → Makes p s q → kinds s ≡ true
     → Does kinds p q

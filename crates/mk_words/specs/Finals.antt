@@ -7,9 +7,11 @@ use Rattle.mk_core.specs.declared.events.Word.TheVariants as word
 
 -- the history of the table, and what it was made for
 
+-- the history of a closed table, which only proofs have
 abbrev pub history_of : Final → List Event
 history_of f = f.memory.me.0.own.seen
 
+-- its configuration
 abbrev pub config_of : Final → Config
 config_of f = f.memory.me.0.config
 

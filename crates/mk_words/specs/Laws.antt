@@ -17,6 +17,7 @@ pub record StandsBehindOthers (p : PassState) (s : Step) (q : PassState) (m : Ma
   pub meets : MeetsAll p.table.config (moment_of m) (event_of p s)
   pub world : world_of q ≡ world_behind p.table.config (world_at m) (event_of p s)
 
+-- What a step leaves is left too if others made events since the pass last looked.
 abbrev pub StepsStandBehindOthers : Type 0
 StepsStandBehindOthers =
     (p q : PassState) (s : Step) (m : Makes p s q) → StandsBehindOthers p s q m

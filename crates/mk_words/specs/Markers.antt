@@ -7,6 +7,7 @@ use Rattle.mk_core.specs.declared.events.Group.TheVariants as group
 use Rattle.mk_core.specs.declared.events.Step.TheVariants as step
 use Rattle.mk_core.specs.declared.seats.Marker.{Marker as MarkerState}
 
+-- it is a step of markers
 abbrev pub is_markers : Group → Bool
 is_markers group.Markers = true
 is_markers _ = false

@@ -120,12 +120,14 @@ holds_prop c m Host = hlevel props
 own_prop : (seats : List Seat) (s : Seat) → IsProp (Has seats s)
 own_prop seats s = hlevel props
 
+-- What holds of a pass has one proof.
 pub pass_prop : (p : PassState) → IsProp (IsPass p)
 pass_prop p x y i = record {
   own = own_prop p.seats p.seat x.own y.own i;
   history = history_prop p.table.config p.seen x.history y.history i;
 }
 
+-- What holds of a turn has one proof.
 pub turn_prop : (p : PassState) → IsProp (IsTurn p)
 turn_prop p x y i = record {
   own = own_prop p.seats p.seat x.own y.own i;

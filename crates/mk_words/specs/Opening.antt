@@ -10,6 +10,7 @@ abbrev pub OthersMayOpen : PassState → ℕ → Type 0
 OthersMayOpen p first =
     (j : ℕ) → first ≤ j → j < p.table.config.callers → is_number_of p.seat j ≡ false → IsEnabledTo p (step.Open j)
 
+-- it opens a gate
 abbrev pub is_open : Step → Bool
 is_open (step.Open j) = true
 is_open _ = false

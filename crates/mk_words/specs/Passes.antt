@@ -26,9 +26,11 @@ pub record IsInOrder (me : Mine) (seat : Seat) : Type 0 where
 
 -- a token that holds no slot, and one that holds that of the page map, in which a blank one lies meanwhile
 
+-- The token has no slot.
 abbrev pub NoSlot : List (ℕ × KnownPages) → Type 0
 NoSlot slots = slots ≡ []
 
+-- The token has the slot of the page map.
 abbrev pub MapSlot : List (ℕ × KnownPages) → Type 0
 MapSlot slots = (blank : KnownPages) × (slots ≡ (0, blank) ∷ [])
 

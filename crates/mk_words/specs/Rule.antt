@@ -12,12 +12,15 @@ use Rattle.mk_words.specs.{declared.rule.Part.Part, declared.rule.View.View, Sea
 use Rattle.mk_words.specs.{Seats.{without_seat, all_seats}, PageMaps.IsMapOf}
 use Rattle.atomic_table.specs.Table.{State, Me, Step as TableStep, step, rest}
 
+-- seats, and the events that they have seen
 abbrev pub part : List Seat → List Event → Part
 part seats seen = record { seats = seats; seen = seen }
 
+-- no seat, and no event
 abbrev pub no_part : Part
 no_part = part [] []
 
+-- the view of these seats, which were joined to none
 abbrev pub view : Config → List Seat → List Event → View
 view c seats seen = record { config = c; own = part seats seen; came = no_part }
 
@@ -25,6 +28,7 @@ view c seats seen = record { config = c; own = part seats seen; came = no_part }
 abbrev pub first_view : Config → View
 first_view c = view c (all_seats c) []
 
+-- what stands for a configuration that doesn't exist
 abbrev pub no_config : Config
 no_config = record { pages = 0; resident = 0; callers = 0; markers = 0; types = []; globals = [] }
 
@@ -32,6 +36,7 @@ no_config = record { pages = 0; resident = 0; callers = 0; markers = 0; types = 
 abbrev pub nobody : View
 nobody = view no_config [] []
 
+-- all seats of a view
 abbrev pub seats_of : View → List Seat
 seats_of v = v.own.seats ++ v.came.seats
 
@@ -57,6 +62,7 @@ pub record Kept (c : Config) (s : State KnownPages View) : Type 0 where
   pub before_over : (id : ℕ) (v : View) → get_elem? s.views id ≡ some v → CallersAreBeforeOver c (seats_of v) events
   pub home : (left c events).now.words.turn ≡ 0 → IsHome s.homes (left c events).now.words
 
+-- what a token has: the table's values, and a view
 abbrev pub Mine : Type 0
 Mine = Me KnownPages View
 
@@ -79,6 +85,7 @@ pub record Adds (e : Event) (v : View) (n : ℕ) (w : View) : Type 0 where
 abbrev pub no_step : TableStep KnownPages
 no_step = step 0 0 0 0 none
 
+-- a step that adds an event to what a view has seen
 abbrev pub adds : Event → TableStep KnownPages → Mine → ℕ → Mine → Type 0
 adds e st m found n = (n.1 ≡ m.1) × Adds e m.0 found n.0
 
@@ -95,14 +102,17 @@ pub record Settles (v w : View) : Type 0 where
   pub tidy : IsTidy v.config w.own.seen
   pub before_over : CallersAreBeforeOver v.config (seats_of v) w.own.seen
 
+-- a step after which what joined seats had seen is one list
 abbrev pub settles : TableStep KnownPages → Mine → ℕ → Mine → Type 0
 settles st m found n = (n.1 ≡ m.1) × Settles m.0 n.0
 
 -- a view is cut: one seat goes with a new one, which has seen as much
 
+-- the view that stays when a seat is split off
 abbrev pub stays_with : Seat → View → View
 stays_with x v = record v { own = part (without_seat x v.own.seats) v.own.seen }
 
+-- the view that goes with the seat
 abbrev pub goes_with : Seat → View → View
 goes_with x v = view v.config (x ∷ []) v.own.seen
 
@@ -114,6 +124,7 @@ copy_of v = view v.config [] v.own.seen
 abbrev pub beside : View → View → View
 beside v w = record v { came = w.own }
 
+-- what stands for an event that doesn't exist
 abbrev pub no_event : Event
 no_event = record { seat = Host; step = Leave }
 

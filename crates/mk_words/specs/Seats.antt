@@ -6,6 +6,7 @@ use Rattle.mk_core.specs.{declared.events.Seat.TheVariants.{Caller, Marker, Host
 use Rattle.mk_core.specs.{declared.events.Event.Event, Order.seat_exists, Growing.{is_same_seat, is_one_of}}
 use Rattle.mk_core.specs.declared.events.Step.TheVariants as step
 
+-- The seat is one of these.
 abbrev pub Has : List Seat → Seat → Type 0
 Has seats s = is_one_of seats s ≡ true
 
@@ -16,10 +17,12 @@ without_seat s (x ∷ xs) = if is_same_seat s x then without_seat s xs else x �
 
 -- the seats of this many callers, and of this many markers
 
+-- the callers with numbers below this
 abbrev pub callers_below : ℕ → List Seat
 callers_below zero = []
 callers_below (suc n) = Caller n ∷ callers_below n
 
+-- the markers with numbers below this
 abbrev pub markers_below : ℕ → List Seat
 markers_below zero = []
 markers_below (suc n) = Marker n ∷ markers_below n
@@ -32,10 +35,12 @@ all_seats c = Host ∷ (callers_below c.callers ++ markers_below 8)
 abbrev pub HasAll : Config → List Seat → Type 0
 HasAll c seats = (s : Seat) → seat_exists c s ≡ true → Has seats s
 
+-- it is a caller
 abbrev pub is_caller : Seat → Bool
 is_caller (Caller k) = true
 is_caller _ = false
 
+-- it is an `over`
 abbrev pub is_over : Step → Bool
 is_over step.Over = true
 is_over _ = false

@@ -1,9 +1,11 @@
 -- How long one who waits sleeps, in microseconds.
 use Rattle.std.specs.Prelude.{◌≡◌, ℕ, ◌*◌, ◌⊎◌, min}
 
+-- microseconds of the first sleep
 abbrev pub first_sleep : ℕ
 first_sleep = 50
 
+-- microseconds of the longest one
 abbrev pub longest_sleep : ℕ
 longest_sleep = 1000
 

@@ -28,6 +28,7 @@ pub record IsPass (p : PassState) : Type 0 where
 abbrev pub world_of : PassState → World
 world_of p = left p.table.config p.seen
 
+-- the words and seats after all that the pass has seen
 abbrev pub now_of : PassState → Moment
 now_of p = (world_of p).now
 

@@ -27,9 +27,11 @@ may_decide _ = false
 
 -- After what the pass has seen the step is enabled, and admitted.
 
+-- The step may come after what the pass has seen.
 abbrev pub IsEnabledTo : PassState → Step → Type 0
 IsEnabledTo p s = IsEnabledBehind p.table.config p.seen (event_of p s)
 
+-- With it the calls are still admitted.
 abbrev pub IsAdmittedTo : PassState → Step → Type 0
 IsAdmittedTo p s = IsAdmittedBehind p.table.config p.seen (event_of p s)
 
@@ -58,6 +60,7 @@ pub record Makes (p : PassState) (s : Step) (q : PassState) : Type 0 where
 abbrev pub moment_of : {p : PassState} {s : Step} {q : PassState} → Makes p s q → Moment
 moment_of {p} m = (left p.table.config (p.seen ++ m.others)).now
 
+-- what the step found
 abbrev pub found_by : {p : PassState} {s : Step} {q : PassState} → Makes p s q → ℕ
 found_by {p} {s} m = found p.table.config (moment_of m) (event_of p s)
 

@@ -31,17 +31,21 @@ HaveNoMark kinds = (s : Step) → kinds s ≡ true → is_mark s ≡ false
 
 -- The laws.
 
+-- A pass that did nothing made no sweeping mark.
 abbrev pub NothingSweepsNothing : Type 0
 NothingSweepsNothing = (p : PassState) → SweepsNothing p p
 
+-- Two parts without a sweeping mark are one part without.
 abbrev pub NothingIsSweptInTurn : Type 0
 NothingIsSweptInTurn =
     (p q r : PassState) → q ≡ record p { seen = q.seen } → SweepsNothing p q → SweepsNothing q r → SweepsNothing p r
 
+-- Steps that mark nothing sweep nothing.
 abbrev pub OtherKindsSweepNothing : Type 0
 OtherKindsSweepNothing =
     (kinds : Step → Bool) (p q : PassState) → HaveNoMark kinds → Does kinds p q → SweepsNothing p q
 
+-- A step that isn't a sweeping mark sweeps nothing.
 abbrev pub StepsMaySweepNothing : Type 0
 StepsMaySweepNothing =
     (p q : PassState) (s : Step) (m : Makes p s q)

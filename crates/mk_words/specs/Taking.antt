@@ -6,6 +6,7 @@ use Rattle.mk_core.specs.{Counts.{TalliesAreExact, TalliesAreTidy}, Growing.{is_
 use Rattle.mk_words.specs.{States.{PassState, TurnState}, Steps.Finds, TurnSteps.IsFresh}
 use Rattle.mk_core.specs.declared.events.Step.TheVariants as step
 
+-- it is a `take`
 abbrev pub is_take : Step → Bool
 is_take (step.Take o) = true
 is_take _ = false

@@ -20,6 +20,7 @@ pub struct View {
     pub came: Part,
 }
 
+/// The rule of the table: there is one history, and each view is a part of it.
 pub struct OneHistory;
 
 impl TableRule<MapHome, View, Config> for OneHistory {

@@ -58,6 +58,7 @@ impl<G: Gates> TurnAt<G> {
     }
 
     /// Stores a page's header.
+    #[inline(always)]
     pub fn head(&mut self, words: &Words, page: u64, v: u64)
         requires one_table { self.old.pass.table ≡ words.now }
         requires enabled { IsEnabledTo self.old.pass (step.Head page v) }

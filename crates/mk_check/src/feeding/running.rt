@@ -118,6 +118,7 @@ impl Running {
         Ok(())
     }
 
+    /// The node that comes next.
     #[inline(always)]
     pub fn at(&self) -> usize
         ensures { result ≡ self.now.at }

@@ -189,6 +189,7 @@ impl Tree {
     ghost use Rattle.mk_check.specs.{Spots.{asks_at, instruction_of_node, sequels_of}, Steps.asks_first};
     ghost use Rattle.mk_check.specs.Trees.{IsTree, IsBelow, node_at, steps_at, steps_from, trees};
 
+    /// A tree without nodes.
     pub fn new(alloc: Global) -> Tree
         ensures { result ≡ [] }
     {
@@ -204,6 +205,7 @@ impl Tree {
         self.spots.len()
     }
 
+    /// One node more, which goes on with nodes before it.
     pub fn push(&mut self, node: Node) -> Result<(), NoMemory>
         requires { IsBelow (length self.old) node }
         ensures { OnOk result (self.new ≡ self.old ++ node ∷ []) }
@@ -217,6 +219,7 @@ impl Tree {
         Ok(self.spots.push(spot)?)
     }
 
+    /// The node at this place.
     #[inline(always)]
     pub fn node(&self, at: usize) -> Node
         requires { at < length self.now }

@@ -1,5 +1,6 @@
 use Rattle.mk_alloc.proofs.SeekingTurns.{misfits_finished, room_finished, seeks_finished, tried_then}
 use Rattle.mk_alloc.proofs.{UnsweptTurns.{finish_keeps, keeps_then, unbegun_keeps}, OneCycles.finish_then_none}
+use Rattle.mk_cycle.proofs.HeldFirst.{finish_holds, first_then}
 use Rattle.mk_alloc.proofs.rooms.finish_and_place.Goals as goal
 
 pub try_place-placed-requires : goal.try_place-placed-requires
@@ -20,6 +21,11 @@ pub returns-clause-ends : goal.returns-clause-ends
 returns-clause-ends g c =
     finish_then_none c.args.turn.in_order c.finish_cycle-turn.ensures.law
     c.finish_cycle-turn.result.0.in_order.history c.try_place-placed.ensures.begins
+
+pub returns-clause-holds : goal.returns-clause-holds
+returns-clause-holds g c =
+    let looked = c.try_place-placed.ensures.begins in
+    first_then (finish_holds c.args.turn.in_order.own c.finish_cycle-turn.ensures.law) looked.more looked.is
 
 pub returns-clause-keeps : goal.returns-clause-keeps
 returns-clause-keeps g c =

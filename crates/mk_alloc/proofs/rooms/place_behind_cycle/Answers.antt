@@ -1,5 +1,5 @@
 use Rattle.mk_alloc.proofs.{Vocabulary.{Done, Misfits, ap, cycle_ended, ◌∙◌}, OneCycles.begin_then_ends}
-use Rattle.mk_alloc.proofs.{SeekingTurns.{idly_then, misfits_begun, still_needs, tried_then}, UnsweptTurns.keeps_then}
+use Rattle.mk_alloc.proofs.{SeekingTurns.{idly_then, misfits_begun, still_needs, tried_then}, UnsweptTurns.then_leaves}
 use Rattle.mk_alloc.proofs.rooms.place_behind_cycle.Goals.{After-begin_cycle}
 use Rattle.mk_alloc.proofs.rooms.place_behind_cycle.Goals as goal
 
@@ -31,5 +31,5 @@ returns-clause-one g c =
 pub returns-clause-keeps : goal.returns-clause-keeps
 returns-clause-keeps g c =
     let begins = c.begin_cycle.ensures in
-    keeps_then begins.law.pass (record { reached = begins.reached; begun = begins.begun })
-    c.finish_and_place.ensures.keeps
+    then_leaves begins.law.pass (record { reached = begins.reached; begun = begins.begun })
+    c.finish_and_place.ensures.keeps c.finish_and_place.ensures.holds

@@ -1,4 +1,5 @@
-use Rattle.mk_caller.proofs.Below.Laws.Vocabulary.{Step, arith, bit_or, subst, sym, ℕ, ◌%◌, ◌*◌, ◌+◌, ◌/◌, ◌<◌, ◌^◌, ◌≡◌}
+use Rattle.mk_caller.proofs.Below.Laws.Vocabulary.{Step, arith, bit_or, subst, sym, ℕ, ◌%◌, ◌*◌, ◌+◌, ◌/◌, ◌<◌}
+use Rattle.mk_caller.proofs.Below.Laws.Vocabulary.{◌^◌, ◌≡◌}
 use Rattle.mk_alloc.proofs.FreeSteps.{quarantine_half, quarantine_may, quarantine_once, quarantine_reaches}
 use Rattle.mk_alloc.proofs.{LoadedFrees.{free_step_admits, loaded_undecided}, Looks.acting_caller}
 use Rattle.mk_alloc.proofs.ObjectVocabulary.{Acts, IsEnabledTo}

@@ -1,7 +1,10 @@
 use Rattle.mk_words.proofs.Below.Laws.Vocabulary.{arith, ◌≡◌}
 use Rattle.mk_cycle.proofs.closing.close_marks.Goals as goal
-use Rattle.mk_cycle.proofs.{Closes.{marks_closed_now, may_close_now}, Wants.wanted_once_then}
+use Rattle.mk_cycle.proofs.{Closes.{marks_closed_now, may_close_now}, Wants.{wanted_once_then, wants_by}}
 use Rattle.mk_cycle.specs.Grays.{TracesReached}
+
+pub returns-clause-wants : goal.returns-clause-wants
+returns-clause-wants g c = wants_by c.want_and_wait.ensures.wants c.mark_in_stop.ensures.on.traces.does
 
 pub returns-clause-traces : goal.returns-clause-traces
 returns-clause-traces g c =

@@ -6,8 +6,8 @@ close_marks-requires-clause-ready g c = ready_of c.args.stop.now.in_order c.requ
 
 pub returns-clause-law : goal.returns-clause-law
 returns-clause-law g c =
-    closes_by_tracing c.close_marks.ensures.traces c.close_marks.ensures.wanted c.close_marks.ensures.closes
-    c.close_marks.ensures.closed
+    closes_by_tracing c.close_marks.ensures.wants c.close_marks.ensures.traces c.close_marks.ensures.wanted
+    c.close_marks.ensures.closes c.close_marks.ensures.closed
 
 pub returns-clause-reached : goal.returns-clause-reached
 returns-clause-reached g c =

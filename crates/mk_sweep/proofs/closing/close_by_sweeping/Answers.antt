@@ -32,6 +32,7 @@ in_stop g c =
     let before : t.pass.table ≡ words = c.want_and_wait.ensures.table ∙ c.requires.one_table in
     let behind : sweep.new.stop.pass.table ≡ words = sweep.ensures.on.table ∙ before in
     record {
+      wants = c.want_and_wait.ensures.wants;
       waited = c.want_and_wait.ensures.traces;
       sweeping = sweeping_behind c.want_and_wait.ensures.traces c.want_and_wait.ensures.wanted c.requires.free
           c.requires.marking;
