@@ -1,6 +1,6 @@
 -- What is written of a run is of one that can be observed.
-use Rattle.std.proofs.Common.{Bool, IfSome, IsSomeAnd, List, None, Option, Some, ℕ, ap₂, false, refl, subst}
-use Rattle.std.proofs.Common.{sym, suc, zero, ap, arith, length, slice_index_or, sum_by, [], ◌++◌, ◌+◌, ◌<◌, ◌∙◌, ◌≡◌}
+use Rattle.std.proofs.Common.{Bool, IfSome, IsSomeAnd, List, None, Option, Some, ℕ, ap, ap₂, arith, false, length}
+use Rattle.std.proofs.Common.{refl, slice_index_or, subst, suc, sum_by, sym, true, zero, [], ◌++◌, ◌+◌, ◌<◌, ◌∙◌, ◌≡◌}
 use Rattle.std.proofs.{Common.if◌then◌else◌, lemmas.List.Sums.sum_by-cons}
 use Rattle.std.specs.{List.{flat_map, range_with_len}, Prelude.Ok as Accepted}
 use Rattle.mk_core.specs.{declared.config.Config.Config, declared.events.Answer.Answer, declared.events.Event.Event}
@@ -14,9 +14,11 @@ use Rattle.mk_trace.proofs.Below.Runs.ObservedRuns.{runs_can_be_observed}
 use Rattle.mk_outputs.specs.declared.{commands.Command.Command, commands.Options.Options, outputs.Output.Output}
 use Rattle.mk_outputs.specs.{declared.commands.TextCommand.TextCommand, declared.statuses.Status.Status}
 use Rattle.mk_outputs.specs.{Commands.{is_sweep, markers_beside}, KeptText.kept_text, Laws.OutputsAreSeen}
-use Rattle.mk_outputs.specs.Outputs.{typed_or}
+use Rattle.mk_outputs.specs.{Generated.generated_program, Outputs.{IsOutput, typed_or}}
+use Rattle.mk_outputs.specs.declared.commands.Request.{Request}
+use Rattle.mk_io.specs.Bytes.{TakesAll}
 use Rattle.mk_outputs.specs.RunOutputs.{AreEntries, IsOutputOfRun, IsSummaryOfRun}
-use Rattle.mk_outputs.specs.Seen.{BeginsWithRun, SumsUpRun}
+use Rattle.mk_outputs.specs.Seen.{BeginsWithRun, IsSeen, SumsUpRun}
 use Rattle.mk_outputs.specs.{ReportText.report_text, Summary.{line_of_script, script_line, summary_by, total_line}}
 
 -- What a run writes begins with what its scripts print.
@@ -127,3 +129,18 @@ outputs_are_seen (Command.OnText TextCommand.Check) old new output h = tt
 outputs_are_seen (Command.OnText TextCommand.Print) old new output h = tt
 outputs_are_seen (Command.OnText TextCommand.Replay) old new output h = tt
 outputs_are_seen (Command.OnText TextCommand.Trace) old new output h = tt
+
+-- what a text's command writes, and what `gen` does
+
+pub text_is_seen : (command : TextCommand) (text input : List ℕ) (old new : Option (List ℕ)) (output : Output)
+    → text ≡ input → TakesAll old new input → IsOutput command text output
+    → IsSeen (Command.OnText command) old output.bytes.items
+text_is_seen command text input old new output same read is = outputs_are_seen (Command.OnText command) old new output
+    (record { input = text; read = rw same read; is_output = is })
+
+pub request_is_seen : (request : Request) (old : Option (List ℕ)) (output : Output)
+    → IsSomeAnd output.report (λ r. IsSummaryOfRun (generated_program request.start request.count) request.markers
+    (history_of r) output.bytes.items)
+    → IsSeen (Command.Gen request) old output.bytes.items
+request_is_seen request old output h =
+    outputs_are_seen (Command.Gen request) old old output (record { unread = refl; output_is = h })

@@ -41,7 +41,6 @@ impl Output {
 }
 
 /// What a command writes, whole, or the status with which it is refused.
-#[tactic(auto, using(crate::proofs::Seen::outputs_are_seen))]
 pub fn output_of<S: Source, P: Pace + Sync, R: Threads + Wait + Sync>(
     rt: &R,
     alloc: Global,

@@ -6,9 +6,9 @@ use Rattle.mk_script.specs.declared.items.Item.{Item}
 use Rattle.mk_trace.specs.Below.Chains.declared.kept.Kept.{Kept}
 use Rattle.mk_outputs.proofs.running.told.Goals as goal
 
-in_order : {texts printed reported kept after bytes : List ℕ} → texts ≡ printed → after ≡ texts ++ reported
+in_order : (texts printed reported kept after bytes : List ℕ) → texts ≡ printed → after ≡ texts ++ reported
     → bytes ≡ after ++ kept → bytes ≡ printed ++ (reported ++ kept)
-in_order {texts} {printed} {reported} {kept} {after} {bytes} first second third =
+in_order texts printed reported kept after bytes first second third =
     cc (first, second, third, append_assoc printed reported kept)
 
 pub returns : goal.returns
@@ -21,4 +21,4 @@ returns g c =
     ∙ (ap (λ (program : List Item). front ++ kept_text program c.deref-2.result.now) c.program.ensures.program
     ∙ ap (λ (entries : List Kept). front ++ kept_text c.args.program.now entries) c.deref-2.ensures.value) in
     run_is_output c.args.options c.args.program.now c.in_ok-outcome.outcome c.in_ok-outcome.kept.items _ ran.runs
-    ran.begun ran.reached ran.kept (in_order texts c.in_ok-push_asked.ensures lines)
+    ran.begun ran.reached ran.kept (in_order _ _ _ _ _ _ texts c.in_ok-push_asked.ensures lines)
