@@ -1,5 +1,6 @@
 -- How cycles mark where this many markers are asked for.
-use Rattle.std.proofs.{Common.{Bool, arith, false, if◌then◌else◌, nat_lt, refl, true, ℕ, ◌≡◌}, lemmas.Bool.Decides.nat_tests}
+use Rattle.std.proofs.Common.{Bool, arith, false, if◌then◌else◌, nat_lt, refl, true, ℕ, ◌≡◌}
+use Rattle.std.proofs.lemmas.Bool.Decides.{nat_tests}
 use Rattle.mk_outputs.specs.Commands.{is_sweep, markers_beside, traced_by}
 use Rattle.mk_outputs.specs.declared.commands.Marking.{Marking}
 
