@@ -11,6 +11,7 @@ pub mod Builds
 pub mod FeedLaws
 pub mod FewBlocks
 pub mod FewNames
+pub mod FewOperations
 pub mod LinesLeft
 pub mod Moves
 pub mod TreeNodes

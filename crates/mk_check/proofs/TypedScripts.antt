@@ -12,7 +12,8 @@ stays : (script before behind : List Item) → script ≡ before ++ behind → (
 stays script before behind all name at is = cc (said_of-append declared_place name before behind)
 
 module _ (program : List Item) where
-  next_none : (before more : List Item) (line : ℕ) (item : Item) → fault_from program line before (item ∷ more) ≡ None
+  pub next_none : (before more : List Item) (line : ℕ) (item : Item)
+      → fault_from program line before (item ∷ more) ≡ None
       → (typing_fault (record { program = program; script = this_script before }) line more item ≡ None)
       × (fault_from program (line + 1) (before ++ item ∷ []) more ≡ None)
   next_none before more line item e = at_line-None line _ _ e

@@ -1,5 +1,5 @@
 -- Laws of scripts: the operations that they ask for, one after the other, in any order of their turns.
-use Rattle.std.specs.Prelude.{◌≡◌, ◌≢◌, ℕ, ◌<◌, List, [], ◌∷◌, ◌++◌, length, ◌==◌, if◌then◌else◌, Some, All}
+use Rattle.std.specs.Prelude.{◌≡◌, ◌≢◌, ℕ, ◌<◌, ◌≤◌, List, [], ◌∷◌, ◌++◌, length, ◌==◌, if◌then◌else◌, Some, All}
 use Rattle.mk_never.specs.{declared.operations.Op.Op, NeverHeap.{NeverState, Call, start_of, after_calls}}
 use Rattle.mk_never.specs.Admitted.{IsAdmitted, AreAdmitted}
 use Rattle.mk_core.specs.{declared.events.Answer.Answer, Decided.flagged}
@@ -14,6 +14,12 @@ pub record IsChecked (program : List Item) : Type 0 where
 -- The number is that of one of the program's scripts.
 abbrev pub IsScript : List Item → ℕ → Type 0
 IsScript program k = k < length (script_names program)
+
+-- A script of a well-typed program asks for at most a million operations, whatever they are answered.
+abbrev pub ScriptsAskForFew : Type 0
+ScriptsAskForFew =
+    (program : List Item) (k : ℕ) (answers : List Answer) → IsWellTyped program
+    → length (feed program k answers).ops ≤ 1000000
 
 -- the operations of a caller among the calls, in their order
 abbrev pub ops_of_caller : ℕ → List Call → List Op

@@ -4,7 +4,8 @@ ghost use Rattle.mk_never.specs.NeverHeap.{Call};
 ghost use Rattle.mk_core.specs.declared.events.Answer.{Answer};
 ghost use Rattle.mk_script.specs.{declared.items.Item.Item, Scopes.script_names};
 ghost use Rattle.mk_check.specs.Laws.{IsChecked, IsScript, AreNotedBy, AnswersAreNoted, OthersAreIgnored};
-ghost use Rattle.mk_check.specs.{Laws.{AreAdmittedFor, NextIsAdmitted, AreOfScripts}, Output.EndedCallsAreAnswered};
+ghost use Rattle.mk_check.specs.Laws.{AreAdmittedFor, NextIsAdmitted, AreOfScripts, ScriptsAskForFew};
+ghost use Rattle.mk_check.specs.Output.{EndedCallsAreAnswered};
 ghost use Rattle.mk_check.specs.ObservedSteps.{EachCallIsAskedFor};
 ghost use Rattle.mk_check.specs.ObservedLaws.{AnswersAreImages, NoneIsLeftOver, ObservedRunsAreAdmitted};
 ghost use Rattle.mk_check.specs.ObservedLaws.{WordsAreNotTold};
@@ -36,6 +37,12 @@ pub fn what_scripts_ask_is_admitted()
     ensures { (program : List Item) (callers : ℕ) (calls : List Call)
         → IsChecked program → length (script_names program) ≤ callers → AreOfScripts program calls
         → AreAdmittedFor program callers calls }
+{}
+
+/// A script of a well-typed program asks for at most a million operations, whatever they are answered.
+#[tactic(auto, using(crate::proofs::FewOperations::scripts_ask_for_few))]
+pub fn scripts_ask_for_few()
+    ensures { ScriptsAskForFew }
 {}
 
 /// A script's blocks, written out as lines again with their `else` and `end`, are its lines.

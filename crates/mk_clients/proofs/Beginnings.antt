@@ -21,7 +21,7 @@ first_pass w = record { table = w; seat = Caller 0; seats = Caller 0 ∷ []; see
 null_at_first : (w : WordsState) → value_of (first_pass w) 0 ≡ Null
 null_at_first w = cc (none_called w.config, at_first (8 * w.config.callers) 0 Null)
 
--- The same for a pass that is this one.
+-- So it is of any pass that is equal to the first one.
 
 pub idle : (p : PassState) (w : WordsState) → p ≡ first_pass w → IsIdleCaller p
 idle p w is = grind (arith, none_left, at_first)

@@ -1,4 +1,5 @@
 -- What stands on this crate finds here the lemmas of those below it.
+pub use Rattle.mk_alloc.proofs.Below.Laws as Laws
 pub use Rattle.mk_alloc.proofs.Below.Words as Words
 pub use Rattle.mk_alloc.proofs.Below.Callers as Callers
 pub use Rattle.mk_alloc.proofs.Below.Cycles as Cycles

@@ -1,6 +1,8 @@
 -- Where all are joined nobody holds the turn, so the tallies are the counts.
-use Rattle.std.proofs.Common.{count_ones}
-use Rattle.mk_alloc.proofs.Below.Laws.Vocabulary.{Caller, Config, Event, Flight, IsHistory, IsTidy, List, Moment}
+use Rattle.std.proofs.Common.{count_ones, ⊎_elim}
+use Rattle.mk_alloc.proofs.Below.Laws.Vocabulary.{AreOfOthers, Caller, Config, Event, Flight, IsHistory, IsTidy, List}
+use Rattle.mk_alloc.proofs.Below.Laws.Vocabulary.{Marker, Moment, World, cases_lt, enabled_meets, first_world}
+use Rattle.mk_alloc.proofs.Below.Laws.Vocabulary.{world_behind, [], ◌∷◌, ◌≤◌}
 use Rattle.mk_alloc.proofs.Below.Laws.Vocabulary.{PlacedAllocation, Protocol, Seat, Words, ℕ, and_from, and_parts, ap}
 use Rattle.mk_alloc.proofs.Below.Laws.Vocabulary.{arith, cases_eq, eq-eqb, false, host_has_turn, inl, inr}
 use Rattle.mk_alloc.proofs.Below.Laws.Vocabulary.{is_quarantined, left, lt-ltb, not, not-true, phase_of, placed_at}
@@ -13,9 +15,11 @@ use Rattle.mk_alloc.specs.{Below.Cycles.ReleasedPages.sum_below, Below.Words.Fin
 use Rattle.mk_alloc.specs.{Below.Words.Seats.{Has, HasAll}, Below.Words.States.{WordsState, now_of}}
 use Rattle.mk_alloc.specs.Below.Words.Finals as final
 use Rattle.mk_alloc.specs.Below.Words.declared.finals.Final.{Final}
-use Rattle.mk_core.specs.Readings.{is_in_turn}
+use Rattle.mk_alloc.proofs.Below.Words.Seats.{has_not, only_one}
+use Rattle.mk_core.specs.{History.AreEnabledFrom, Readings.is_in_turn}
 use Rattle.mk_heap.{proofs.HostsKept.{all_home}, specs.declared.reports.Report.{Report}}
-use Rattle.mk_heap.specs.{Hosts.{AllAreJoined, HostState, IsHost, Rests}, Reports.{HasCounts, IsWhole, quarantined}}
+use Rattle.mk_heap.specs.Hosts.{AllAreJoined, HostState, IsHost, Rests}
+use Rattle.mk_heap.specs.Reports.{HasCounts, IsWhole, MarkersAreBelow, quarantined}
 
 -- The freed bits of the quarantine words are as many as the allocations that are freed and unreleased.
 
@@ -98,6 +102,17 @@ counts_told {c} {es} f h tidy no_turn rests told =
       full = told.full ∙ is_tidy.full;
     }
 
+-- A seat that doesn't exist takes no step.
+absent_from : (c : Config) (w : World) (es : List Event) → AreEnabledFrom c w es → (s : Seat)
+    → seat_exists c s ≡ false → AreOfOthers (s ∷ []) es
+unfolding AreEnabledFrom AreOfOthers
+absent_from c w [] on s none = tt
+absent_from c w (e ∷ es) on s none = (
+  has_not (s ∷ []) e.seat (λ own. true≢false (sym (enabled_meets c w.now e on.0).seat
+      ∙ subst (λ (x : Seat). seat_exists c x ≡ false) (sym (only_one s e.seat own)) none)),
+  absent_from c (world_behind c w e) es on.1 s none,
+)
+
 -- A host of the table, with all seats home.
 pub record HasAllHome (h : HostState) (w : WordsState) : Type 0 where
   pub is : IsHost h
@@ -117,6 +132,12 @@ module _ {h : HostState} {w : WordsState} (host : HasAllHome h w) where
       h.pass.seen) (seen : final.history_of f ≡ h.pass.seen) (config : final.config_of f ≡ w.config) where
     pub ends_whole : IsWhole (final.config_of f) (final.history_of f)
     ends_whole = grind (arith, all_rest)
+
+    pub ends_unmade : MarkersAreBelow h.markers (final.history_of f)
+    ends_unmade k le =
+        rw seen (⊎_elim (λ (few : k < 8). host.is.unmade k le few)
+        (λ (many : 8 ≤ k). absent_from h.pass.table.config (first_world h.pass.table.config) h.pass.seen history.enabled
+        (Marker k) (grind arith)) (cases_lt k 8))
 
     pub ends_counted : HasTallies (now_of h.pass).words w.config.pages f
         → HasCounts (final.config_of f) (final.history_of f) (report_of f)

@@ -7,11 +7,13 @@ use Rattle.mk_alloc.proofs.Below.Laws.Vocabulary.{first_moment, first_world, get
 use Rattle.mk_alloc.proofs.Below.Laws.Vocabulary.{lt-ltb, ltb-true, marker_at, ne_eqb, not, outside, refl, subst, sym}
 use Rattle.mk_alloc.proofs.Below.Laws.Vocabulary.{true, [], ◌++◌, ◌+◌, ◌<◌, ◌∙◌, ◌∷◌, ◌≡◌, ◌≤◌}
 use Rattle.mk_alloc.proofs.{Below.Laws.ProtocolFrames.others_leave, Below.Words.Seats.{has_all, has_either, has_left}}
-use Rattle.mk_alloc.proofs.Below.Words.Seats.{only_one, others_own, without_keeps, without_less}
+use Rattle.mk_alloc.proofs.Below.Words.Seats.{only_one, others_append, others_none, others_own, without_keeps}
+use Rattle.mk_alloc.proofs.Below.Words.Seats.{without_less}
 use Rattle.mk_alloc.proofs.{Below.Words.LongerLists.longer_lists, Below.Words.Owed.history_more}
 use Rattle.mk_alloc.specs.{Below.Callers.States.IsIdleCaller, Below.Words.Seats.{Has, HasAll}}
 use Rattle.mk_alloc.specs.Below.Words.States.{PassState, WordsState, now_of}
-use Rattle.mk_core.{proofs.{Conditions.meets_enabled, Histories.last_enabled}, specs.{Growing.Grows, History.left_from}}
+use Rattle.mk_core.proofs.{Conditions.meets_enabled, Histories.last_enabled}
+use Rattle.mk_core.specs.{Growing.{AreOfOthers, Grows}, History.left_from}
 use Rattle.atomic_table.specs.Seated.{TableId}
 use Rattle.mk_heap.specs.Hosts.{AllAreJoined, HostState, IsDone, IsHost, IsWholeHost, Rests, first_host, host_of}
 use Rattle.mk_heap.specs.Hosts.{pass_for, with_caller_made, with_caller_out, with_joined, with_marker_made}
@@ -112,6 +114,7 @@ first_is_host w = record {
   rests = λ s has. first_rests w.config s;
   callers = λ k le lt. has_all w.config (Caller k) (lt-ltb k w.config.callers lt);
   markers = λ k le lt. has_all w.config (Marker k) (lt-ltb k 8 lt);
+  unmade = λ k le lt. others_none (Marker k ∷ []);
 }
 
 pub caller_made_is_host : {h : HostState} → IsHost h → IsHost (with_caller_made h)
@@ -122,6 +125,7 @@ caller_made_is_host {h} is = record {
   callers = λ k le lt. without_keeps (Caller h.callers) h.pass.seats (Caller k) (ne_eqb h.callers k (λ e. omega arith))
       (is.callers k (omega arith) lt);
   markers = λ k le lt. without_keeps (Caller h.callers) h.pass.seats (Marker k) refl (is.markers k le lt);
+  unmade = is.unmade;
 }
 
 pub caller_out_is_host : {h : HostState} (k : ℕ) → k < h.callers → IsHost h → IsHost (with_caller_out h k)
@@ -132,6 +136,7 @@ caller_out_is_host {h} k made is = record {
   callers = λ j le lt.
       without_keeps (Caller k) h.pass.seats (Caller j) (ne_eqb k j (λ e. omega arith)) (is.callers j le lt);
   markers = λ j le lt. without_keeps (Caller k) h.pass.seats (Marker j) refl (is.markers j le lt);
+  unmade = is.unmade;
 }
 
 pub marker_made_is_host : {h : HostState} → IsHost h → IsHost (with_marker_made h)
@@ -142,6 +147,7 @@ marker_made_is_host {h} is = record {
   callers = λ k le lt. without_keeps (Marker h.markers) h.pass.seats (Caller k) refl (is.callers k le lt);
   markers = λ k le lt. without_keeps (Marker h.markers) h.pass.seats (Marker k) (ne_eqb h.markers k (λ e. omega arith))
       (is.markers k (omega arith) lt);
+  unmade = λ k le lt. is.unmade k (omega arith) lt;
 }
 
 pub joined_is_host : {h : HostState} {p q : PassState} → IsHost h → Has h.pass.seats h.pass.seat → IsDone p
@@ -160,6 +166,9 @@ joined_is_host {h} {p} {q} is own done table joined whole mine theirs =
           (has_either h.pass.seats p.seats s has);
       callers = λ k le lt. has_left h.pass.seats p.seats (Caller k) (is.callers k le lt);
       markers = λ k le lt. has_left h.pass.seats p.seats (Marker k) (is.markers k le lt);
+      unmade = λ k le lt. subst (λ (l : List Event). AreOfOthers (Marker k ∷ []) l) (sym mine.is)
+          (others_append (Marker k ∷ []) h.pass.seen mine.more (is.unmade k le lt)
+          (others_own h.pass.seats (Marker k) mine.more (is.markers k le lt) mine.of_others));
     })
 
 -- Where all are joined, every seat is home.

@@ -13,3 +13,6 @@ pub mod LastTurns
 pub mod LastCycles
 pub mod LastOvers
 pub mod Crews
+pub mod UnsweptHistories
+pub mod UnsweptSeats
+pub mod BoundedQuarantine

@@ -125,6 +125,8 @@ moved_is_host {h} is v history no_turn =
       rests = rests;
       callers = is.callers;
       markers = is.markers;
+      unmade = λ k le lt. others_append (Marker k ∷ []) h.pass.seen v.more (is.unmade k le lt)
+          (v.leaves (Marker k) (is.markers k le lt) (ap (λ (x : Seat). is_same_seat (Marker k) x) is.seat));
     })
   where
     whole : IsHistory h.pass.table.config (h.pass.seen ++ v.more)

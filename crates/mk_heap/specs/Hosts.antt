@@ -1,8 +1,9 @@
 -- What contracts see of the host, and what always holds of it.
 use Rattle.std.specs.Prelude.{◌≡◌, ℕ, ◌+◌, ◌<◌, ◌≤◌, false, List, [], ◌∷◌, ◌++◌, Option, Some, None}
 use Rattle.mk_core.specs.{declared.events.Event.Event, declared.events.Seat.Seat}
-use Rattle.mk_core.specs.{declared.events.Seat.TheVariants.{Caller, Marker, Host}, Calls.at_rest, Growing.Grows}
-use Rattle.mk_core.specs.{History.IsHistory, Moments.{Moment, flight_of, marker_at, outside}, Order.host_has_turn}
+use Rattle.mk_core.specs.{declared.events.Seat.TheVariants.{Caller, Marker, Host}, Calls.at_rest}
+use Rattle.mk_core.specs.{Growing.{AreOfOthers, Grows}, History.IsHistory}
+use Rattle.mk_core.specs.{Moments.{Moment, flight_of, marker_at, outside}, Order.host_has_turn}
 use Rattle.mk_alloc.specs.{Below.Words.Seats.{Has, all_seats, has_over, without_seat}, Below.Words.Rule.no_config}
 use Rattle.mk_alloc.specs.{Below.Words.States.{WordsState, PassState, now_of}, Below.Words.Sweeping.SweepsNothing}
 
@@ -77,13 +78,15 @@ pub record IsDone (p : PassState) : Type 0 where
   pub alone : p.seats ≡ p.seat ∷ []
   pub rests : Rests (now_of p) p.seat
 
--- It hasn't the turn. Who isn't made is home in its pass, and who is home rests.
+-- It hasn't the turn. Who isn't made is home in its pass, and who is home rests. A marker that isn't made has taken no
+-- step.
 pub record IsHost (h : HostState) : Type 0 where
   pub seat : h.pass.seat ≡ Host
   pub no_turn : host_has_turn h.pass.table.config (now_of h.pass) ≡ false
   pub rests : (s : Seat) → Has h.pass.seats s → Rests (now_of h.pass) s
   pub callers : (k : ℕ) → h.callers ≤ k → k < h.pass.table.config.callers → Has h.pass.seats (Caller k)
   pub markers : (k : ℕ) → h.markers ≤ k → k < 8 → Has h.pass.seats (Marker k)
+  pub unmade : (k : ℕ) → h.markers ≤ k → k < 8 → AreOfOthers (Marker k ∷ []) h.pass.seen
 
 -- What a host is made of: its pass, which is home between its calls, and the two numbers.
 

@@ -9,3 +9,5 @@ pub mod LastTurns
 pub mod LastCycle
 pub mod Crews
 pub mod Dispatching
+pub mod Unswept
+pub mod UnsweptSeats

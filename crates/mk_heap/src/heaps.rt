@@ -1,7 +1,8 @@
 //! A heap: the words that callers and markers share.
 ghost use Rattle.std.specs.Prelude.{◌≡◌, IfOk};
 ghost use Rattle.mk_core.specs.Config.{IsWithinLimits};
-ghost use Rattle.mk_heap.specs.{Hosts.{first_host, AllAreJoined}, Reports.{history_of, config_of, IsWhole, HasCounts}};
+ghost use Rattle.mk_heap.specs.Hosts.{first_host, AllAreJoined};
+ghost use Rattle.mk_heap.specs.Reports.{history_of, config_of, HasCounts, IsWhole, MarkersAreBelow};
 
 use crate::hosts::Host;
 use crate::reports::Report;
@@ -58,6 +59,7 @@ impl Heap {
         ensures config { config_of result ≡ self.config }
         ensures whole { IsWhole (config_of result) (history_of result) }
         ensures counts { HasCounts (config_of result) (history_of result) result }
+        ensures markers { MarkersAreBelow host.markers (history_of result) }
     {
         let Heap { words } = self;
         let Host { pass, .. } = host;

@@ -13,7 +13,7 @@ use Rattle.mk_run.specs.{Below.Objects.declared.making.Full.Full, Below.Callers.
 use Rattle.mk_run.specs.{Below.Objects.declared.retirement.Double.Double, Below.Objects.declared.retirement.Freed.Freed}
 use Rattle.mk_run.proofs.Below.Callers.After.{set_same}
 use Rattle.mk_heap_tests.specs.HeldObjects.{BothGoOn, GoesOn, HoldsObjects, MayMakeObjects}
-use Rattle.mk_run.specs.Joining.{IsFirstPass}
+use Rattle.mk_run.specs.Below.Heaps.Crews.{IsFirstPass}
 
 -- what calls ask of such a caller
 

@@ -13,7 +13,7 @@ use Rattle.mk_run.specs.{Below.Callers.States.never_of, Below.Heaps.Ending.Calle
 use Rattle.mk_run.specs.Below.Heaps.Hosts.{AllAreJoined, IsHost, first_host, with_caller_made, with_joined}
 use Rattle.mk_run.specs.{Below.Heaps.Clients.IsPassOf, Below.Words.Seats.all_seats}
 use Rattle.mk_run.proofs.{Below.Heaps.HostsKept.first_is_host, Below.Words.Seats.{has_first, has_left, has_right}}
-use Rattle.mk_run.specs.Joining.{IsFirstPass}
+use Rattle.mk_run.specs.Below.Heaps.Crews.{IsFirstPass}
 
 -- Each caller has eight registers, and there are 64 globals, whatever happened. Before the first call all are null.
 

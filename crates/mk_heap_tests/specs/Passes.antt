@@ -7,7 +7,7 @@ use Rattle.mk_core.specs.Order.{host_has_turn}
 use Rattle.mk_run.specs.{Below.Words.Seats.{Has, has_over}, Below.Words.States.{WordsState, PassState, now_of}}
 use Rattle.mk_run.specs.{Below.Callers.States.{value_of, IsIdleCaller}, Below.Markers.Markers.IsOut}
 use Rattle.mk_run.specs.{Below.Cycles.EngineLaw.{IsAtPhase, IsFreeForCycle}, Below.Heaps.Hosts.HostState}
-use Rattle.mk_run.specs.Joining.{IsFirstPass}
+use Rattle.mk_run.specs.Below.Heaps.Crews.{IsFirstPass}
 
 -- a caller's pass, whose register 1 is null
 pub record HoldsNull (p : PassState) : Type 0 where

@@ -2,7 +2,7 @@
 ghost use Rattle.std.specs.Prelude.{◌≡◌, ◌<◌, length, true, false, IfOk, IfSome};
 ghost use Rattle.mk_core.specs.Config.{IsWithinLimits};
 ghost use Rattle.mk_run.specs.Below.Markers.Markers.{attends};
-ghost use Rattle.mk_run.specs.Joining.{IsFirstPass};
+ghost use Rattle.mk_run.specs.Below.Heaps.Crews.{IsFirstPass};
 ghost use Rattle.mk_heap_tests.specs.Passes.{HostIsMarking, IsHostsPass, IsMarkerOut};
 
 use crate::beginnings::Split;

@@ -7,10 +7,10 @@ use Rattle.mk_core.specs.{declared.config.Config.Config, declared.events.Answer.
 use Rattle.mk_script.specs.{Grammar.program_of, Scopes.script_names, declared.items.Item.Item}
 use Rattle.mk_check.specs.{Declarations.config_of, Feed.is_refusal, Output.{answers_given, output}}
 use Rattle.mk_check.specs.{Observed.told_to, Typing.{IsWellTyped, TypingFault, first_typing_fault}}
-use Rattle.mk_trace.specs.Below.Heaps.{Reports.history_of, declared.reports.Report.Report}
-use Rattle.mk_trace.specs.Below.Runs.ObservedRuns.{TellsAsMuch}
-use Rattle.mk_trace.specs.Below.Chains.declared.kept.Kept.{Kept}
-use Rattle.mk_trace.proofs.Below.Runs.ObservedRuns.{runs_can_be_observed}
+use Rattle.mk_run.specs.Below.Heaps.{Reports.history_of, declared.reports.Report.Report}
+use Rattle.mk_run.specs.ObservedRuns.{TellsAsMuch}
+use Rattle.mk_run.specs.Below.Chains.declared.kept.Kept.{Kept}
+use Rattle.mk_run.proofs.ObservedRuns.{runs_can_be_observed}
 use Rattle.mk_outputs.specs.declared.{commands.Command.Command, commands.Options.Options, outputs.Output.Output}
 use Rattle.mk_outputs.specs.{declared.commands.TextCommand.TextCommand, declared.statuses.Status.Status}
 use Rattle.mk_outputs.specs.{Commands.{is_sweep, markers_beside}, KeptText.kept_text, Laws.OutputsAreSeen}

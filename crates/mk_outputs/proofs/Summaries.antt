@@ -7,15 +7,15 @@ use Rattle.mk_laws.proofs.Vocabulary.{false, get_or, length, refl, slice_index_o
 use Rattle.mk_laws.proofs.Vocabulary.{◌∙◌, ◌∷◌, ◌≡◌, ◌≤◌}
 use Rattle.mk_check.specs.{Declarations.config_of, Laws.IsScript, declared.text.Text.Text}
 use Rattle.mk_check.specs.{Feed.is_refusal, Output.answers_given}
-use Rattle.mk_trace.specs.Below.Cycles.Roots.{CyclesMarkRootsFirst}
-use Rattle.mk_trace.specs.Below.Runs.Headline.{cycles_go_on}
-use Rattle.mk_trace.specs.{Below.Runs.Running.{IsRunOf, answers_in}, Below.Runs.Unswept.IsUnswept}
-use Rattle.mk_trace.specs.Below.Heaps.Reports as report
-use Rattle.mk_trace.specs.Below.Runs.declared.outcomes.Outcome.{Outcome}
+use Rattle.mk_run.specs.Below.Cycles.Roots.{CyclesMarkRootsFirst}
+use Rattle.mk_run.specs.Headline.{cycles_go_on}
+use Rattle.mk_run.specs.{Running.{IsRunOf, answers_in}, Below.Heaps.Unswept.IsUnswept}
+use Rattle.mk_run.specs.Below.Heaps.Reports as report
+use Rattle.mk_run.specs.declared.outcomes.Outcome.{Outcome}
 use Rattle.mk_outputs.proofs.GeneratedLaws.{generated_declares_nodes, generated_makes_turns}
 use Rattle.mk_outputs.specs.Generated.{all_names, generated_program}
-use Rattle.mk_trace.proofs.Below.Runs.Headline.{all_given, ends_of_run, none_is_left, noted_of_run}
-use Rattle.mk_trace.proofs.Below.Runs.Headline.{runs_keep_their_promises, runs_stand_in_one_history}
+use Rattle.mk_run.proofs.Headline.{all_given, ends_of_run, none_is_left, noted_of_run}
+use Rattle.mk_run.proofs.Headline.{runs_keep_their_promises, runs_stand_in_one_history}
 use Rattle.mk_outputs.specs.SummedTexts.{AreFew, all_ops, line_of_text, lines_from, summary_of_texts}
 use Rattle.mk_outputs.specs.{RunOutputs.IsSummaryOfRun, Summary.{line_of_script, summary}}
 use Rattle.mk_script.{proofs.Spacing.drop_next, specs.Scopes.script_names, specs.declared.items.Item.Item}

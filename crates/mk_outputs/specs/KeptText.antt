@@ -5,8 +5,8 @@ use lib.Chars.{codes}
 use Rattle.mk_script.specs.{declared.items.Item.Item, Canonical.line_text, Scopes.{script_names, global_names}}
 use Rattle.mk_script.specs.Scopes.{pointer_names}
 use Rattle.mk_check.specs.Blocks.{script_of}
-use Rattle.mk_trace.specs.{Below.Chains.declared.kept.Kept.Kept, Below.Chains.declared.kept.Root.Root}
-use Rattle.mk_trace.specs.Below.Chains.declared.kept.Root.TheVariants.{Register, Global}
+use Rattle.mk_run.specs.{Below.Chains.declared.kept.Kept.Kept, Below.Chains.declared.kept.Root.Root}
+use Rattle.mk_run.specs.Below.Chains.declared.kept.Root.TheVariants.{Register, Global}
 
 -- The words of the line that names a root. What isn't reached floats. No root is without a name, since a register that
 -- its script doesn't declare is null.

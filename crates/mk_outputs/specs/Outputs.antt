@@ -26,7 +26,7 @@ use Rattle.mk_io.specs.declared.reading.ReadStop.TheVariants as reading
 use Rattle.mk_script.specs.declared.faults.TextStop.TheVariants as stop
 use Rattle.mk_check.specs.declared.typing_faults.TypeStop.TheVariants as typing
 use Rattle.mk_check.specs.Output.{output as output_behind}
-use Rattle.mk_trace.specs.Below.Heaps.Reports.{history_of as history_of_report}
+use Rattle.mk_run.specs.Below.Heaps.Reports.{history_of as history_of_report}
 use Rattle.mk_replay.specs.declared.replaying.ReplayStop.TheVariants as replay
 use Rattle.mk_trace.specs.declared.faults.TraceStop.TheVariants as trace
 

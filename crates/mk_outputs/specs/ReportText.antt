@@ -5,7 +5,7 @@ use Rattle.mk_core.specs.{declared.config.Config.Config, declared.events.Event.E
 use Rattle.mk_core.specs.{Allocations.{held_by_allocations, fresh_words_of}, Counts.{ends, releases, full_answers}}
 use Rattle.mk_core.specs.Counts.{in_a_word}
 use Rattle.mk_script.specs.Canonical.{line_text}
-use Rattle.mk_trace.specs.Below.Heaps.{Reports.quarantined, declared.reports.Report.Report}
+use Rattle.mk_run.specs.Below.Heaps.{Reports.quarantined, declared.reports.Report.Report}
 
 -- the line of a count
 abbrev pub count_line : List ℕ → ℕ → List ℕ

@@ -3,8 +3,8 @@ use Rattle.std.specs.Prelude.{◌≡◌, ℕ, Bool, true, false, List, [], ◌++
 use Rattle.mk_core.specs.{declared.config.Config.Config, declared.events.Event.Event}
 use Rattle.mk_script.specs.declared.items.Item.{Item}
 use Rattle.mk_check.specs.{Declarations.config_of, Output.output}
-use Rattle.mk_trace.specs.Below.Runs.Headline.{KeepsRunPromises, StandsInOneHistory}
-use Rattle.mk_trace.specs.Below.{Chains.declared.kept.Kept.Kept, Chains.Chains.AreKept, Heaps.LastCycle.EndsWithCycle}
+use Rattle.mk_run.specs.Headline.{KeepsRunPromises, StandsInOneHistory}
+use Rattle.mk_run.specs.Below.{Chains.declared.kept.Kept.Kept, Chains.Chains.AreKept, Heaps.LastCycle.EndsWithCycle}
 use Rattle.mk_outputs.specs.{declared.commands.Options.Options, Commands.{is_sweep, markers_beside}}
 use Rattle.mk_outputs.specs.{KeptText.kept_text, ReportText.report_text, Summary.summary}
 

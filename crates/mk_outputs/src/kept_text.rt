@@ -8,8 +8,8 @@ use crate::names::{global_name, register_name, script_name};
 use crate::pieces::{push, push_pieces};
 use itoa::Buffer;
 use mk_never::NoMemory;
+use mk_run::lower::chains::{Kept, Root};
 use mk_script::{Item, Program};
-use mk_trace::lower::chains::{Kept, Root};
 
 /// Appends the lines of what was kept, in its order.
 pub fn push_kept(text: &mut Vec<u8>, program: &Program, kept: &[Kept]) -> Result<(), NoMemory>

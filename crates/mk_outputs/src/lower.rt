@@ -1,2 +1,2 @@
 //! What stands on this crate finds here the crates below it.
-pub use mk_trace::lower::heaps;
+pub use mk_run::lower::heaps;

@@ -5,7 +5,7 @@ ghost use Rattle.mk_outputs.specs.ReportText.{count_line, lines_of_report};
 use crate::pieces::push_pieces;
 use itoa::Buffer;
 use mk_never::NoMemory;
-use mk_trace::lower::heaps::Report;
+use mk_run::lower::heaps::Report;
 
 /// Appends the numbers of a report, a line each.
 pub fn push_report(text: &mut Vec<u8>, report: &Report) -> Result<(), NoMemory>

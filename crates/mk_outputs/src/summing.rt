@@ -2,7 +2,7 @@
 ghost use Rattle.std.specs.Prelude.{◌≡◌, ◌≤◌, ◌++◌, length, string_bytes, IfOk, IsSomeAnd, OnOk};
 ghost use Rattle.mk_outputs.specs.declared.commands.Command.TheVariants as Command;
 ghost use Rattle.mk_outputs.specs.{Generated.generated_program, Commands.IsWithin};
-ghost use Rattle.mk_trace.specs.Below.Heaps.Reports.{history_of};
+ghost use Rattle.mk_run.specs.Below.Heaps.Reports.{history_of};
 ghost use Rattle.mk_outputs.specs.{RunOutputs.IsSummaryOfRun, Summary.total_line};
 ghost use Rattle.mk_outputs.specs.SummedTexts.{line_of_text, summary_of_texts, AreFew};
 
@@ -12,7 +12,7 @@ use crate::outputs::Output;
 use crate::running::outcome_of;
 use mk_check::Text;
 use mk_never::NoMemory;
-use mk_trace::lower::heaps::Pace;
+use mk_run::lower::heaps::Pace;
 use std::alloc::Global;
 use std::sync::Wait;
 use std::thread::Threads;

@@ -10,9 +10,8 @@ use Rattle.mk_laws.proofs.Promises.{histories_keep_all_promises}
 use Rattle.mk_check.{proofs.GivenAnswers.serves, specs.Feed.has_ended, specs.Laws.AreNotedBy}
 use Rattle.mk_check.{specs.Laws.ops_of_caller, specs.Output.answers_among}
 use Rattle.mk_check.{specs.Output.answers_given, specs.Output.ended_calls, specs.Output.text_behind}
-use Rattle.mk_run.proofs.{BoundedRuns.quarantine_is_bounded, UnsweptHistories.unswept_is_precise}
+use Rattle.mk_heap.proofs.{BoundedQuarantine.quarantine_is_bounded, UnsweptHistories.unswept_is_precise}
 use Rattle.mk_run.specs.Headline.{NoAnswerIsLeft, RunsKeepTheirPromises, RunsPrintTheirTexts, RunsStandInOneHistory}
-use Rattle.mk_run.specs.Headline.{cycles_go_on}
 use Rattle.mk_heap.specs.Reports as report
 
 -- A caller has as many answers among the calls as operations.
@@ -103,7 +102,7 @@ runs_keep_their_promises program markers sweep last_cycle es h =
     record {
       promises = kept;
       releases = λ none. unswept_is_precise c es kept (h.unswept none);
-      bounded = quarantine_is_bounded (cycles_go_on markers) c h.whole.history h.cycles h.host;
+      bounded = quarantine_is_bounded h.whole.history h.cycles h.host;
     }
 
 pub runs_print_their_texts : RunsPrintTheirTexts

@@ -5,12 +5,13 @@ use Rattle.mk_laws.proofs.Vocabulary.{ltb-true, refl, seat_exists, subst, sym, t
 use Rattle.mk_laws.proofs.Vocabulary.{◌∙◌, ◌∷◌, ◌≡◌, ◌≤◌}
 use Rattle.mk_run.proofs.Vocabulary.{CallerState, Grows, Has, IsAtHome, IsFirstPass, IsScript, IsWhole, Item, PassKeeps}
 use Rattle.mk_run.proofs.Vocabulary.{PassState, WordsState, config_of, has_first, script_names, ⊎_elim}
-use Rattle.mk_core.specs.History.{AreEnabledFrom}
+use Rattle.mk_core.specs.{Growing.AreOfOthers, History.AreEnabledFrom}
 use Rattle.mk_heap.proofs.Below.Cycles.Begun.{begun_append, others_begin_none}
 use Rattle.mk_heap.specs.Below.Cycles.Begun.{AreBegunFirst, CyclesAreBegun, IsBegunFirst}
-use Rattle.mk_run.proofs.{JoinedScripts.same_or_later, UnsweptHistories.{markers_sweep, none_sweeps}}
-use Rattle.mk_run.specs.{Keeping.{ScriptsKeep, SeatKeeps}, Unswept.IsUnswept}
-use Rattle.mk_run.proofs.UnsweptScripts.{first_sweeps, others_on as others_sweep_on, seat_on as seat_sweeps_on}
+use Rattle.mk_heap.{proofs.UnsweptHistories.{markers_sweep, none_sweeps}, specs.Unswept.{IsUnswept}}
+use Rattle.mk_heap.proofs.UnsweptSeats.{first_sweeps, others_on as others_sweep_on, seat_on as seat_sweeps_on}
+use Rattle.mk_run.proofs.JoinedScripts.{same_or_later}
+use Rattle.mk_run.specs.Keeping.{RunKeeps, ScriptsKeep, SeatKeeps, by_seat}
 
 nowhere : (before : List Event) (e : Event) (behind : List Event) → [] ≡ before ++ e ∷ behind → ⊥
 nowhere [] e behind is = cc
@@ -62,13 +63,11 @@ module _ {sweeps : Bool} {begins : Config → Seat → List Event → List Event
 
   -- The callers are still.
   pub scripts_on : {program : List Item} {k : ℕ} {c : Config} {es : List Event} (fs : List Event)
-      → (SeatKeeps sweeps begins c Host es → SeatKeeps sweeps begins c Host fs)
       → ((j : ℕ) → k ≤ j → IsScript program j → Grows (Caller j ∷ []) es fs)
       → ScriptsKeep sweeps begins program k c es → ScriptsKeep sweeps begins program k c fs
-  scripts_on {c} {es} fs host still before = record {
+  scripts_on {c} {es} fs still before = record {
     callers = λ j le is. others_on c (Caller j) (Caller j ∷ []) es fs (has_first (Caller j) []) (still j le is)
         (before.callers j le is);
-    host = host before.host;
   }
 
   -- One more is joined.
@@ -79,37 +78,82 @@ module _ {sweeps : Bool} {begins : Config → Seat → List Event → List Event
     callers = λ j le is. ⊎_elim (λ (same : j ≡ k). rw same (others_on c (Caller k) (Caller k ∷ []) es fs
         (has_first (Caller k) []) (subst (λ (l : List Seat). Grows l es fs) alone came) mine))
         (λ (later : k + 1 ≤ j). others.callers j later is) (same_or_later k j le);
-    host = others.host;
   }
 
   -- before any is made
   pub none_joined : (program : List Item) (k : ℕ) (c : Config) (es : List Event) → es ≡ []
       → k ≡ length (script_names program) → ScriptsKeep sweeps begins program k c es
-  none_joined program k c es none all =
-      record { callers = λ j le is. absurd (omega arith); host = first_keeps c Host es none }
+  none_joined program k c es none all = record { callers = λ j le is. absurd (omega arith) }
 
-  -- All seats of the whole run are the scripts', the host's and markers'. No marker begins a cycle or sweeps.
-  module _ (program : List Item) (markers : ℕ) {w d : Config} {es seen : List Event}
-      (made : w ≡ config_of program markers) (same : d ≡ w) (is : es ≡ seen) (whole : IsWhole d es)
-      (keep : ScriptsKeep sweeps begins program 0 w seen) where
-    abbrev c : Config
-    c = config_of program markers
+  -- The host has taken no step.
+  pub unseen_keeps : (c : Config) (s : Seat) (es : List Event) → AreOfOthers (s ∷ []) es
+      → SeatKeeps sweeps begins c s es
+  unseen_keeps c s es others =
+      others_on c s (s ∷ []) [] es (has_first s []) (record { more = es; is = refl; of_others = others })
+      (first_keeps c s [] refl)
 
-    history : IsHistory c es
-    history = (subst (λ (x : Config). IsWhole x es) (same ∙ made) whole).history
+-- What is done by the same rule whoever begins.
+pub same_by_seat : {begins : Config → Seat → List Event → List Event → Type 0} {c : Config} {es : List Event}
+    → CyclesAreBegun (by_seat begins begins) c es → CyclesAreBegun begins c es
+same_by_seat {begins} {c} are b =
+    let one = are b in record {
+      first = one.first;
+      rest = one.rest;
+      is = one.is;
+      part = same b.event.seat one.part;
+      marking = one.marking;
+      holds = one.holds;
+    }
+  where
+    same : (s : Seat) {xs ys : List Event} → by_seat begins begins c s xs ys → begins c s xs ys
+    same (Caller j) part = part
+    same (Marker j) part = part
+    same Host part = part
 
-    scripts : ScriptsKeep sweeps begins program 0 c es
-    scripts = rw is (subst (λ (x : Config). ScriptsKeep sweeps begins program 0 x seen) made keep)
+-- All seats of the whole run are the scripts', the host's and markers'. No marker begins a cycle or sweeps.
+module _ {sweeps : Bool} {begins : Config → Seat → List Event → List Event → Type 0} {host_sweeps : Bool}
+    {host_begins : Config → Seat → List Event → List Event → Type 0} (program : List Item) (markers : ℕ)
+    {w d : Config} {es seen : List Event} (made : w ≡ config_of program markers) (same : d ≡ w) (is : es ≡ seen)
+    (whole : IsWhole d es) (keep : RunKeeps sweeps begins host_sweeps host_begins program w seen) where
+  abbrev c : Config
+  c = config_of program markers
 
-    pub run_is_begun : CyclesAreBegun begins c es
-    run_is_begun b = let at = open_to_its_seat b history in by b.event.seat at.0 at.1 refl
-      where
-        by : (s : Seat) → seat_exists c s ≡ true → is_open_to s (group_of b.event.step) ≡ true → b.event.seat ≡ s
-            → IsBegunFirst begins c s (through b) b.behind
-        by (Caller j) exists may is =
-            (scripts.callers j (omega arith) (ltb-true j (length (script_names program)) exists)).begun b is
-        by (Marker j) exists may is = absurd (true≢false (sym b.of_kind ∙ (grind arith)))
-        by Host exists may is = scripts.host.begun b is
+  history : IsHistory c es
+  history = (subst (λ (x : Config). IsWhole x es) (same ∙ made) whole).history
 
-    pub run_is_unswept : sweeps ≡ false → IsUnswept c es
-    run_is_unswept off = grind (arith, none_sweeps, history, scripts, ltb-true, markers_sweep)
+  keeps : RunKeeps sweeps begins host_sweeps host_begins program c es
+  keeps =
+      rw is (subst (λ (x : Config). RunKeeps sweeps begins host_sweeps host_begins program x seen) made keep)
+
+  pub run_is_begun : CyclesAreBegun (by_seat begins host_begins) c es
+  run_is_begun b = let at = open_to_its_seat b history in by b.event.seat at.0 at.1 refl
+    where
+      caller : (j : ℕ) → b.event.seat ≡ Caller j → IsBegunFirst begins c (Caller j) (through b) b.behind
+          → IsBegunFirst (by_seat begins host_begins) c (Caller j) (through b) b.behind
+      caller j of_seat one = record {
+        first = one.first;
+        rest = one.rest;
+        is = one.is;
+        part = one.part;
+        marking = one.marking;
+        holds = one.holds;
+      }
+
+      by : (s : Seat) → seat_exists c s ≡ true → is_open_to s (group_of b.event.step) ≡ true → b.event.seat ≡ s
+          → IsBegunFirst (by_seat begins host_begins) c s (through b) b.behind
+      by (Caller j) exists may of_seat =
+          caller j of_seat ((keeps.scripts.callers j (omega arith)
+          (ltb-true j (length (script_names program)) exists)).begun b of_seat)
+      by (Marker j) exists may of_seat = absurd (true≢false (sym b.of_kind ∙ (grind arith)))
+      by Host exists may of_seat =
+          let one = keeps.host.begun b of_seat in record {
+            first = one.first;
+            rest = one.rest;
+            is = one.is;
+            part = one.part;
+            marking = one.marking;
+            holds = one.holds;
+          }
+
+  pub run_is_unswept : sweeps ≡ false → host_sweeps ≡ false → IsUnswept c es
+  run_is_unswept off host_off = grind (arith, none_sweeps, history, keeps, ltb-true, markers_sweep)

@@ -5,10 +5,7 @@ mod ReadyScripts
 pub mod MarkersBeside
 mod ScriptCalls
 mod WholeRuns
-pub mod BoundedRuns
 pub mod Headline
 pub mod ObservedRuns
-pub mod UnsweptHistories
-pub mod UnsweptScripts
 pub mod KeptScripts
 pub mod Vocabulary

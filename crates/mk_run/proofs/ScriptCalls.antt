@@ -10,8 +10,10 @@ use Rattle.mk_run.proofs.Vocabulary.{next_op, script_names}
 use Rattle.mk_heap.{proofs.Dispatched.then_seen, specs.Dispatching.as_told}
 use Rattle.mk_heap.specs.Below.Objects.TurnCycles.{TurnsOfAreExact}
 use Rattle.mk_heap.specs.Below.Callers.States.{Admits, caller_of_pass}
-use Rattle.mk_run.specs.Scripts.{IsRunning, Script, ScriptTakesAnswer}
+use Rattle.mk_run.specs.Scripts.{CountsHaveRoom, IsRunning, Script, ScriptTakesAnswer, script_of}
+use Rattle.mk_run.specs.declared.scripts.Counts.{Counts}
 use Rattle.mk_check.proofs.{AdmittedScripts.next_is_admitted, FeedLaws.{feed_push, ops-feed_push}, Observed.word_taken}
+use Rattle.mk_check.proofs.FewOperations.{scripts_ask_for_few}
 use Rattle.mk_check.specs.{Feed.{Fed, Scope, take_answer}, Blocks.Blocks, Declarations.globals_of}
 use Rattle.mk_check.specs.{Feeding.{FeedStandsFor, FeedState}, Laws.{AreNotedBy, ops_of_caller}, Output.answers_among}
 
@@ -187,3 +189,11 @@ module _ {on : Bool} {program : List Item} {k : ℕ} {p q : PassState} {s : Scri
 pub refused_within : {program : List Item} {k : ℕ} {answers : List Answer} {s : Script}
     → IsFedWith program k answers s → s.refused ≤ s.ops
 refused_within {answers} fed = omega (arith, count_by-le-length is_refusal answers, fed.ops, fed.refused)
+
+-- A script asks for a million operations at most, so there is room for one more.
+pub has_room : {program : List Item} {k : ℕ} {answers : List Answer} (feed : FeedState) (counts : Counts)
+    → IsChecked program → IsFedWith program k answers (script_of feed counts) → CountsHaveRoom counts
+has_room {program} {k} {answers} feed counts checked fed =
+    let few = scripts_ask_for_few program k answers checked.well_typed in
+    let ops = fed.ops ∙ sym fed.feed.taken in
+    record { ops = omega (arith, few, ops); refused = refused_within fed }

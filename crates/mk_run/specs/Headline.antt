@@ -11,7 +11,7 @@ use Rattle.mk_heap.specs.{Below.Words.Seats.has_over, Below.Objects.Bounds.Quara
 use Rattle.mk_laws.specs.{Precision.CyclesArePrecise, Promises.KeepsAllPromises}
 use Rattle.mk_heap.specs.HostTurns.{HostComesLast}
 use Rattle.mk_run.specs.{declared.outcomes.Outcome.Outcome, Running.IsRunOf}
-use Rattle.mk_run.specs.Unswept.{IsUnswept}
+use Rattle.mk_heap.specs.Unswept.{IsUnswept}
 use Rattle.mk_heap.specs.Reports as report
 
 -- Whether the cycle that a Free begins goes on after its call: where there are markers to work on it.

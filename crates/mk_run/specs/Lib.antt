@@ -6,6 +6,4 @@ pub mod Headline
 pub mod ObservedRuns
 pub mod Running
 pub mod Scripts
-pub mod Unswept
-pub mod UnsweptSeats
 pub mod Keeping

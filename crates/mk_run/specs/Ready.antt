@@ -20,7 +20,7 @@ pub record AreReadyFrom {E : Type 0} (made_for : E → ℕ) (program : List Item
       → IsReadyScript made_for program c.pages (k + i) ready
 
 -- All scripts are ready, and so is the engine of the host.
-pub record IsReadyRun {E : Type 0} (made_for : E → ℕ) (program : List Item) (c : Config) (ready : ReadyRun E)
-    : Type 0 where
+pub record IsReadyRun {E : Type 0} {F : Type 0} (made_for : E → ℕ) (made_for_host : F → ℕ) (program : List Item)
+    (c : Config) (ready : ReadyRun E F) : Type 0 where
   pub scripts : AreReadyFrom made_for program c 0 ready.scripts.items
-  pub host : made_for ready.host ≡ c.pages
+  pub host : made_for_host ready.host ≡ c.pages

@@ -1,7 +1,7 @@
 //! Scripts with markers beside them, from their first calls to the host's word that all is over.
 ghost use Rattle.std.specs.{Prelude.{◌≡◌, true}, Thread.IsSync};
 ghost use Rattle.mk_heap.specs.{Crews.HasMade, Hosts.AllAreJoined, LastTurns.TakesLastTurns};
-ghost use Rattle.mk_run.specs.{Keeping.ScriptsKeep, Marking.IsOver, Ready.IsReadyRun};
+ghost use Rattle.mk_run.specs.{Keeping.RunKeeps, Marking.IsOver, Ready.IsReadyRun};
 ghost use denote.Param.Send.{IsSend};
 
 use crate::joining::{Joined, run_from};
@@ -16,28 +16,29 @@ use std::thread::Threads;
 
 /// The texts of scripts that are joined, and the engine of the host's own cycles.
 #[derive(Drop)]
-pub(crate) struct Done<E: Engine> {
+pub(crate) struct Done<F: Engine> {
     pub(crate) texts: Result<Vec<Text>, NoMemory>,
-    pub(crate) engine: E,
+    pub(crate) engine: F,
 }
 
 /// Runs all scripts and joins them, runs a last cycle where one is asked for, and announces to the markers that all is
 /// over.
-fn run_scripts<E: Engine + Send, P: Pace + Sync, R: Threads + Wait + Sync>(
+fn run_scripts<E: Engine + Send, F: Engine + Send, P: Pace + Sync, R: Threads + Wait + Sync>(
     rt: &R,
     run: &Run,
     pace: &P,
     host: Host,
-    ready: ReadyRun<E>,
-) -> (Host, Done<E>)
+    ready: ReadyRun<E, F>,
+) -> (Host, Done<F>)
     requires shared { IsSync R.row × IsSync P.row × IsSend E.row }
     requires host { HasMade run.now.heap.now run.now.markers 0 host }
-    requires ready { IsReadyRun E.made_for run.now.program.now run.now.heap.now.config ready }
+    requires ready { IsReadyRun E.made_for F.made_for run.now.program.now run.now.heap.now.config ready }
     ensures over { IsOver E.on run.now.with_cycle run.now.program.now run.now.heap.now run.now.markers result.0
         result.1 }
     ensures turns { run.now.with_cycle ≡ true
-        → TakesLastTurns (E.tells result.1.engine) run.now.heap.now result.0.pass }
-    ensures keep { ScriptsKeep E.sweeps E.begins run.now.program.now 0 run.now.heap.now.config result.0.pass.seen }
+        → TakesLastTurns (F.tells result.1.engine) run.now.heap.now result.0.pass }
+    ensures keep { RunKeeps E.sweeps E.begins F.sweeps F.begins run.now.program.now run.now.heap.now.config
+        result.0.pass.seen }
 {
     let ReadyRun {
         scripts,
@@ -49,22 +50,22 @@ fn run_scripts<E: Engine + Send, P: Pace + Sync, R: Threads + Wait + Sync>(
 }
 
 /// Runs all scripts and markers, each on a thread of its own, and joins them.
-pub(crate) fn run_beside<E: Engine + Send, P: Pace + Sync, R: Threads + Wait + Sync>(
-    rt: &R,
-    run: &Run,
-    pace: &P,
-    host: Host,
-    ready: ReadyRun<E>,
-) -> (Host, Done<E>)
+pub(crate) fn run_beside<
+    E: Engine + Send,
+    F: Engine + Send,
+    P: Pace + Sync,
+    R: Threads + Wait + Sync,
+>(rt: &R, run: &Run, pace: &P, host: Host, ready: ReadyRun<E, F>) -> (Host, Done<F>)
     requires shared { IsSync R.row × IsSync P.row × IsSend E.row }
     requires host { HasMade run.now.heap.now 0 0 host }
-    requires ready { IsReadyRun E.made_for run.now.program.now run.now.heap.now.config ready }
+    requires ready { IsReadyRun E.made_for F.made_for run.now.program.now run.now.heap.now.config ready }
     ensures over { IsOver E.on run.now.with_cycle run.now.program.now run.now.heap.now run.now.markers result.0
         result.1 }
     ensures joined { AllAreJoined result.0 }
     ensures turns { run.now.with_cycle ≡ true
-        → TakesLastTurns (E.tells result.1.engine) run.now.heap.now result.0.pass }
-    ensures keep { ScriptsKeep E.sweeps E.begins run.now.program.now 0 run.now.heap.now.config result.0.pass.seen }
+        → TakesLastTurns (F.tells result.1.engine) run.now.heap.now result.0.pass }
+    ensures keep { RunKeeps E.sweeps E.begins F.sweeps F.begins run.now.program.now run.now.heap.now.config
+        result.0.pass.seen }
 {
     let heap = run.heap;
     let markers = run.markers;
@@ -75,16 +76,16 @@ pub(crate) fn run_beside<E: Engine + Send, P: Pace + Sync, R: Threads + Wait + S
         markers,
         0,
         host,
-        move |host: Host| -> (Host, Done<E>)
+        move |host: Host| -> (Host, Done<F>)
             requires shared { IsSync R.row × IsSync P.row × IsSend E.row }
             requires host { HasMade run.now.heap.now run.now.markers 0 host }
-            requires ready { IsReadyRun E.made_for run.now.program.now run.now.heap.now.config ready }
+            requires ready { IsReadyRun E.made_for F.made_for run.now.program.now run.now.heap.now.config ready }
             ensures over { IsOver E.on run.entry.now.with_cycle run.entry.now.program.now run.entry.now.heap.now
                 run.entry.now.markers result.0 result.1 }
             ensures turns { run.entry.now.with_cycle ≡ true
-                → TakesLastTurns (E.tells result.1.engine) run.entry.now.heap.now result.0.pass }
-            ensures keep { ScriptsKeep E.sweeps E.begins run.entry.now.program.now 0 run.entry.now.heap.now.config
-                result.0.pass.seen }
+                → TakesLastTurns (F.tells result.1.engine) run.entry.now.heap.now result.0.pass }
+            ensures keep { RunKeeps E.sweeps E.begins F.sweeps F.begins run.entry.now.program.now
+                run.entry.now.heap.now.config result.0.pass.seen }
         { run_scripts(rt, run, pace, host, ready) },
     )
 }

@@ -18,24 +18,24 @@ pub struct ReadyScript<E: Engine> {
     pub engine: E,
 }
 
-/// All scripts of a run, in order, and an engine for the host.
+/// All scripts of a run, in order, and an engine for the host, of another kind.
 #[derive(Drop)]
-pub(crate) struct ReadyRun<E: Engine> {
+pub(crate) struct ReadyRun<E: Engine, F: Engine> {
     pub(crate) scripts: VecDeque<ReadyScript<E>>,
-    pub(crate) host: E,
+    pub(crate) host: F,
 }
 
-impl<E: Engine> ReadyRun<E> {
+impl<E: Engine, F: Engine> ReadyRun<E, F> {
     /// The scripts of a program, and engines for a heap of these sizes.
     pub(crate) fn new(
         alloc: Global,
         program: &Checked,
         config: &Config,
-    ) -> Result<ReadyRun<E>, NoMemory>
+    ) -> Result<ReadyRun<E, F>, NoMemory>
         requires scripts { config.now.callers ≡ length (script_names program.now) }
-        ensures ready { IfOk result (λ ready. IsReadyRun E.made_for program.now config.now ready) }
+        ensures ready { IfOk result (λ ready. IsReadyRun E.made_for F.made_for program.now config.now ready) }
     {
-        let host = E::make(alloc, config.pages)?;
+        let host = F::make(alloc, config.pages)?;
         let mut scripts = VecDeque::new(alloc);
         for script in 0..config.callers {
             let feed = Feed::start(alloc, program, script)?;

@@ -1,8 +1,9 @@
 //! The run of a program.
 ghost use Rattle.std.specs.Prelude.{◌≡◌, ◌≤◌, IfOk, true, false};
 ghost use Rattle.mk_check.specs.{Declarations.config_of, Observed.ObservedRun};
-ghost use Rattle.mk_heap.specs.{Below.Cycles.Begun.CyclesAreBegun, Reports.history_of, LastCycle.EndsWithCycle};
-ghost use Rattle.mk_run.specs.{Headline.printed, Running.IsRunOf, Unswept.IsUnswept};
+ghost use Rattle.mk_heap.specs.{Below.Cycles.Begun.CyclesAreBegun, LastCycle.EndsWithCycle, Unswept.IsUnswept};
+ghost use Rattle.mk_heap.specs.Reports.{MarkersAreBelow, history_of};
+ghost use Rattle.mk_run.specs.{Headline.printed, Keeping.by_seat, Running.IsRunOf};
 
 use crate::marking::{Done, run_beside};
 use crate::outcomes::Outcome;
@@ -17,28 +18,35 @@ use std::sync::Wait;
 use std::thread::Threads;
 
 /// Runs all and closes the heap. Where a last cycle is asked for, the host runs it when the scripts are joined, before
-/// it announces that all is over. The engine that is returned closed the marks of that cycle.
-pub(crate) fn run_and_close<E: Engine + Send, P: Pace + Sync, R: Threads + Wait + Sync>(
+/// it announces that all is over. The scripts' cycles are made by engines `E`, and the host's by an engine `F`. That is
+/// returned: it closed the marks of the last cycle.
+pub(crate) fn run_and_close<
+    E: Engine + Send,
+    F: Engine + Send,
+    P: Pace + Sync,
+    R: Threads + Wait + Sync,
+>(
     rt: &R,
     alloc: Global,
     program: &Checked,
     markers: u64,
     pace: &P,
     with_cycle: bool,
-) -> Result<(Outcome, E), NoMemory>
+) -> Result<(Outcome, F), NoMemory>
     requires markers { markers ≤ 8 }
     ensures runs { IfOk result (λ ran. IsRunOf E.on with_cycle program.now markers ran.0) }
     ensures cycle { with_cycle ≡ true
-        → IfOk result (λ ran. EndsWithCycle (E.tells ran.1) (config_of program.now markers)
+        → IfOk result (λ ran. EndsWithCycle (F.tells ran.1) (config_of program.now markers)
         (history_of ran.0.report)) }
-    ensures reached { IfOk result (λ ran. E.sweeps ≡ false
+    ensures reached { IfOk result (λ ran. E.sweeps ≡ false → F.sweeps ≡ false
         → IsUnswept (config_of program.now markers) (history_of ran.0.report)) }
     ensures begun { IfOk result (λ ran.
-        CyclesAreBegun E.begins (config_of program.now markers) (history_of ran.0.report)) }
+        CyclesAreBegun (by_seat E.begins F.begins) (config_of program.now markers) (history_of ran.0.report)) }
+    ensures markers { IfOk result (λ ran. MarkersAreBelow markers (history_of ran.0.report)) }
 {
     // No thread is started before all is ready.
     let config = program.config(alloc, markers)?;
-    let ready: ReadyRun<E> = ReadyRun::new(alloc, program, &config)?;
+    let ready: ReadyRun<E, F> = ReadyRun::new(alloc, program, &config)?;
     let (heap, host) = Heap::new(alloc, &config)?;
     let run = Run {
         alloc,
@@ -74,7 +82,8 @@ pub fn run_all<E: Engine + Send, P: Pace + Sync, R: Threads + Wait + Sync>(
         → IsUnswept (config_of program.now markers) (history_of outcome.report)) }
     ensures begun { IfOk result (λ outcome.
         CyclesAreBegun E.begins (config_of program.now markers) (history_of outcome.report)) }
+    ensures markers { IfOk result (λ outcome. MarkersAreBelow markers (history_of outcome.report)) }
 {
-    let ran: (Outcome, E) = run_and_close(rt, alloc, program, markers, pace, false)?;
+    let ran: (Outcome, E) = run_and_close::<E, E, P, R>(rt, alloc, program, markers, pace, false)?;
     Ok(ran.0)
 }

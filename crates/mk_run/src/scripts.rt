@@ -1,11 +1,12 @@
 //! The run of one script.
-ghost use Rattle.std.specs.Prelude.{◌≡◌, ℕ, List, ◌+◌, [], ◌∷◌, count_by, IfOk, OnOk, true};
+ghost use Rattle.std.specs.Prelude.{◌≡◌, ◌<◌, ℕ, List, ◌+◌, [], ◌∷◌, count_by, IfOk, OnOk, true};
 ghost use Rattle.mk_core.specs.declared.events.Answer.{Answer};
 ghost use Rattle.mk_script.specs.declared.items.Item.{Item};
 ghost use Rattle.mk_heap.specs.{Below.Callers.States.caller_of_pass, Below.Objects.Underway.PassKeeps};
 ghost use Rattle.mk_run.specs.{Ready.IsReadyScript, Running.{answers_in, FollowsScript, EndsScript, IsTextOf}};
 ghost use Rattle.mk_run.specs.Scripts.{CountsHaveRoom, IsFedWith, ScriptTakesAnswer, script_of};
-ghost use Rattle.mk_check.specs.{Declarations.config_of, Feed.feed as feed_with, Feeding.IsWaiting, Laws.IsScript};
+ghost use Rattle.mk_check.specs.{Declarations.config_of, Feed.feed as feed_with, Feeding.{IsWaiting, work_left}};
+ghost use Rattle.mk_check.specs.Laws.{IsScript};
 
 use crate::ready::ReadyScript;
 use mk_check::{Checked, Feed, Text, is_refusal};
@@ -55,7 +56,7 @@ fn take_answer(
     requires room { CountsHaveRoom counts.old }
     ensures takes { OnOk result
         (ScriptTakesAnswer answer (script_of feed.old counts.old) (script_of feed.new counts.new)) }
-    ensures ops { OnOk result (counts.new.ops ≡ counts.old.ops + 1) }
+    ensures nearer { OnOk result (work_left feed.new < work_left feed.old) }
 {
     feed.answer(alloc, answer)?;
     counts.count(answer);
@@ -109,17 +110,12 @@ pub fn run_script<E: Engine, P: Pace, R: Threads + Wait + Sync>(
         mut engine,
     } = ready;
     let mut counts = Counts { ops: 0, refused: 0 };
-    'instructions: while counts.ops < u64::MAX {
-        let Some(op) = feed.op() else {
-            return text_of(alloc, &feed, counts);
-        };
+    'instructions: while let Some(op) = feed.op() {
         let instruction = counts.ops;
         pace.before(k, instruction);
         let answer = answer_to(rt, caller, &mut engine, op);
         pace.answered(k, instruction);
         take_answer(alloc, &mut feed, &mut counts, answer)?;
     }
-    // More operations than can be counted aren't run.
-    'ever: for _ in rt.forever() {}
-    unreachable!()
+    text_of(alloc, &feed, counts)
 }

@@ -1,9 +1,10 @@
 //! The run of a program with a last cycle, and what that cycle keeps.
 ghost use Rattle.std.specs.Prelude.{◌≡◌, ◌≤◌, IfOk, true, false};
 ghost use Rattle.mk_check.specs.{Declarations.config_of, Observed.ObservedRun};
-ghost use Rattle.mk_heap.specs.{Below.Cycles.Begun.CyclesAreBegun, Reports.history_of, LastCycle.EndsWithCycle};
+ghost use Rattle.mk_heap.specs.{Below.Cycles.Begun.CyclesAreBegun, LastCycle.EndsWithCycle, Unswept.IsUnswept};
+ghost use Rattle.mk_heap.specs.Reports.{MarkersAreBelow, history_of};
 ghost use Rattle.mk_why.specs.Chains.{AreKept};
-ghost use Rattle.mk_run.specs.{Headline.printed, Running.IsRunOf, Unswept.IsUnswept};
+ghost use Rattle.mk_run.specs.{Headline.printed, Running.IsRunOf};
 
 use crate::outcomes::Outcome;
 use crate::running::run_and_close;
@@ -17,7 +18,7 @@ use std::sync::Wait;
 use std::thread::Threads;
 
 /// Runs as `run_all` does, with a last cycle when the scripts are joined, and reports what that cycle keeps and why.
-/// The engine is `Why` around `E`, which makes the marks.
+/// The scripts' cycles are made by `E`, and the last one by a `Why` around it: it alone notes what is kept.
 pub fn run_why<E: Engine + Send, P: Pace + Sync, R: Threads + Wait + Sync>(
     rt: &R,
     alloc: Global,
@@ -34,8 +35,11 @@ pub fn run_why<E: Engine + Send, P: Pace + Sync, R: Threads + Wait + Sync>(
         → IsUnswept (config_of program.now markers) (history_of ran.0.report)) }
     ensures begun { IfOk result (λ ran.
         CyclesAreBegun E.begins (config_of program.now markers) (history_of ran.0.report)) }
+    ensures markers { IfOk result (λ ran. MarkersAreBelow markers (history_of ran.0.report)) }
 {
-    let ran: (Outcome, Why<E>) = run_and_close(rt, alloc, program, markers, pace, true)?;
+    let ran: (Outcome, Why<E>) = run_and_close::<E, Why<E>, P, R>(
+        rt, alloc, program, markers, pace, true,
+    )?;
     let (outcome, engine) = ran;
     let kept = engine.kept(alloc)?;
     Ok((outcome, kept))

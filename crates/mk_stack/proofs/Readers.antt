@@ -4,13 +4,15 @@ use Rattle.mk_stack.proofs.Vocabulary.{AreAllBy, AreBelow, Caller, CallerState, 
 use Rattle.mk_stack.proofs.Vocabulary.{Host, HostState, IsAtHome, IsHistory, PassState, ReadsStack, Seat, WordsState}
 use Rattle.mk_stack.proofs.Vocabulary.{asked, calls, calls_from, left, never_behind, never_first, own_replied, pass_for}
 use Rattle.mk_stack.proofs.Vocabulary.{replied_in, with_joined}
-use Rattle.mk_laws.proofs.Vocabulary.{List, ℕ, ap, arith, cases_eq, ne_eqb, refl, subst, sym, [], ◌++◌, ◌<◌, ◌∙◌, ◌∷◌}
-use Rattle.mk_laws.proofs.Vocabulary.{◌≡◌, ◌≢◌}
+use Rattle.mk_laws.proofs.Vocabulary.{Bool, List, ℕ, ap, arith, cases_eq, ne_eqb, refl, subst, sym, [], ◌++◌, ◌<◌}
+use Rattle.mk_laws.proofs.Vocabulary.{◌∙◌, ◌∷◌, ◌≡◌, ◌≢◌}
 use Rattle.mk_heap.proofs.Below.Words.Seats.{has_first, has_left, has_right, others_own, without_keeps}
 use Rattle.mk_heap.specs.{Hosts.with_caller_out, Below.Words.Seats.{has_over, without_seat}}
-use Rattle.mk_stack.proofs.{JoinedJobs.still_replied, OwnCalls.all_by, OwnCalls.below_later, OwnCalls.none_of}
+use Rattle.mk_stack.proofs.{JoinedJobs.{exact_on, still_exact, still_replied}, OwnCalls.all_by, OwnCalls.below_later}
+use Rattle.mk_stack.proofs.OwnCalls.{none_of}
 use Rattle.mk_stack.proofs.{Replies.asked_grown, Replies.own_in_parts, StackHistories.callers_are_below}
-use Rattle.mk_stack.specs.{Joining.IsReader, declared.walking.WalkPoint.WalkPoint}
+use Rattle.mk_heap.specs.Below.Objects.TurnCycles.{TurnsOfAreExact}
+use Rattle.mk_stack.specs.{Joining.IsReader, Passes.StaysExact, declared.walking.WalkPoint.WalkPoint}
 
 -- the reader's walk, when it is joined
 pub reads_stack : (w : WordsState) (h g : HostState) (s : CallerState) {q : PassState} (r : PassState) {numbers : List
@@ -18,10 +20,20 @@ pub reads_stack : (w : WordsState) (h g : HostState) (s : CallerState) {q : Pass
     → Grows r.seats r.seen g.pass.seen → ReadsStack w.config h numbers g
 reads_stack w h g s r table home walked same came = grind (arith, still_replied)
 
+-- over its walk
+read_exact : {on : Bool} (h : HostState) {p q : PassState} → p ≡ pass_for h (Caller 0)
+    → q ≡ record p { seen = q.seen } → StaysExact on p q
+    → TurnsOfAreExact on h.pass.table.config (Caller 0) h.pass.seen
+    → TurnsOfAreExact on h.pass.table.config (Caller 0) q.seen
+read_exact {on} h first is stays before =
+    exact_on stays (ap (λ (x : PassState). x.table) first) (ap (λ (x : PassState). x.seat) first) is
+    (subst (λ (x : PassState). TurnsOfAreExact on h.pass.table.config (Caller 0) x.seen) (sym first) before)
+
 pub is_reader : (h g k : HostState) (s : CallerState) (q r : PassState) → g ≡ with_caller_out h 0 → IsAtHome s
     (pass_for h (Caller 0)) → q ≡ record s.pass { seen = q.seen } → r ≡ q → k ≡ with_joined g r k.pass.seen
-    → Grows g.pass.seats g.pass.seen k.pass.seen → has_over k.pass.seen ≡ has_over g.pass.seen → IsReader h k
-is_reader h g k s q r out home is same joined own overs =
+    → Grows g.pass.seats g.pass.seen k.pass.seen → Grows r.seats r.seen k.pass.seen
+    → ((on : Bool) → StaysExact on s.pass q) → has_over k.pass.seen ≡ has_over g.pass.seen → IsReader h k
+is_reader h g k s q r out home is same joined own came stays overs =
     let first : s.pass ≡ pass_for h (Caller 0) = home.pass in
     let seats : r.seats ≡ Caller 0 ∷ [] =
     ap (λ (x : PassState). x.seats) same ∙ ap (λ (x : PassState). x.seats) is ∙ ap (λ (x : PassState). x.seats) first in
@@ -30,6 +42,9 @@ is_reader h g k s q r out home is same joined own overs =
       alone = seats;
       is = joined ∙ ap (λ (x : HostState). with_joined x r k.pass.seen) out;
       own = subst (λ (x : HostState). Grows x.pass.seats x.pass.seen k.pass.seen) out own;
+      exact = λ on before. still_exact (subst (λ (l : List Seat). Grows l r.seen k.pass.seen) seats came)
+          (subst (λ (x : PassState). TurnsOfAreExact on h.pass.table.config (Caller 0) x.seen) (sym same)
+          (read_exact h first is (stays on) before));
       overs = overs ∙ ap (λ (x : HostState). has_over x.pass.seen) out;
     }
 
@@ -57,7 +72,7 @@ module _ (h g : HostState) (reader : IsReader h g) where
       rw seats (has_left (without_seat (Caller 0) h.pass.seats) (Caller 0 ∷ []) Host
       (without_keeps (Caller 0) h.pass.seats Host refl has))
 
-  other_home : (k : ℕ) → k ≢ 0 → Has h.pass.seats (Caller k) → Has (without_seat (Caller 0) h.pass.seats) (Caller k)
+  pub other_home : (k : ℕ) → k ≢ 0 → Has h.pass.seats (Caller k) → Has (without_seat (Caller 0) h.pass.seats) (Caller k)
   other_home k ne has = without_keeps (Caller 0) h.pass.seats (Caller k) (ne_eqb 0 k (λ e. ne (sym e))) has
 
   pub callers_home : (k : ℕ) → Has h.pass.seats (Caller k) → Has g.pass.seats (Caller k)

@@ -1,9 +1,10 @@
 -- Jobs in the history of a running heap: what a caller's operations were replied there.
-use Rattle.std.specs.Prelude.{◌≡◌, ℕ, List, ◌++◌, slice_get, Option, Some, None}
+use Rattle.std.specs.Prelude.{◌≡◌, ℕ, Bool, List, ◌++◌, slice_get, Option, Some, None}
 use Rattle.mk_never.specs.{Types.kinds_of, declared.values.Value.TheVariants.Null}
 use Rattle.mk_core.specs.{declared.config.Config.Config, declared.events.Event.Event, Decided.asked}
 use Rattle.mk_core.specs.History.{calls, never_first}
 use Rattle.mk_heap.specs.{Below.Words.States.PassState, Below.Callers.States.{caller_of_pass, value_of}}
+use Rattle.mk_heap.specs.Below.Objects.Laws.{OwnAreExact}
 use Rattle.mk_stack.specs.{declared.jobs.Job.Job, declared.jobs.Job.TheVariants.{Push, Pop}, declared.jobs.Done.Done}
 use Rattle.mk_stack.specs.{declared.jobs.Done.TheVariants.{Popped, Empty}, declared.points.Point.Point}
 use Rattle.mk_stack.specs.{declared.points.Point.TheVariants.{Starting, Ended}, Jobs.{Replied, Leads, node_kinds}}
@@ -29,6 +30,10 @@ pub record GoesToPoint (p : PassState) (s : Point) (q : PassState) (t : Point) :
   pub all : List Replied
   pub leads : Leads s all t
   pub did : replied_to q ≡ replied_to p ++ all
+
+-- If each turn that its seat gave back did with cycles what its operation asks, each does so still.
+abbrev pub StaysExact : Bool → PassState → PassState → Type 0
+StaysExact on p q = OwnAreExact on p → OwnAreExact on q
 
 -- Its caller did the job, and this became of it.
 abbrev pub DoesJob : PassState → Job → Done → PassState → Type 0

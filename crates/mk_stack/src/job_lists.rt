@@ -1,6 +1,6 @@
 //! Lists of jobs, each done by a caller of its own.
 ghost use Rattle.std.specs.Prelude.{◌≡◌, IfOk};
-ghost use Rattle.mk_stack.specs.{JobLists.DoesJobs, Ready.IsReadyForJobs};
+ghost use Rattle.mk_stack.specs.{JobLists.DoesJobs, Passes.StaysExact, Ready.IsReadyForJobs};
 
 use crate::jobs::{Done, Job};
 use crate::stacks::do_job;
@@ -37,6 +37,7 @@ pub fn run_jobs<E: Engine, P: Pace, R: Threads + Wait + Sync>(
     requires ready { IsReadyForJobs E.made_for caller.old engine.old }
     ensures ready { IsReadyForJobs E.made_for caller.new engine.new }
     ensures pass { caller.new.pass ≡ record caller.old.pass { seen = caller.new.pass.seen } }
+    ensures exact { StaysExact E.on caller.old.pass caller.new.pass }
     ensures does { IfOk result (λ dones. DoesJobs caller.old.pass jobs.now dones.list.items caller.new.pass) }
 {
     let number = caller.number();

@@ -1,5 +1,5 @@
 //! Callers on threads of their own, and the host that joins them.
-ghost use Rattle.std.specs.{Prelude.{◌≡◌, ◌+◌, ◌<◌, ◌∷◌, [], drop, slice_get, IfSome, List, ℕ}, Thread.IsSync};
+ghost use Rattle.std.specs.{Prelude.{◌≡◌, ◌+◌, ◌<◌, ◌∷◌, [], Bool, drop, slice_get, IfSome, List, ℕ}, Thread.IsSync};
 ghost use Rattle.mk_heap.specs.{Below.Callers.States.IsIdleCaller, Crews.HasMade};
 ghost use Rattle.mk_stack.specs.{Jobs.Replied, Joining.{AreCallersFrom, HasWorked, HaveWorked, IsBetweenJobs}};
 ghost use Rattle.mk_stack.specs.Passes.{replied_to};
@@ -48,10 +48,10 @@ fn work_alone<E: Engine, P: Pace, R: Threads + Wait + Sync>(
     mut engine: E,
 ) -> Worked
     requires exists { k < run.now.heap.now.config.callers }
-    requires pass { IsBetweenJobs run.now.heap.now k pass }
+    requires pass { IsBetweenJobs E.on run.now.heap.now k pass }
     requires engine { E.made_for engine ≡ run.now.heap.now.config.pages }
     ensures worked { IfSome (slice_get run.now.lists.now k) (λ jobs.
-        HasWorked run.now.heap.now (replied_to pass) k jobs.list.items result) }
+        HasWorked E.on run.now.heap.now (replied_to pass) k jobs.list.items result) }
 {
     let jobs = &run.lists[k as usize];
     let mut caller = Caller::new(run.heap.words(), pass);
@@ -68,9 +68,10 @@ fn join_worked(heap: &Heap, worked: Worked, joined: Joined) -> Joined
     requires of_table { worked.pass.table ≡ heap.now }
     requires alone { worked.pass.seats ≡ worked.pass.seat ∷ [] }
     requires idle { IsIdleCaller worked.pass }
-    ensures { (markers : ℕ) (first : List Replied) (k : ℕ) (jobs : Jobs) (others : List Jobs)
-        → HasWorked heap.now first k jobs.list.items worked → HaveWorked heap.now markers [] (k + 1) others joined
-        → HaveWorked heap.now markers first k (jobs ∷ others) result }
+    ensures { (on : Bool) (markers : ℕ) (first : List Replied) (k : ℕ) (jobs : Jobs) (others : List Jobs)
+        → HasWorked on heap.now first k jobs.list.items worked
+        → HaveWorked on heap.now markers [] (k + 1) others joined
+        → HaveWorked on heap.now markers first k (jobs ∷ others) result }
 {
     let Worked { pass, dones } = worked;
     let Joined {
@@ -95,9 +96,9 @@ pub(crate) fn run_from<E: Engine + Send, P: Pace + Sync, R: Threads + Wait + Syn
     callers: Callers<E>,
 ) -> Joined
     requires shared { IsSync R.row × IsSync P.row × IsSend E.row }
-    requires callers { AreCallersFrom E.made_for run.now.heap.now k callers }
+    requires callers { AreCallersFrom E.on E.made_for run.now.heap.now k callers }
     requires host { HasMade run.now.heap.now run.now.markers (k + 1) host }
-    ensures joined { HaveWorked run.now.heap.now run.now.markers (replied_to callers.pass) k
+    ensures joined { HaveWorked E.on run.now.heap.now run.now.markers (replied_to callers.pass) k
         (drop k run.now.lists.now) result }
 {
     let Callers { pass, engines } = callers;
@@ -123,16 +124,16 @@ pub(crate) fn run_from<E: Engine + Send, P: Pace + Sync, R: Threads + Wait + Syn
         move || -> Worked
             requires shared { IsSync R.row × IsSync P.row × IsSend E.row }
             requires exists { k < run.now.heap.now.config.callers }
-            requires pass { IsBetweenJobs run.now.heap.now k pass }
+            requires pass { IsBetweenJobs E.on run.now.heap.now k pass }
             requires engine { E.made_for first ≡ run.now.heap.now.config.pages }
             ensures worked { IfSome (slice_get run.entry.now.lists.now k) (λ jobs.
-                HasWorked run.entry.now.heap.now (replied_to pass) k jobs.list.items result) }
+                HasWorked E.on run.entry.now.heap.now (replied_to pass) k jobs.list.items result) }
         { work_alone(rt, run, pace, k, pass, first) },
         move || -> Joined
             requires shared { IsSync R.row × IsSync P.row × IsSend E.row }
-            requires callers { AreCallersFrom E.made_for run.now.heap.now (k + 1) next }
+            requires callers { AreCallersFrom E.on E.made_for run.now.heap.now (k + 1) next }
             requires host { HasMade run.now.heap.now run.now.markers (k + 1 + 1) host }
-            ensures joined { HaveWorked run.entry.now.heap.now run.entry.now.markers (replied_to next.pass) (k + 1)
+            ensures joined { HaveWorked E.on run.entry.now.heap.now run.entry.now.markers (replied_to next.pass) (k + 1)
                 (drop (k + 1) run.entry.now.lists.now) result }
         { run_from(rt, run, pace, k + 1, host, next) },
     );

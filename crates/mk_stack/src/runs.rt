@@ -1,9 +1,11 @@
 //! A stack from first to last: callers do their jobs on it, each on a thread of its own.
-ghost use Rattle.std.specs.Prelude.{◌≡◌, ◌≤◌, length, true, false, IfOk};
+ghost use Rattle.std.specs.Prelude.{◌≡◌, ◌<◌, ◌≤◌, ℕ, length, true, false, IfOk};
 ghost use Rattle.mk_core.specs.Config.{IsBetween};
 ghost use Rattle.mk_heap.specs.{Below.Words.Seats.has_over, Reports.{config_of, history_of, HasCounts, IsWhole}};
+ghost use Rattle.mk_heap.specs.{Below.Objects.Bounds.QuarantineIsBounded, Below.Objects.TurnCycles.TurnsOfAreExact};
 ghost use Rattle.mk_heap.specs.HostTurns.{HostComesLast};
 ghost use Rattle.mk_stack.specs.StackRuns.{IsStackRun, stack_config};
+ghost use Rattle.mk_core.specs.declared.events.Seat.TheVariants as seat;
 
 use crate::engines::Engines;
 use crate::job_lists::{Dones, Jobs};
@@ -82,6 +84,12 @@ pub fn run_stack<E: Engine + Send, P: Pace + Sync, R: Threads + Wait + Sync>(
     ensures over { IfOk result (λ outcome. has_over (history_of outcome.report) ≡ true) }
     ensures counts { IfOk result (λ outcome.
         HasCounts (config_of outcome.report) (history_of outcome.report) outcome.report) }
+    ensures cycles { IfOk result (λ outcome. (k : ℕ) → k < length lists.now
+        → TurnsOfAreExact E.on (stack_config pages resident (length lists.now) markers) (seat.Caller k)
+        (history_of outcome.report)) }
+    ensures bounded { IfOk result (λ outcome.
+        QuarantineIsBounded E.on (stack_config pages resident (length lists.now) markers)
+        (history_of outcome.report)) }
     ensures runs { IfOk result (λ outcome.
         IsStackRun (stack_config pages resident (length lists.now) markers) (history_of outcome.report) lists.now
         outcome.done.items outcome.left.items) }

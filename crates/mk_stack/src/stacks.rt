@@ -1,8 +1,8 @@
 //! Numbers on a stack that callers share.
-ghost use Rattle.std.specs.Prelude.{◌≡◌, ◌<◌, OnOk, OnErr};
+ghost use Rattle.std.specs.Prelude.{◌≡◌, ◌<◌, Bool, OnOk, OnErr};
 ghost use Rattle.mk_heap.specs.Below.Callers.States.{value_of};
 ghost use Rattle.mk_stack.specs.Advancing.{Forgets, HoldsAt, IsFit, IsGoal, StaysEnded};
-ghost use Rattle.mk_stack.specs.Passes.{DoesJob, GoesToPoint, KeepsNoNode, other_node, popped};
+ghost use Rattle.mk_stack.specs.Passes.{DoesJob, GoesToPoint, KeepsNoNode, StaysExact, other_node, popped};
 ghost use Rattle.mk_stack.specs.Ready.{IsReady, IsReadyForJobs};
 
 use crate::advancing::{BELOW, NODE, UPPERMOST, next_point, op_at};
@@ -30,6 +30,7 @@ fn go<E: Engine, R: Threads + Wait + Sync>(
     requires holds { HoldsAt (value_of caller.old.pass) from }
     ensures ready { IsReadyForJobs E.made_for caller.new engine.new }
     ensures goes { GoesToPoint caller.old.pass from caller.new.pass result }
+    ensures exact { StaysExact E.on caller.old.pass caller.new.pass }
     ensures goal { IsGoal result }
 {
     let mut point = from;
@@ -53,6 +54,7 @@ pub(crate) fn found_stack<E: Engine, R: Threads + Wait + Sync>(
     requires ready { IsReadyForJobs E.made_for caller.old engine.old }
     ensures ready { IsReadyForJobs E.made_for caller.new engine.new }
     ensures founds { GoesToPoint caller.old.pass Point.Founding caller.new.pass Point.Founded }
+    ensures exact { StaysExact E.on caller.old.pass caller.new.pass }
 {
     let _founded = go(rt, caller, engine, Point::Founding);
 }
@@ -65,6 +67,7 @@ fn forget<R: Wait>(rt: &R, caller: &mut Caller, register: u8)
     ensures ready { IsReady caller.new }
     ensures pass { caller.new.pass ≡ record caller.old.pass { seen = caller.new.pass.seen } }
     ensures ended { StaysEnded caller.old.pass caller.new.pass }
+    ensures exact { (on : Bool) → StaysExact on caller.old.pass caller.new.pass }
     ensures forgets { Forgets caller.old.pass register caller.new.pass }
 {
     answer_when_open(rt, caller, Op::Clear { d: register });
@@ -91,6 +94,7 @@ pub fn do_job<E: Engine, R: Threads + Wait + Sync>(
     requires ready { IsReadyForJobs E.made_for caller.old engine.old }
     ensures ready { IsReadyForJobs E.made_for caller.new engine.new }
     ensures does { DoesJob caller.old.pass job result caller.new.pass }
+    ensures exact { StaysExact E.on caller.old.pass caller.new.pass }
     ensures fit { IsFit job result }
     ensures keeps { KeepsNoNode job caller.new.pass }
 {
@@ -113,6 +117,7 @@ pub fn push<E: Engine, R: Threads + Wait + Sync>(
     ensures ready { IsReadyForJobs E.made_for caller.new engine.new }
     ensures pushed { OnOk result (DoesJob caller.old.pass (Job.Push n) Done.Pushed caller.new.pass) }
     ensures full { OnErr result (DoesJob caller.old.pass (Job.Push n) Done.Full caller.new.pass) }
+    ensures exact { StaysExact E.on caller.old.pass caller.new.pass }
     ensures keeps { KeepsNoNode (Job.Push n) caller.new.pass }
 {
     match do_job(rt, caller, engine, Job::Push(n)) {
@@ -130,6 +135,7 @@ pub fn pop<E: Engine, R: Threads + Wait + Sync>(
     requires ready { IsReadyForJobs E.made_for caller.old engine.old }
     ensures ready { IsReadyForJobs E.made_for caller.new engine.new }
     ensures does { DoesJob caller.old.pass Job.Pop (popped result) caller.new.pass }
+    ensures exact { StaysExact E.on caller.old.pass caller.new.pass }
     ensures keeps { KeepsNoNode Job.Pop caller.new.pass }
 {
     match do_job(rt, caller, engine, Job::Pop) {

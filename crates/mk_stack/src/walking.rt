@@ -1,6 +1,6 @@
 //! A walk down the stack: a caller reads what is on it.
-ghost use Rattle.std.specs.Prelude.{◌≡◌, IfOk};
-ghost use Rattle.mk_stack.specs.{Ready.IsReady, Walks.{HasWalked, found_down, op_down}};
+ghost use Rattle.std.specs.Prelude.{◌≡◌, Bool, IfOk};
+ghost use Rattle.mk_stack.specs.{Passes.StaysExact, Ready.IsReady, Walks.{HasWalked, found_down, op_down}};
 ghost use Rattle.mk_stack.specs.declared.walking.WalkPoint.TheVariants as walk;
 
 use crate::advancing::{
@@ -80,6 +80,7 @@ pub(crate) fn read_stack<R: Wait>(
     requires ready { IsReady caller.old }
     ensures ready { IsReady caller.new }
     ensures pass { caller.new.pass ≡ record caller.old.pass { seen = caller.new.pass.seen } }
+    ensures exact { (on : Bool) → StaysExact on caller.old.pass caller.new.pass }
     ensures walked { IfOk result (λ left. HasWalked caller.old.pass left.items caller.new.pass walk.Ended) }
 {
     let mut left = Vec::new(alloc);

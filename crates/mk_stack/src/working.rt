@@ -36,7 +36,7 @@ fn found_and_work<E: Engine + Send, P: Pace + Sync, R: Threads + Wait + Sync>(
     requires shared { IsSync R.row × IsSync P.row × IsSend E.row }
     requires host { HasMade run.now.heap.now run.now.markers 0 host }
     requires engines { AreEnginesFrom E.made_for run.now.heap.now 0 engines }
-    ensures worked { HaveFoundedAndWorked run.now.heap.now run.now.markers run.now.lists.now result }
+    ensures worked { HaveFoundedAndWorked E.on run.now.heap.now run.now.markers run.now.lists.now result }
 {
     let mut first = host.caller(run.heap);
     found_stack(rt, &mut first, &mut engines.first);
@@ -71,7 +71,7 @@ fn work<E: Engine + Send, P: Pace + Sync, R: Threads + Wait + Sync>(
     requires shared { IsSync R.row × IsSync P.row × IsSend E.row }
     requires host { HasMade run.now.heap.now run.now.markers 0 host }
     requires engines { AreEnginesOf E.made_for run.now.heap.now engines }
-    ensures ended { HaveEnded run.now.heap.now run.now.markers run.now.lists.now result.0 result.1 }
+    ensures ended { HaveEnded E.on run.now.heap.now run.now.markers run.now.lists.now result.0 result.1 }
 {
     let Engines {
         callers,
@@ -94,7 +94,7 @@ pub(crate) fn work_beside<E: Engine + Send, P: Pace + Sync, R: Threads + Wait + 
     requires shared { IsSync R.row × IsSync P.row × IsSend E.row }
     requires host { HasMade run.now.heap.now 0 0 host }
     requires engines { AreEnginesOf E.made_for run.now.heap.now engines }
-    ensures ended { HaveEnded run.now.heap.now run.now.markers run.now.lists.now result.0 result.1 }
+    ensures ended { HaveEnded E.on run.now.heap.now run.now.markers run.now.lists.now result.0 result.1 }
     ensures joined { AllAreJoined result.0 }
 {
     let heap = run.heap;
@@ -110,7 +110,7 @@ pub(crate) fn work_beside<E: Engine + Send, P: Pace + Sync, R: Threads + Wait + 
             requires shared { IsSync R.row × IsSync P.row × IsSend E.row }
             requires host { HasMade run.now.heap.now run.now.markers 0 host }
             requires engines { AreEnginesOf E.made_for run.now.heap.now engines }
-            ensures ended { HaveEnded run.entry.now.heap.now run.entry.now.markers run.entry.now.lists.now result.0
+            ensures ended { HaveEnded E.on run.entry.now.heap.now run.entry.now.markers run.entry.now.lists.now result.0
                 result.1 }
         { work(rt, run, pace, host, engines) },
     )

@@ -10,8 +10,8 @@ use Rattle.mk_laws.proofs.Vocabulary.{false, inl, inr, left_append, left_in_part
 use Rattle.mk_laws.proofs.Vocabulary.{true, true≢false, [], ◌++◌, ◌||◌, ◌∙◌, ◌∷◌, ◌≡◌, ◌⊎◌}
 use Rattle.mk_laws.proofs.CyclePhases.{begin_is, phase_behind}
 use Rattle.mk_core.specs.{Cycles.Next, History.left_from}
-use Rattle.mk_run.proofs.{Below.Objects.ListParts.{lacks_first, lacks_second}, Below.Objects.HeldTurns.next_of}
-use Rattle.mk_run.specs.Below.Objects.TurnCycles.{RunsOneCycle}
+use Rattle.mk_heap.proofs.{Below.Objects.ListParts.{lacks_first, lacks_second}, Below.Objects.HeldTurns.next_of}
+use Rattle.mk_heap.specs.Below.Objects.TurnCycles.{RunsOneCycle}
 
 -- What lacks one kind lacks another, where each step of that is one of the first.
 pub lacks_by : (kind other : Step → Bool) → ((x : Step) → kind x ≡ false → other x ≡ false) → (es : List Event)

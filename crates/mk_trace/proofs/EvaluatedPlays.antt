@@ -1,19 +1,22 @@
 -- A small trace that is played: a store through a slot that is null, which is refused, and a new object.
 use Rattle.mk_trace.proofs.Vocabulary.{A, Caller, Config, Contents, Event, IsHistory, IsOfSomeTraceText, IsTidy, Op}
 use Rattle.mk_trace.proofs.Vocabulary.{Step, TalliesAreTidy, W, World, answered, calls, codes, config_of, first_world}
-use Rattle.mk_trace.proofs.Vocabulary.{flight_of, has_step, is_begin, lets_go, none_at, peaks_of, refused_events}
+use Rattle.mk_trace.proofs.Vocabulary.{Host, Marker, Seat, flight_of, has_step, is_begin, left, lets_go, none_at}
+use Rattle.mk_trace.proofs.Vocabulary.{peaks_of, refused_events, seat_exists}
 use Rattle.mk_trace.proofs.{Vocabulary.world_behind, ExactPlays.nothing_given, Playable.is_playable}
-use Rattle.mk_laws.proofs.Vocabulary.{List, None, Some, Tally, ap, arith, false, or_parts, refl, subst, sym, [], ◌++◌}
-use Rattle.mk_laws.proofs.{Vocabulary.{◌∙◌, ◌∷◌, ◌≡◌}, Promises.histories_keep_all_promises}
+use Rattle.mk_laws.proofs.Vocabulary.{List, None, Some, Tally, ap, arith, false, or_parts, refl, subst, sym, true, []}
+use Rattle.mk_laws.proofs.{Vocabulary.{◌++◌, ◌∙◌, ◌∷◌, ◌≡◌}, Promises.histories_keep_all_promises}
 use Rattle.mk_core.proofs.{Schedules.{by, c0, fault, first_fault}, EvaluatedHistories.enabled, EventsAt.{Also, AtEach}}
 use Rattle.mk_core.proofs.EventsAt.{at_each, ◌and◌}
 use Rattle.mk_core.specs.{Allocations.unreleased_storage, Bounded.all_below, Cells.pointed_cell}
 use Rattle.mk_core.specs.{Cycles.{NoneSweepsFrom, is_give}, History.{CallsAreAdmitted, calls_from, left_from}}
-use Rattle.mk_run.proofs.{Below.Objects.ListParts.lacks_second, Below.Objects.OwnGives.{none_more, one_more}}
-use Rattle.mk_run.proofs.{Below.Objects.Bounds.quarantine_of_one_is_bounded, Below.Words.Sweeping.other_steps_sweep}
-use Rattle.mk_run.specs.Below.Objects.TurnCycles.{EndsExactly, TurnsOfAreExact, is_hold, is_want}
-use Rattle.mk_run.specs.Below.Words.Sweeping.{is_mark}
-use Rattle.mk_run.{proofs.UnsweptHistories.{unswept_is_precise}, specs.Unswept.{IsUnswept}}
+use Rattle.mk_heap.proofs.{Below.Objects.ListParts.lacks_second, Below.Objects.OwnGives.{none_more, one_more}}
+use Rattle.mk_heap.proofs.{Below.Objects.Bounds.quarantine_of_one_is_bounded, Below.Words.Sweeping.other_steps_sweep}
+use Rattle.mk_heap.specs.Below.Objects.TurnCycles.{EndsExactly, TurnsOfAreExact, is_hold, is_want}
+use Rattle.mk_heap.specs.{Below.Words.Sweeping.is_mark, Hosts.{Rests, no_table}}
+use Rattle.mk_heap.proofs.{Below.Words.Seats.has_all, HostsKept.first_is_host}
+use Rattle.mk_core.specs.Moments.{first_moment}
+use Rattle.mk_heap.{proofs.UnsweptHistories.{unswept_is_precise}, specs.Unswept.{IsUnswept}}
 use Rattle.mk_trace.specs.{Grammar.along, Peaks.{found_by_ends_from, greatest_from}, Playing.IsPlayed}
 
 unfoldable pub stored_and_made : Contents
@@ -107,14 +110,28 @@ is_tidy before e behind is give =
 is_history : IsHistory (config_of stored_and_made) played
 is_history = grind (arith, is_playable, stored_and_made, is_of_text, enabled, played, no_fault, are_admitted)
 
+-- No call is in flight at its end, and no marker is in, as at first.
+
+at_first : (s : Seat) → seat_exists (config_of stored_and_made) s ≡ true
+    → Rests (first_moment (config_of stored_and_made)) s
+unfolding left_from
+at_first s exists =
+    let c = config_of stored_and_made in
+    (first_is_host (record { id = no_table.id; config = c })).rests s (has_all c s exists)
+
+all_rest : (s : Seat) → seat_exists (config_of stored_and_made) s ≡ true
+    → Rests (left (config_of stored_and_made) played).now s
+unfolding by c0 all_below pointed_cell stored_and_made played left_from
+all_rest (Caller k) exists = record { call = (at_first (Caller k) exists).call; out = refl }
+all_rest (Marker k) exists = record { call = refl; out = (at_first (Marker k) exists).out }
+all_rest Host exists = record { call = refl; out = refl }
+
 pub is_played : IsPlayed stored_and_made played
 unfolding by c0 all_below pointed_cell stored_and_made played left_from calls_from
 is_played = record {
-  history = is_history;
-  tidy = is_tidy;
-  refines = refl;
+  whole = record { history = is_history; tidy = is_tidy; rests = all_rest };
+  promises = histories_keep_all_promises (config_of stored_and_made) played is_history;
   ops = refl;
-  at_rest = refl;
   cycles = are_exact;
   host = refl;
   unswept = is_unswept;

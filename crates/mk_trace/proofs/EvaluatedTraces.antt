@@ -2,7 +2,7 @@
 use Rattle.std.proofs.Common.{Err}
 use Rattle.mk_laws.proofs.Vocabulary.{refl, [], ◌∷◌, ◌≡◌}
 use Rattle.mk_trace.proofs.Vocabulary.{A, C, F, K, Ok, TraceStop, W, Which, codes}
-use Rattle.mk_run.specs.Below.Checks.declared.typing_faults.TypeKind.{TypeKind}
+use Rattle.mk_check.specs.declared.typing_faults.TypeKind.{TypeKind}
 use Rattle.mk_script.specs.declared.faults.TextKind.{TextKind}
 use Rattle.mk_trace.specs.{Grammar.along, Traces.trace_of}
 

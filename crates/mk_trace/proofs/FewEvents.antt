@@ -7,7 +7,7 @@ use Rattle.mk_trace.proofs.Vocabulary.{trace_of_lines, type_fault_at, typed_even
 use Rattle.mk_trace.proofs.{Vocabulary.{words_of_line, written_from}, ReadLines.{gone_on, passed_else, then_next}}
 use Rattle.mk_laws.proofs.Vocabulary.{Bool, List, ℕ, ap, arith, drop, if◌then◌else◌, length, nat_le, subst, sym, []}
 use Rattle.mk_laws.proofs.Vocabulary.{◌+◌, ◌==◌, ◌∷◌, ◌≡◌, ◌≤◌}
-use Rattle.mk_run.proofs.Below.Checks.GrammarLemmas.{passed_then}
+use Rattle.mk_check.proofs.GrammarLemmas.{passed_then}
 use Rattle.mk_script.specs.Words.{without_empty_last}
 use Rattle.mk_trace.specs.{Grammar.along, Traces.{contents_from, words_of_slots}, declared.lines.Line.Line}
 

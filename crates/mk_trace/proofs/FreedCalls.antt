@@ -17,7 +17,7 @@ use Rattle.mk_laws.proofs.Vocabulary.{Bool, List, Some, ℕ, ap, append_assoc, a
 use Rattle.mk_laws.proofs.Vocabulary.{false, inl, inr, left_in_parts, length, never_in_parts, refl, subst, sym, true}
 use Rattle.mk_laws.proofs.Vocabulary.{[], ◌*◌, ◌++◌, ◌+◌, ◌<◌, ◌∙◌, ◌∷◌, ◌≡◌}
 use Rattle.mk_never.specs.Reach.IsReachable.{by_register}
-use Rattle.mk_run.specs.Below.Objects.TurnCycles.{FreeIsExact, FreesFirst, IsDueIn}
+use Rattle.mk_heap.specs.Below.Objects.TurnCycles.{FreeIsExact, FreesFirst, IsDueIn}
 use Rattle.mk_trace.specs.{Peaks.greatest_from, Players.DoesCall}
 
 -- What a call does to the flags of allocations: its operation frees one, or none.
@@ -108,7 +108,7 @@ module _ {on : Bool} {h : HostState} {o : Op} {told : Answer} {q : PassState} {f
 
 -- What is quarantined over a call of the caller: the most is that before, or where a Free has freed its object.
 
--- The same measure in other words
+-- Measures that agree on all lists of allocations have one maximum.
 
 greatest_alike : (c : Config) (f g : List PlacedAllocation → ℕ) → ((xs : List PlacedAllocation) → f xs ≡ g xs)
     → (w : World) (es : List Event) → greatest_from c w f es ≡ greatest_from c w g es

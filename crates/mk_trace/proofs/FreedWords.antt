@@ -13,7 +13,7 @@ use Rattle.mk_laws.proofs.Vocabulary.{if◌then◌else◌, length, map, not, ref
 use Rattle.mk_laws.proofs.{Vocabulary.{◌+◌, ◌||◌, ◌∙◌, ◌∷◌, ◌≡◌, ◌≢◌, ◌≤◌}, FreshWords.sum_filtered}
 use Rattle.mk_never.specs.Reach.{IsReachable}
 use Rattle.mk_core.specs.NewPlaces.{object_of}
-use Rattle.mk_run.proofs.Below.Objects.HeldFreed.{held_part, held_sum}
+use Rattle.mk_heap.proofs.Below.Objects.HeldFreed.{held_part, held_sum}
 
 -- The words of quarantined allocations, where a type says how many words one has.
 

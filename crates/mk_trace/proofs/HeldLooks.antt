@@ -6,9 +6,9 @@ use Rattle.mk_laws.proofs.Vocabulary.{Bool, List, None, Option, ℕ, ap, arith, 
 use Rattle.mk_laws.proofs.Vocabulary.{false, refl, subst, sym, [], ◌++◌, ◌∙◌, ◌∷◌, ◌≡◌}
 use Rattle.mk_laws.proofs.{Tallies.{exact_more, tallies_tell}, TallySteps.others_count_nothing}
 use Rattle.mk_core.specs.Counts.{TalliesAreExact}
-use Rattle.mk_run.proofs.{Below.Objects.Parts.seen_then, Below.Heaps.MovedHosts.{MovesOn, moves_more, turn_moves}}
-use Rattle.mk_run.proofs.{Below.Words.Made.made, Below.Words.Seats.others_nobody}
-use Rattle.mk_run.specs.{Below.Heaps.Turns.TellsWord, Below.Words.Taking.TakesTurn}
+use Rattle.mk_heap.proofs.{Below.Objects.Parts.seen_then, MovedHosts.{MovesOn, moves_more, turn_moves}}
+use Rattle.mk_heap.proofs.{Below.Words.Made.made, Below.Words.Seats.others_nobody}
+use Rattle.mk_heap.specs.{Turns.TellsWord, Below.Words.Taking.TakesTurn}
 
 -- Where the turn is taken, the tallies are what they count.
 exact_taken : {p q : PassState} (t : TakesTurn p None q) → Has t.waited.seats t.waited.seat

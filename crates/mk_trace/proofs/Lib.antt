@@ -1,4 +1,3 @@
-pub mod Below
 pub mod Vocabulary
 pub mod AdmittedEvents
 pub mod CountedAges

@@ -3,11 +3,11 @@ use Rattle.mk_trace.proofs.Vocabulary.{Config, Event, IsHistory, PlacedAllocatio
 use Rattle.mk_trace.proofs.{Vocabulary.{quarantined_words, reserved_words}, PeakParts.is_greatest}
 use Rattle.mk_laws.proofs.Vocabulary.{Bool, List, ℕ, arith, earlier_part_is_history, false, if◌then◌else◌, not, refl}
 use Rattle.mk_laws.proofs.Vocabulary.{subst, ◌&&◌, ◌++◌, ◌+◌, ◌≡◌, ◌≤◌}
-use Rattle.mk_run.proofs.Below.Objects.CountedWords.{filtered_in_parts}
-use Rattle.mk_run.proofs.Below.Objects.LittleHeld.{held_is_little_where_free}
-use Rattle.mk_run.proofs.Below.Objects.Quarters.{quarantined_is_fresh_or_kept}
-use Rattle.mk_run.specs.Below.Objects.Bounds.{QuarantineIsBounded, held_after}
-use Rattle.mk_run.specs.Below.Objects.KeptAllocations.{quarantined_mapped}
+use Rattle.mk_heap.proofs.Below.Objects.CountedWords.{filtered_in_parts}
+use Rattle.mk_heap.proofs.Below.Objects.LittleHeld.{held_is_little_where_free}
+use Rattle.mk_heap.proofs.Below.Objects.Quarters.{quarantined_is_fresh_or_kept}
+use Rattle.mk_heap.specs.Below.Objects.Bounds.{QuarantineIsBounded, held_after}
+use Rattle.mk_heap.specs.Below.Objects.KeptAllocations.{quarantined_mapped}
 use Rattle.mk_trace.specs.PeakBounds.{BoundsMeetPeaks, FreshIsQuarterOfPeak}
 
 -- What is quarantined is reserved, or mapped; and what is mapped is fresh, or was freed before the last `begin`.

@@ -4,7 +4,7 @@ use Rattle.mk_trace.proofs.Vocabulary.{is_grant, left, lets_go, max, nat_tests, 
 use Rattle.mk_laws.proofs.Vocabulary.{Bool, List, ℕ, ap, arith, cases_Bool, false, left_in_parts, nat_le, or_parts}
 use Rattle.mk_laws.proofs.Vocabulary.{refl, subst, sym, true, [], ◌++◌, ◌∙◌, ◌∷◌, ◌≡◌, ◌≤◌}
 use Rattle.mk_core.specs.History.{left_from}
-use Rattle.mk_run.proofs.Below.Objects.GrantParts.{LastIn}
+use Rattle.mk_heap.proofs.Below.Objects.GrantParts.{LastIn}
 use Rattle.mk_trace.specs.{Laws.IsGreatest, Peaks.greatest_from}
 
 -- The greatest measure over a history in two parts.

@@ -12,8 +12,8 @@ use Rattle.mk_trace.{proofs.SlotTypes.{length-types_from, range_below, types_amo
 use Rattle.mk_laws.proofs.Vocabulary.{Bool, List, None, Option, Some, ℕ, arith, false, get_or, if◌then◌else◌, is_some}
 use Rattle.mk_laws.proofs.Vocabulary.{length, length-map, nat_le, refl, subst, true, [], ◌++◌, ◌+◌, ◌<◌, ◌==◌, ◌∷◌, ◌≡◌}
 use Rattle.mk_laws.proofs.Vocabulary.{◌≤◌}
-use Rattle.mk_run.proofs.Below.Checks.GrammarLemmas.{at_most-None, passed_then, within-None}
-use Rattle.mk_run.proofs.Below.Checks.FaultLemmas.{or-None}
+use Rattle.mk_check.proofs.GrammarLemmas.{at_most-None, passed_then, within-None}
+use Rattle.mk_check.proofs.FaultLemmas.{or-None}
 use Rattle.mk_script.specs.{Lines.{at_most, within}, Operands.{name, number}}
 use Rattle.mk_trace.specs.Lines.{checked_slot, event_line, heap_pages, slot_from, slot_limit, slot_line}
 use Rattle.mk_trace.specs.{Typing.{event_on, on_slot, typed_write, words_at}, Traces.{contents_from, words_of_slots}}

@@ -10,9 +10,9 @@ use Rattle.mk_laws.proofs.Vocabulary.{Bool, List, ℕ, ap, arith, false, get_or,
 use Rattle.mk_laws.proofs.Vocabulary.{map-append, refl, subst, sym, take, [], ◌++◌, ◌+◌, ◌<◌, ◌∙◌, ◌∷◌, ◌≡◌, ◌≤◌}
 use Rattle.mk_laws.proofs.Promises.{histories_keep_all_promises}
 use Rattle.mk_core.specs.History.{calls_from}
-use Rattle.mk_run.specs.{Below.Callers.States.IsAtHome, Below.Heaps.Reports.IsWhole}
-use Rattle.mk_run.proofs.Below.Objects.Bounds.{quarantine_of_one_is_bounded}
-use Rattle.mk_run.proofs.UnsweptHistories.{unswept_is_precise}
+use Rattle.mk_heap.specs.{Below.Callers.States.IsAtHome, Reports.IsWhole}
+use Rattle.mk_heap.proofs.Below.Objects.Bounds.{quarantine_of_one_is_bounded}
+use Rattle.mk_heap.proofs.UnsweptHistories.{unswept_is_precise}
 use Rattle.mk_trace.specs.Calls.{AreNull, EventsAreAdmitted, HasPlayed, MayBePlayed, PlaysEvent, SameCalls}
 use Rattle.mk_trace.specs.{Playing.{IsPlayed, ops_played}, Traces.slot_of}
 
@@ -62,11 +62,9 @@ is_played trace refused es h whole exact =
     let kept = histories_keep_all_promises (config_of trace) es whole.history in
     let unswept = play_is_unswept trace whole.history exact in
     record {
-      history = whole.history;
-      tidy = whole.tidy;
-      refines = kept.refined;
+      whole = whole;
+      promises = kept;
       ops = h.ops;
-      at_rest = (whole.rests (Caller 0) refl).call;
       cycles = exact.caller;
       host = exact.host;
       unswept = unswept;

@@ -13,8 +13,8 @@ use Rattle.mk_trace.proofs.PeakParts.{from-append, last_below}
 use Rattle.mk_laws.proofs.Vocabulary.{List, ℕ, ap, append-nil, append_assoc, arith, earlier_part_is_history}
 use Rattle.mk_laws.proofs.Vocabulary.{enabled_in_parts, false, left_in_parts, left_more, refl, subst, sym, [], ◌++◌}
 use Rattle.mk_laws.proofs.Vocabulary.{◌∙◌, ◌∷◌, ◌≡◌}
-use Rattle.mk_run.proofs.Below.Heaps.MovedHosts.{taken_own}
-use Rattle.mk_run.specs.Below.Heaps.Turns.{TellsWord}
+use Rattle.mk_heap.proofs.MovedHosts.{taken_own}
+use Rattle.mk_heap.specs.Turns.{TellsWord}
 use Rattle.mk_trace.specs.{Calls.held_behind, Looking.{LeavesTable, word_behind}}
 
 -- With looks alone the most is as it was.

@@ -21,13 +21,14 @@ pub use Rattle.mk_laws.proofs.Vocabulary.{is_left_unmarked, is_phase, is_quarant
 pub use Rattle.mk_laws.proofs.Vocabulary.{is_under_turn, kinds_of, left, never_behind, never_granted, no_longer_fresh}
 pub use Rattle.mk_laws.proofs.Vocabulary.{object_made, phase_of, placed_at, pointed_cell, register_at, seat_exists}
 pub use Rattle.mk_laws.proofs.Vocabulary.{stands_in, storage_words, with_released, world_behind}
-pub use Rattle.mk_run.proofs.{Below.Objects.ListParts.{lacks_append, lacks_one, none_at}, Below.Objects.Parts.seen_made}
-pub use Rattle.mk_run.proofs.Below.Words.Seats.{has_first}
-pub use Rattle.mk_run.specs.Below.Objects.TurnCycles.{has_step, is_grant, is_of_cycle, lets_go}
-pub use Rattle.mk_run.specs.{Below.Callers.States.CallerState, Below.Heaps.Hosts.{HostState, first_host, pass_for}}
-pub use Rattle.mk_run.specs.{Below.Words.Sweeping.SweepsNothing, Below.Words.Seats.{Has, HasAll, without_seat}}
-pub use Rattle.mk_run.specs.Below.Words.States.{PassState, WordsState, event_of}
-pub use Rattle.mk_run.specs.Below.Heaps.Dispatching.{unflagged}
+pub use Rattle.mk_heap.proofs.Below.Objects.ListParts.{lacks_append, lacks_one, none_at}
+pub use Rattle.mk_heap.proofs.Below.Objects.Parts.{seen_made}
+pub use Rattle.mk_heap.proofs.Below.Words.Seats.{has_first}
+pub use Rattle.mk_heap.specs.Below.Objects.TurnCycles.{has_step, is_grant, is_of_cycle, lets_go}
+pub use Rattle.mk_heap.specs.{Below.Callers.States.CallerState, Hosts.{HostState, first_host, pass_for}}
+pub use Rattle.mk_heap.specs.{Below.Words.Sweeping.SweepsNothing, Below.Words.Seats.{Has, HasAll, without_seat}}
+pub use Rattle.mk_heap.specs.Below.Words.States.{PassState, WordsState, event_of}
+pub use Rattle.mk_heap.specs.Dispatching.{unflagged}
 pub use Rattle.mk_script.specs.{Words.{lines_of, texts_of, words_of_line}, declared.faults.Which.Which}
 pub use Rattle.mk_trace.specs.{Calls.{CallerIsHome, Calls, HoldsMostAtEnd, most_held}, Ends.{EndsNone, EndsOne}}
 pub use Rattle.mk_trace.specs.Ends.{EndsTell, FreesNone, IsBetweenCycles, LeavesAllocations, ReleasesNone}

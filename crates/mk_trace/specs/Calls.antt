@@ -6,9 +6,9 @@ use Rattle.mk_never.specs.{declared.values.Value.TheVariants.Null, Admitted.{IsA
 use Rattle.mk_core.specs.{declared.config.Config.Config, declared.events.Answer.Answer, declared.events.Event.Event}
 use Rattle.mk_core.specs.{declared.events.Seat.TheVariants.{Caller, Host}, Decided.{Decided, entry_of, asked, answered}}
 use Rattle.mk_core.specs.{Allocations.held_by_allocations, History.{calls, left, never_behind, IsHistory}}
-use Rattle.mk_run.specs.{Below.Words.Seats.{Has, HasAll, has_over}, Below.Words.States.WordsState}
-use Rattle.mk_run.specs.Below.Heaps.Hosts.{HostState}
-use Rattle.mk_run.specs.Below.Heaps.Dispatching.{as_told}
+use Rattle.mk_heap.specs.{Below.Words.Seats.{Has, HasAll, has_over}, Below.Words.States.WordsState}
+use Rattle.mk_heap.specs.Hosts.{HostState}
+use Rattle.mk_heap.specs.Dispatching.{as_told}
 use Rattle.mk_trace.specs.{declared.trace.TraceEvent.TraceEvent, Laws.IsEventOf, Peaks.greatest}
 use Rattle.mk_trace.specs.Playing.{config_of, ops_of, begins_full, calls_of_caller, is_refusal, ops_played}
 use Rattle.mk_trace.specs.{Playing.refused_events, Traces.Contents}

@@ -2,7 +2,7 @@
 use Rattle.std.specs.{Prelude.{ℕ, ◌+◌, List, [], ◌∷◌, ◌++◌, Ok, Err}, declared.result.Result.Result}
 use Rattle.mk_script.specs.{declared.faults.LineFault.LineFault, declared.faults.LineFault.TheVariants.{Text, Limit}}
 use Rattle.mk_script.specs.Words.{words_of_line}
-use Rattle.mk_run.specs.Below.Checks.declared.typing_faults.TypeKind.{TypeKind}
+use Rattle.mk_check.specs.declared.typing_faults.TypeKind.{TypeKind}
 use Rattle.mk_trace.specs.{declared.faults.TraceStop.TraceStop, declared.lines.Slot.Slot, Typing.typed_event}
 use Rattle.mk_trace.specs.{declared.lines.EventLine.EventLine, declared.lines.Line.Line}
 use Rattle.mk_trace.specs.{declared.trace.TraceEvent.TraceEvent, Lines.{LinesSoFar, with_trace_line, trace_line_of}}

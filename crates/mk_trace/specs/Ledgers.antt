@@ -24,7 +24,7 @@ freed_object_of c xs number =
 abbrev pub age_in_a_word : List (List PlacedAllocation) → ℕ → ℕ
 age_in_a_word found number = in_a_word (age_of number found)
 
--- the same where ends have found these allocations
+-- what is noted of it once ends have found these allocations, with its age
 abbrev pub aged_object : Config → List (List PlacedAllocation) → List PlacedAllocation → ℕ → FreedObject
 aged_object c found xs number =
     record {

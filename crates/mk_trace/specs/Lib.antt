@@ -1,4 +1,3 @@
-pub mod Below
 pub mod Calls
 pub mod Ends
 pub mod ExactPlays

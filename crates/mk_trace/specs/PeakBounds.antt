@@ -1,8 +1,8 @@
 -- What the peaks of a history say of what quarantine costs, at each moment at which nobody holds the turn.
 use Rattle.std.specs.Prelude.{◌+◌, ◌*◌, ◌≤◌, false, List}
 use Rattle.mk_core.specs.{declared.config.Config.Config, declared.events.Event.Event, History.{IsHistory, left}}
-use Rattle.mk_run.specs.Below.Objects.Bounds.{QuarantineIsBounded, WhereTurnIsFree, fresh_after}
-use Rattle.mk_run.specs.Below.Objects.KeptAllocations.{kept_mapped}
+use Rattle.mk_heap.specs.Below.Objects.Bounds.{QuarantineIsBounded, WhereTurnIsFree, fresh_after}
+use Rattle.mk_heap.specs.Below.Objects.KeptAllocations.{kept_mapped}
 use Rattle.mk_trace.specs.Peaks.{HistoryPeaks, peaks_of, quarantined_words, reserved_words}
 
 -- What was freed since the last `begin` is at most a quarter of the peak of held words.

@@ -4,7 +4,7 @@ use Rattle.std.specs.Prelude.{◌≡◌, ℕ, Bool, false, List}
 use Rattle.mk_never.specs.declared.operations.Op.{Op}
 use Rattle.mk_core.specs.{declared.config.Config.Config, declared.events.Answer.Answer, declared.events.Event.Event}
 use Rattle.mk_core.specs.Calls.{is_under_turn}
-use Rattle.mk_run.specs.Below.Words.States.{WordsState}
+use Rattle.mk_heap.specs.Below.Words.States.{WordsState}
 use Rattle.mk_trace.specs.{declared.player.Player.Player, Calls.{CallerIsHome, Calls, HoldsMostAtEnd, most_held}}
 use Rattle.mk_trace.specs.Ends.{EndsTell, IsBetweenCycles, LeavesAllocations}
 use Rattle.mk_trace.specs.{Freeing.{FlagsBehindCall, QuarantinesMostWhereFreed}, Ledgers.Keeps}

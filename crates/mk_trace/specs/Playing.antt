@@ -6,15 +6,15 @@ use Rattle.mk_never.specs.{declared.types.Kind.Kind, declared.types.Kind.TheVari
 use Rattle.mk_never.specs.{declared.operations.Op.Op, declared.operations.Op.TheVariants.{New, Free, SetNum, SetPtr}}
 use Rattle.mk_never.specs.{declared.operations.Op.TheVariants.{Clear, GetGlobal, SetGlobal}, NeverHeap.Call}
 use Rattle.mk_core.specs.{declared.config.Config.Config, declared.events.Answer.Answer, declared.events.Event.Event}
-use Rattle.mk_core.specs.{declared.events.Seat.Seat, declared.events.Seat.TheVariants.{Caller, Host}, Calls.at_rest}
-use Rattle.mk_core.specs.{Counts.{is_full_answer, IsTidy}, Decided.{asked, answered}, Growing.is_same_seat}
-use Rattle.mk_core.specs.{History.{left, calls, IsHistory, RefinesNever}, Moments.flight_of}
-pub use Rattle.mk_run.specs.Below.Checks.Feed.{is_refusal}
-use Rattle.mk_laws.specs.Precision.{CyclesArePrecise}
-use Rattle.mk_run.specs.Below.Objects.TurnCycles.{TurnsOfAreExact, is_of_cycle}
-use Rattle.mk_run.specs.Below.Heaps.Reports as report
-use Rattle.mk_run.specs.Below.Objects.Bounds.{QuarantineIsBounded}
-use Rattle.mk_run.specs.Unswept.{IsUnswept}
+use Rattle.mk_core.specs.{declared.events.Seat.Seat, declared.events.Seat.TheVariants.{Caller, Host}}
+use Rattle.mk_core.specs.{Counts.is_full_answer, Decided.{asked, answered}, Growing.is_same_seat, History.calls}
+pub use Rattle.mk_check.specs.Feed.{is_refusal}
+use Rattle.mk_laws.specs.{Precision.CyclesArePrecise, Promises.KeepsAllPromises}
+use Rattle.mk_heap.specs.Below.Objects.TurnCycles.{TurnsOfAreExact, is_of_cycle}
+use Rattle.mk_heap.specs.Reports.{IsWhole}
+use Rattle.mk_heap.specs.Reports as report
+use Rattle.mk_heap.specs.Below.Objects.Bounds.{QuarantineIsBounded}
+use Rattle.mk_heap.specs.Unswept.{IsUnswept}
 use Rattle.mk_trace.specs.{declared.trace.TraceEvent.TraceEvent, declared.trace.TraceEvent.TheVariants.{A, K, F, C, W}}
 use Rattle.mk_trace.specs.{declared.peaks.Peaks.Peaks, Peaks.{HistoryPeaks, peaks_of}, Traces.Contents}
 
@@ -77,15 +77,16 @@ calls_of_caller ops = map (λ (o : Op). record { caller = 0; op = o }) ops
 abbrev pub MakesNoCycle : Seat → List Event → Type 0
 MakesNoCycle s es = list_any (λ (e : Event). is_same_seat s e.seat && is_of_cycle e.step) es ≡ false
 
--- A history is what playing the trace makes: it refines the heap that never reuses storage, its calls are those of the
--- events, in order, and none is under way.
+-- A history is what playing the trace makes.
 pub record IsPlayed (trace : Contents) (es : List Event) : Type 0 where
-  pub history : IsHistory (config_of trace) es
-  pub tidy : IsTidy (config_of trace) es
-  pub refines : RefinesNever (config_of trace) es
+  -- It is a history of one heap for the trace, and tidy, and no call of it is under way.
+  pub whole : IsWhole (config_of trace) es
+  -- Its answers are those of the heap that never reuses storage, and all else holds of it that is promised of every
+  -- history.
+  pub promises : KeepsAllPromises (config_of trace) es
+  -- Its calls are those of the trace's events, in order, given their answers.
   pub ops : asked (calls (config_of trace) es)
       ≡ calls_of_caller (ops_played trace.events (answered (calls (config_of trace) es)))
-  pub at_rest : flight_of (left (config_of trace) es).now (Caller 0) ≡ at_rest
   -- A Free begins a cycle exactly where it is due, and ends it in its call. A New begins or ends one only where its
   -- object fits nowhere. The host makes none.
   pub cycles : TurnsOfAreExact false (config_of trace) (Caller 0) es

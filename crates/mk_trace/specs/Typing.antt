@@ -1,8 +1,8 @@
 -- Which events the types of their slots admit. Word 0 of each slot's objects is a pointer, and the others are numbers.
 use Rattle.std.specs.Prelude.{ℕ, ◌==◌, nat_le, if◌then◌else◌, List, [], get_or, Option, Some, None, Ok, Err}
 use Rattle.std.specs.declared.result.Result.{Result}
-use Rattle.mk_run.specs.Below.Checks.declared.typing_faults.TypeKind.{TypeKind}
-use Rattle.mk_run.specs.Below.Checks.declared.typing_faults.TypeKind.TheVariants as kind
+use Rattle.mk_check.specs.declared.typing_faults.TypeKind.{TypeKind}
+use Rattle.mk_check.specs.declared.typing_faults.TypeKind.TheVariants as kind
 use Rattle.mk_trace.specs.{declared.lines.Slot.Slot, declared.lines.Action.Action, declared.lines.EventLine.EventLine}
 use Rattle.mk_trace.specs.{declared.trace.TraceEvent.TraceEvent, declared.trace.TraceEvent.TheVariants.{A, K, F, C, W}}
 use Rattle.mk_trace.specs.Lines.{slot_number}

@@ -2,7 +2,7 @@
 ghost use Rattle.std.specs.Prelude.{◌≡◌};
 ghost use Rattle.mk_trace.specs.Grammar as spec;
 
-use mk_run::lower::checks::TypeKind;
+use mk_check::TypeKind;
 use mk_script::{LineFault, TextKind, Which};
 use std::alloc::{AllocError, AllocFailed};
 

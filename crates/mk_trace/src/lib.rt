@@ -11,7 +11,6 @@ pub mod laws;
 mod ledger;
 mod lines;
 mod looking;
-pub mod lower;
 mod operations;
 mod parsing;
 mod peaks;

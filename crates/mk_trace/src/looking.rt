@@ -3,7 +3,7 @@ ghost use Rattle.std.specs.Prelude.{◌≡◌, ◌<◌, true, false, option_map}
 ghost use Rattle.mk_never.specs.NeverHeap.{global_at};
 ghost use Rattle.mk_core.specs.{Cells.{is_freed, pointed_cell}, Counts.{ends, in_a_word}, History.{left, never_behind}};
 ghost use Rattle.mk_core.specs.Ranges.{is_word};
-ghost use Rattle.mk_run.specs.Below.Heaps.Turns.{is_register};
+ghost use Rattle.mk_heap.specs.Turns.{is_register};
 ghost use Rattle.mk_trace.specs.{Calls.{CallerIsHome, held_behind}, Ends.IsBetweenCycles};
 ghost use Rattle.mk_trace.specs.{Freeing.{number_freed, unfreed, FreesSlot}, Ledgers.freed_object_of};
 ghost use Rattle.mk_trace.specs.Looking.{HostOnlyLooks, word_behind};
@@ -12,8 +12,8 @@ ghost use Rattle.mk_core.specs.declared.events.Word.TheVariants as table_word;
 use crate::ledger::FreedObject;
 use mk_core::{QuarantineWord, Word, has_bit, words_under};
 use mk_geom::{Cell, heap_page, lookup};
+use mk_heap::{Heap, Host};
 use mk_never::Op;
-use mk_run::lower::heaps::{Heap, Host};
 use std::sync::Wait;
 
 /// What a word is. It is no call.

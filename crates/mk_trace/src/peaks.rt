@@ -4,8 +4,8 @@ ghost use Rattle.mk_script.specs.Canonical.{line_text};
 ghost use Rattle.mk_trace.specs.Printed.{text_of_counts, text_of_ages, peaks_text};
 ghost use lib.Chars.{codes};
 
+use mk_heap::Report;
 use mk_never::NoMemory;
-use mk_run::lower::heaps::Report;
 use std::alloc::Global;
 
 /// What playing a trace shows. Storage is counted in words. A number above 2^64 - 1 stands as 2^64 - 1.

@@ -1,8 +1,8 @@
 //! What a trace is played with.
 
 use crate::ledger::Ledger;
-use mk_run::lower::cycles::Engine;
-use mk_run::lower::heaps::Host;
+use mk_heap::Host;
+use mk_heap::lower::cycles::Engine;
 
 /// The host of a heap, the engine of its caller, and the ledger of what is held and quarantined.
 #[derive(Drop)]

@@ -6,7 +6,7 @@ ghost use Rattle.mk_trace.specs.Typing as typing;
 use crate::faults::TraceStop;
 use crate::lines::{Action, EventLine, Slot};
 use crate::trace::TraceEvent;
-use mk_run::lower::checks::TypeKind;
+use mk_check::TypeKind;
 use std::alloc::{AllocFailed, Global};
 use std::collections::HashMap;
 

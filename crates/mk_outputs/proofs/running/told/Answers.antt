@@ -3,7 +3,7 @@ use Rattle.std.specs.List.{flat_map}
 use Rattle.mk_check.specs.declared.text.Text.{Text}
 use Rattle.mk_outputs.{proofs.PrintedTexts.run_is_output, specs.KeptText.kept_text}
 use Rattle.mk_script.specs.declared.items.Item.{Item}
-use Rattle.mk_trace.specs.Below.Chains.declared.kept.Kept.{Kept}
+use Rattle.mk_run.specs.Below.Chains.declared.kept.Kept.{Kept}
 use Rattle.mk_outputs.proofs.running.told.Goals as goal
 
 in_order : (texts printed reported kept after bytes : List ℕ) → texts ≡ printed → after ≡ texts ++ reported

@@ -4,7 +4,7 @@ use Rattle.mk_run.proofs.Vocabulary.{has_left, rules, script_names, with_joined}
 use Rattle.mk_run.specs.Joining.{AreJoined, HasRun}
 use Rattle.mk_heap.proofs.HostTurns.{host_is_still, unseen_by_host}
 use Rattle.mk_run.proofs.JoinedScripts.{one_joined, texts_joined}
-use Rattle.mk_run.proofs.{KeptScripts.{none_joined, others_on, script_joined, scripts_on}, LaterLists.of_one}
+use Rattle.mk_run.proofs.{KeptScripts.{none_joined, script_joined, scripts_on}, LaterLists.of_one}
 use Rattle.mk_run.proofs.ReadyScripts.{ready_first}
 use denote.Param.Send.{Quiet-if}
 use mir.Syntax.{of_param}
@@ -109,7 +109,7 @@ returns g t c =
             c.with_first.ensures.others c.with_first.ensures.items ran.ends ran.is_text joined.texts few;
       };
       keep =
-          script_joined ran.alone came c.join-ran.ensures.first.1 (scripts_on _ (others_on _ Host _ _ _ joined.own own)
+          script_joined ran.alone came c.join-ran.ensures.first.1 (scripts_on _
           (λ j le is. of_one (Caller j) (joined.is_host.seats j le is) own) c.join-ran.ensures.second.1);
     }
 

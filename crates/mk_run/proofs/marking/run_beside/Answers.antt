@@ -14,7 +14,9 @@ returns g c =
       over = over_joined run.markers run.made_for over joins;
       joined = all_joined run.markers run.made_for over joins;
       turns = λ asked. last_turns_joined joins (beside.does.1.1.0 asked);
-      keep =
-          scripts_on _ (others_on _ Host _ _ _ over.own joins.behind)
-          (λ j le is. of_one (Caller j) (over.is_host.seats j le is) joins.behind) beside.does.1.1.1;
+      keep = record {
+        scripts = scripts_on _ (λ j le is. of_one (Caller j) (over.is_host.seats j le is) joins.behind)
+            beside.does.1.1.1.scripts;
+        host = others_on _ Host _ _ _ over.own joins.behind beside.does.1.1.1.host;
+      };
     }

@@ -2,7 +2,7 @@ use Rattle.std.proofs.lemmas.Result.{IfOk-weaker}
 use Rattle.mk_laws.proofs.Vocabulary.{Host, ap, arith, subst, sym, ◌∙◌, ◌≡◌}
 use Rattle.mk_run.proofs.Vocabulary.{AreTextsFrom, Has, HasJoined, HostState}
 use Rattle.mk_run.proofs.WholeRuns.{all_callers_home, all_callers_joined, still_joined, still_texts}
-use Rattle.mk_run.proofs.KeptScripts.{host_on, scripts_on}
+use Rattle.mk_run.proofs.KeptScripts.{host_on, scripts_on, unseen_keeps}
 use Rattle.mk_heap.proofs.HostTurns.{comes_last}
 use Rattle.mk_run.proofs.marking.run_scripts.Goals as goal
 
@@ -46,7 +46,10 @@ returns g c =
             (λ texts t. still_texts new.pass.seen joined.is_host last.host.still t) joined.texts;
       };
       turns = last.turns;
-      keep =
-          scripts_on new.pass.seen (host_on w joined.is_host.table joined.is_host.seat last.host.keeps)
-          (λ j le is. last.host.still j (joined.is_host.seats j le is)) c.run_from-host.ensures.keep;
+      keep = record {
+        scripts = scripts_on new.pass.seen (λ j le is. last.host.still j (joined.is_host.seats j le is))
+            c.run_from-host.ensures.keep;
+        host = host_on w joined.is_host.table joined.is_host.seat last.host.keeps
+            (unseen_keeps w.config Host h.pass.seen joined.without_host);
+      };
     }

@@ -1,5 +1,11 @@
-use Rattle.mk_run.proofs.ObservedRuns.{printed_runs_can_be_observed}
+use Rattle.mk_run.proofs.{KeptScripts.same_by_seat, ObservedRuns.printed_runs_can_be_observed}
 use Rattle.mk_run.proofs.running.run_all.Goals as goal
+
+pub returns-clause-reached : goal.returns-clause-reached
+returns-clause-reached g c off = c.in_ok-ran.ensures.reached off off
+
+pub returns-clause-begun : goal.returns-clause-begun
+returns-clause-begun g c = same_by_seat c.in_ok-ran.ensures.begun
 
 pub returns-clause-seen : goal.returns-clause-seen
 returns-clause-seen g c = printed_runs_can_be_observed _ _ _ _ _ c.in_ok-ran.ensures.runs

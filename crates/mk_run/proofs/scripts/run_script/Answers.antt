@@ -1,6 +1,7 @@
 use Rattle.mk_laws.proofs.Vocabulary.{ap, arith, subst, sym, [], ◌∙◌, ◌∷◌, ◌≡◌}
 use Rattle.mk_run.proofs.Vocabulary.{IsChecked, PassState, StaysAdmitted, answers_in, keeps_then, rules}
-use Rattle.mk_run.proofs.ScriptCalls.{asked_stays_admitted, exists_on, follows_now, refused_within, runs_on, seat_is}
+use Rattle.mk_run.proofs.ScriptCalls.{asked_stays_admitted, exists_on, follows_now, has_room, refused_within}
+use Rattle.mk_run.proofs.ScriptCalls.{runs_on, seat_is}
 use Rattle.mk_run.{proofs.scripts.run_script.Goals.In-Some, specs.Scripts.script_of}
 use Rattle.mk_heap.proofs.{Below.Cycles.Begun.nothing_begun, Below.Words.Sweeping.nothing_sweeps, Dispatched.then_seen}
 use Rattle.mk_run.proofs.scripts.run_script.Goals as goal
@@ -35,8 +36,12 @@ answer_to-answer-requires-clause-may g c κs within =
           ∙ ap (λ (q : PassState). q.table.config.pages) (sym is);
     }
 
-pub instructions-smaller : goal.instructions-smaller
-instructions-smaller g c = omega (arith, c.in_ok-take_answer.ensures.ops, c.instructions-test.true)
+pub take_answer-requires-clause-room : goal.take_answer-requires-clause-room
+take_answer-requires-clause-room g c =
+    let known = c.program-well_typed.ensures in
+    let checked : IsChecked c.args.program.now =
+    record { well_typed = known.well_typed; of_some_text = known.of_some_text } in
+    has_room c.instructions.feed c.instructions.counts checked c.instructions.invariant.running.fed
 
 pub instructions-preserved : goal.instructions-preserved
 instructions-preserved g c =

@@ -1,4 +1,5 @@
-use Rattle.mk_laws.proofs.Vocabulary.{true, ◌-◌, ◌≡◌, ◌≤◌}
+use Rattle.mk_laws.proofs.Vocabulary.{true, ◌≡◌, ◌≤◌}
+use Rattle.mk_check.specs.Feeding.{work_left}
 use Rattle.mk_run.{proofs.Vocabulary.{PassKeeps}, specs.Scripts.{IsRunning, script_of}}
 use Rattle.mk_run.proofs.scripts.run_script.Given as goal
 
@@ -12,4 +13,4 @@ invariant-instructions g l = record {
 }
 
 abbrev pub decreases-instructions : goal.decreases-instructions
-decreases-instructions g l = 18446744073709551615 - l.counts.ops
+decreases-instructions g l = work_left l.feed

@@ -1,12 +1,18 @@
 use Rattle.mk_heap.proofs.LastOvers.{ends_weaker}
 use Rattle.mk_laws.proofs.Vocabulary.{refl}
-use Rattle.mk_run.proofs.{ObservedRuns.printed_runs_can_be_observed, Vocabulary.config_of}
+use Rattle.mk_run.proofs.{KeptScripts.same_by_seat, ObservedRuns.printed_runs_can_be_observed, Vocabulary.config_of}
 use Rattle.mk_run.proofs.why.run_why.Goals as goal
 
 pub returns-clause-kept : goal.returns-clause-kept
 returns-clause-kept g c =
     let config = config_of c.args.program.now c.args.markers in
     ends_weaker _ _ config _ (λ w told. c.in_ok-kept.ensures.kept config w told) (c.in_ok-ran.ensures.cycle refl)
+
+pub returns-clause-reached : goal.returns-clause-reached
+returns-clause-reached g c off = c.in_ok-ran.ensures.reached off off
+
+pub returns-clause-begun : goal.returns-clause-begun
+returns-clause-begun g c = same_by_seat c.in_ok-ran.ensures.begun
 
 pub returns-clause-seen : goal.returns-clause-seen
 returns-clause-seen g c = printed_runs_can_be_observed _ _ _ _ _ c.in_ok-ran.ensures.runs

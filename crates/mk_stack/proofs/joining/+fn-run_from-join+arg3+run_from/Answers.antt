@@ -17,11 +17,11 @@ join-worked-requires-after_bounds g t c κs within =
     (caller_made c.requires.host) in
     let made = All-pop (λ engine. g.E.Engine.made_for engine ≡ w.config.pages) c.args.callers.engines.others.items rest
     (Some c.in-Some.second) c.in-Some.ensures.items given.engines.others in
-    let callers : AreCallersFrom g.E.Engine.made_for w (k + 1) (record {
+    let callers : AreCallersFrom g.E.Engine.on g.E.Engine.made_for w (k + 1) (record {
       pass = c.finish-next_pass.result;
       engines = record { first = c.in-Some.second; others = c.pop.new.self };
     }) = record {
-      pass = subst (IsBetweenJobs w (k + 1)) (sym c.finish-next_pass.ensures.pass)
+      pass = subst (IsBetweenJobs g.E.Engine.on w (k + 1)) (sym c.finish-next_pass.ensures.pass)
           (next_ready c.caller.result c.requires.host c.caller.ensures.caller);
       engines = record {
         count = omega (arith, c.in-Some.ensures.cases, given.engines.count);
@@ -30,7 +30,7 @@ join-worked-requires-after_bounds g t c κs within =
       };
     } in
     let exists : k < w.config.callers = omega (arith, given.engines.count) in
-    let pass : IsBetweenJobs w k c.args.callers.pass = given.pass in
+    let pass : IsBetweenJobs g.E.Engine.on w k c.args.callers.pass = given.pass in
     let first : g.E.Engine.made_for c.args.callers.engines.first ≡ w.config.pages = given.engines.first in
     let shorter : length rest < t = omega (arith, c.in-Some.ensures.cases, c.decreases) in
     search rules
@@ -47,10 +47,12 @@ returns g t c =
     cc (c.finish-next_pass.ensures.pass, next_unasked c.caller.result c.requires.host c.caller.ensures.caller) in
     let markers = c.args.run.now.markers in
     let one = rw list.there at c.join-worked.ensures.first in
-    let joined : HaveWorked w markers (replied_to c.finish-next_pass.result) (k + 1) others c.join-worked.result.1 =
+    let joined : HaveWorked g.E.Engine.on w markers (replied_to c.finish-next_pass.result) (k + 1) others
+    c.join-worked.result.1 =
     c.join-worked.ensures.second in
     record {
-      joined = rw list.rest (c.join_worked-2.ensures markers first k list.jobs others one (rw begun at joined));
+      joined =
+          rw list.rest (c.join_worked-2.ensures g.E.Engine.on markers first k list.jobs others one (rw begun at joined));
     }
 
 -- the last caller
@@ -68,8 +70,8 @@ returns-in_default g t c =
     let none : others ≡ [] =
     no_lists others (omega (arith, left, c.args.run.now.one_each, count, c.in_default.ensures.cases)) in
     let joined : Joined = record { host = c.args.host; dones = Ok c.new.result } in
-    let alone : HaveWorked w markers [] (k + 1) others joined =
+    let alone : HaveWorked g.E.Engine.on w markers [] (k + 1) others joined =
     rw none (none_joined joined c.requires.host c.new.ensures.items) in
-    let one : HasWorked w first k list.jobs.list.items c.work_alone-worked.result =
+    let one : HasWorked g.E.Engine.on w first k list.jobs.list.items c.work_alone-worked.result =
     rw list.there at c.work_alone-worked.ensures.worked in
-    record { joined = rw list.rest (c.join_worked.ensures markers first k list.jobs others one alone) }
+    record { joined = rw list.rest (c.join_worked.ensures g.E.Engine.on markers first k list.jobs others one alone) }

@@ -19,6 +19,6 @@ returns g c =
     record {
       worked =
           rw there (has_worked c.new-caller.result c.finish.result jobs.list.items c.run_jobs-dones.result
-          c.requires.pass c.new-caller.ensures c.run_jobs-dones.ensures.pass
+          c.requires.pass c.new-caller.ensures c.run_jobs-dones.ensures.pass c.run_jobs-dones.ensures.exact
           (rw c.deref.ensures.value at c.run_jobs-dones.ensures.does) c.finish.ensures.pass c.finish.ensures.idle);
     }

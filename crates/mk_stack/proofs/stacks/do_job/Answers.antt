@@ -32,3 +32,7 @@ pub returns-clause-keeps : goal.returns-clause-keeps
 returns-clause-keeps g c =
     both_forgotten c.go.new.caller.pass c.forget.new.caller.pass c.forget-2.new.caller.pass c.args.job
     c.other_node.ensures.node c.forget.ensures.forgets c.forget-2.ensures.forgets
+
+pub returns-clause-exact : goal.returns-clause-exact
+returns-clause-exact g c before =
+    c.forget-2.ensures.exact g.E.Engine.on (c.forget.ensures.exact g.E.Engine.on (c.go.ensures.exact before))

@@ -16,5 +16,6 @@ returns g c =
       ready = ready_on c.requires.ready c.answer_when_open.ensures.home answers.is;
       pass = answers.is;
       ended = on;
+      exact = λ on'. (c.answer_when_open.ensures.answers on').exact;
       forgets = forgets c.args.register (omega (arith, c.requires.register)) answers;
     }

@@ -21,4 +21,5 @@ points-preserved g c =
           (c.answer_to-told.ensures.made_for ∙ before.ready.made);
       goes = goes_more before.goes on;
       holds = on.holds;
+      exact = λ exact. c.answer_to-told.ensures.answers.exact (before.exact exact);
     }

@@ -19,6 +19,7 @@ points-preserved-in-To g c =
     record {
       ready = ready_on before.ready c.answer_when_open-told.ensures.home steps.is;
       walked = rw (append-nil c.points.left.items) at (walked_more before.walked steps);
+      exact = λ on exact. (c.answer_when_open-told.ensures.answers on).exact (before.exact on exact);
       holds = steps.holds;
     }
 
@@ -40,5 +41,10 @@ points-preserved g c =
     record {
       ready = ready_on before.ready c.answer_when_open-told.ensures.home steps.is;
       walked = rw c.in_ok-push-in-Number.ensures.items (walked_more before.walked steps);
+      exact = λ on exact. (c.answer_when_open-told.ensures.answers on).exact (before.exact on exact);
       holds = steps.holds;
     }
+
+pub returns-in_err-push-in-Number-clause-exact : goal.returns-in_err-push-in-Number-clause-exact
+returns-in_err-push-in-Number-clause-exact g c on exact =
+    (c.answer_when_open-told.ensures.answers on).exact (c.points.invariant.exact on exact)

@@ -8,7 +8,8 @@ returns-clause-reader g c =
     is_reader c.args.host.now c.caller_again-reader.new.self c.join_caller.new.self c.caller_again-reader.result
     c.read_stack-left.new.caller.pass c.finish.result c.caller_again-reader.ensures.host
     c.caller_again-reader.ensures.caller c.read_stack-left.ensures.pass c.finish.ensures.pass
-    c.join_caller.ensures.host c.join_caller.ensures.own c.join_caller.ensures.overs
+    c.join_caller.ensures.host c.join_caller.ensures.own c.join_caller.ensures.came c.read_stack-left.ensures.exact
+    c.join_caller.ensures.overs
 
 pub returns-clause-reads : goal.returns-clause-reads
 returns-clause-reads g c =

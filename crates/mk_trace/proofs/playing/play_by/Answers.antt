@@ -35,7 +35,7 @@ returns-clause-peaks g c =
           (most_of trace d quarantined_words es _ _ c.close-report.ensures.history at keeps.quarantined.most)
           (most_of trace d reserved_words es _ _ c.close-report.ensures.history at keeps.reserved.most)
           c.close-report.ensures.counts.cycles
-          (ages_of trace d es c.close-report.ensures.history at (played g c).history keeps.ages);
+          (ages_of trace d es c.close-report.ensures.history at (played g c).whole.history keeps.ages);
     }
 
 pub play_events-requires-clause-between : goal.play_events-requires-clause-between

@@ -1,7 +1,9 @@
 use Rattle.mk_alloc.proofs.Below.Laws.Vocabulary.{ap, subst, sym, ◌∙◌}
-use Rattle.mk_heap.proofs.{Ended.{HasAllHome, ends_counted, ends_whole, home}, HostsKept.{home_host, home_is}}
+use Rattle.mk_alloc.specs.Below.Words.Finals as final
+use Rattle.mk_heap.proofs.{Ended.{HasAllHome, ends_counted, ends_unmade, ends_whole, home}}
+use Rattle.mk_heap.proofs.HostsKept.{home_host, home_is}
 use Rattle.mk_heap.proofs.{HostsKept.{home_view, is_home}, heaps.Heap.close.Goals.After-is_in_order}
-use Rattle.mk_heap.specs.Hosts.{AllAreJoined, HostState}
+use Rattle.mk_heap.specs.{Hosts.{AllAreJoined, HostState}, Reports.MarkersAreBelow}
 use Rattle.mk_heap.proofs.heaps.Heap.close.Goals as goal
 
 host : (c : After-is_in_order)
@@ -34,3 +36,11 @@ returns-clause-counts c =
 
 pub unwrap-home-requires : goal.unwrap-home-requires
 unwrap-home-requires c = is_home _ _ _ c.host.invariant
+
+pub returns-clause-markers : goal.returns-clause-markers
+returns-clause-markers c =
+    let o = c.is_in_order.ensures in
+    let e = c.close-last.ensures in
+    subst (λ (g : HostState). MarkersAreBelow g.markers (final.history_of c.close-last.result))
+    (home_view c.unwrap-home.ensures c.host.view_is) (ends_unmade
+    (host (goal.at.returns-clause-markers c).After-is_in_order) c.close-last.result o.history o.tidy e.history e.config)

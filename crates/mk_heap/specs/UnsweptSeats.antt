@@ -2,7 +2,7 @@
 use Rattle.std.specs.Prelude.{List}
 use Rattle.mk_core.specs.{declared.config.Config.Config, declared.events.Event.Event, declared.events.Seat.Seat}
 use Rattle.mk_core.specs.History.{first_world}
-use Rattle.mk_heap.specs.Below.Words.Sweeping.{SweepsNothingFrom}
+use Rattle.mk_alloc.specs.Below.Words.Sweeping.{SweepsNothingFrom}
 
 -- The seat's steps of the history make no sweeping mark.
 abbrev pub SeatSweepsNothing : Config → Seat → List Event → Type 0

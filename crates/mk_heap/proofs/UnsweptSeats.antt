@@ -1,8 +1,10 @@
 -- A seat that makes no sweeping mark, as its pass sees more.
-use Rattle.mk_laws.proofs.Vocabulary.{Config, Event, List, Seat, arith, subst, sym, [], ◌≡◌}
-use Rattle.mk_run.{proofs.Vocabulary.{Grows, Has, PassState}, specs.UnsweptSeats.{SeatSweepsNothing}}
-use Rattle.mk_heap.proofs.Below.Words.Sweeping.{others_sweep, sweeps_append}
-use Rattle.mk_heap.specs.Below.Words.Sweeping.{SweepsNothing, SweepsNothingFrom}
+use Rattle.mk_alloc.proofs.Below.Laws.Vocabulary.{Config, Event, List, Seat, arith, subst, sym, [], ◌≡◌}
+use Rattle.mk_alloc.specs.{Below.Words.Seats.Has, Below.Words.States.PassState}
+use Rattle.mk_core.specs.Growing.{Grows}
+use Rattle.mk_heap.specs.UnsweptSeats.{SeatSweepsNothing}
+use Rattle.mk_alloc.proofs.Below.Words.Sweeping.{others_sweep, sweeps_append}
+use Rattle.mk_alloc.specs.Below.Words.Sweeping.{SweepsNothing, SweepsNothingFrom}
 
 -- before the first event
 

@@ -1,2 +1,0 @@
--- What stands on this crate finds here the lemmas of those below it.
-pub use Rattle.mk_run.proofs as Runs
