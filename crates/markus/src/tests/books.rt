@@ -1,9 +1,8 @@
 //! First fit, the counts and what is given back, on pages that are worked out by hand.
 
-use super::geometry::{asked, numbers};
+use super::geometry::{asked, cell_said, numbers};
 use mk_books::{Census, Page, Place, census, due, first_fit, free_pages, freeable, held_by_pages};
-use mk_geom::FREE_PAGE;
-use std::alloc::{AllocError, Global};
+use mk_geom::{Cell, FREE_PAGE};
 use std::test::Fail;
 
 /// A full block of cells of 32 words, a leaf block with its cell 1 free, a block with its cell 0 free, a
@@ -52,13 +51,14 @@ a run of a page, and no room for a page more | 4 33 0 | none
 a run of two pages, where no two free pages are neighbours | 6 65 0 | none
 ";
 
-/// A place in words; `none` for none.
-fn told_place(alloc: Global, place: Option<Place>) -> Result<String, AllocError> {
-    let Some(Place { page, index, carve }) = place else {
-        return String::from_str(alloc, "none");
+/// The place that is said; none for `none`.
+fn place_said(words: &str) -> Option<Place> {
+    let (cell, carve) = match words.strip_suffix(", new") {
+        Some(cell) => (cell, true),
+        None => (words, false),
     };
-    let sort = if carve { ", new" } else { "" };
-    format!(in alloc; "cell {index} of page {page}{sort}")
+    let Cell { page, index } = cell_said(cell)?;
+    Some(Place { page, index, carve })
 }
 
 #[test]
@@ -70,11 +70,10 @@ fn the_first_place_that_fits_is_found(rt: HostRuntime) -> Result<(), Fail> {
             [limit, words, leaf] => first_fit(&FRAGMENTED, *limit, *words, *leaf == 1),
             _ => None,
         };
-        let found = told_place(rt.alloc(), found)?;
-        assert_eq!(rt; found.as_str(), place, "{row}");
+        assert_eq!(rt; found, place_said(place), "{row}");
     }
-    let found = told_place(rt.alloc(), first_fit(&AFTER_UNMAPPED, 2, 65, true))?;
-    assert_eq!(rt; found.as_str(), "cell 0 of page 1, new");
+    let found = first_fit(&AFTER_UNMAPPED, 2, 65, true);
+    assert_eq!(rt; found, place_said("cell 0 of page 1, new"));
     Ok(())
 }
 

@@ -122,98 +122,83 @@ pub fn numbers(alloc: Global, text: &str) -> Result<Vec<u64>, AllocError> {
     Ok(found)
 }
 
-/// A number in words; `none` for none.
-fn told_number(alloc: Global, number: Option<u64>) -> Result<String, AllocError> {
-    match number {
-        Some(number) => format!(in alloc; "{number}"),
-        None => String::from_str(alloc, "none"),
+/// The header that is said; none for `none`.
+fn header_said(words: &str) -> Option<Header> {
+    if words == "free" {
+        return Some(Header::Free);
+    }
+    let (sort, number) = words.rsplit_once(' ')?;
+    let number = parse_number(number.as_bytes())?;
+    let mapped = !sort.starts_with("unmapped ");
+    match sort {
+        "block" => Some(Header::Block(number)),
+        "leaf block" => Some(Header::LeafBlock(number)),
+        "leaf run" => Some(Header::LeafRun { pages: number }),
+        "run" | "unmapped run" => Some(Header::Run {
+            pages: number,
+            mapped,
+        }),
+        "later" | "unmapped later" => Some(Header::Later {
+            distance: number,
+            mapped,
+        }),
+        _ => None,
     }
 }
 
-/// A header in words; `none` for none.
-fn told_header(alloc: Global, header: Option<Header>) -> Result<String, AllocError> {
-    let Some(header) = header else {
-        return String::from_str(alloc, "none");
-    };
-    match header {
-        Header::Free => String::from_str(alloc, "free"),
-        Header::Block(class) => format!(in alloc; "block {class}"),
-        Header::LeafBlock(class) => format!(in alloc; "leaf block {class}"),
-        Header::LeafRun { pages } => format!(in alloc; "leaf run {pages}"),
-        Header::Run { pages, mapped } => {
-            let sort = if mapped { "" } else { "unmapped " };
-            format!(in alloc; "{sort}run {pages}")
-        }
-        Header::Later { distance, mapped } => {
-            let sort = if mapped { "" } else { "unmapped " };
-            format!(in alloc; "{sort}later {distance}")
-        }
-    }
-}
-
-/// A cell in words; `none` for none.
-fn told_cell(alloc: Global, cell: Option<Cell>) -> Result<String, AllocError> {
-    match cell {
-        Some(Cell { page, index }) => format!(in alloc; "cell {index} of page {page}"),
-        None => String::from_str(alloc, "none"),
-    }
+/// The cell that is said; none for `none`.
+pub fn cell_said(words: &str) -> Option<Cell> {
+    let (index, page) = words.strip_prefix("cell ")?.split_once(" of page ")?;
+    Some(Cell {
+        page: parse_number(page.as_bytes())?,
+        index: parse_number(index.as_bytes())?,
+    })
 }
 
 #[test]
-fn small_objects_have_the_least_class(rt: HostRuntime) -> Result<(), Fail> {
+fn small_objects_have_the_least_class(rt: HostRuntime) {
     for row in CLASSES.lines() {
         let (words, class) = asked(row).expect(&rt, "a row of three");
         let words = parse_number(words.as_bytes()).expect(&rt, "a number");
-        let found = told_number(rt.alloc(), class_of(words))?;
-        assert_eq!(rt; found.as_str(), class, "{row}");
+        assert_eq!(rt; class_of(words), parse_number(class.as_bytes()), "{row}");
     }
-    Ok(())
 }
 
 /// A block's tail, which is less than a cell, has no cell.
 #[test]
 fn blocks_have_whole_cells(rt: HostRuntime) {
-    let table = [
-        (2, 32),
-        (4, 16),
-        (6, 10),
-        (8, 8),
-        (12, 5),
-        (16, 4),
-        (24, 2),
-        (32, 2),
-    ];
+    let words = [2, 4, 6, 8, 12, 16, 24, 32];
+    let counts = [32, 16, 10, 8, 5, 4, 2, 2];
     for class in 0..8 {
-        let (words, count) = table[class as usize];
-        assert_eq!(rt; class_words(class), words, "class {class}");
-        assert_eq!(rt; cells(class), count, "class {class}");
+        assert_eq!(rt; class_words(class), words[class as usize], "class {class}");
+        assert_eq!(rt; cells(class), counts[class as usize], "class {class}");
     }
 }
 
 #[test]
-fn runs_have_whole_pages(rt: HostRuntime) -> Result<(), Fail> {
+fn runs_have_whole_pages(rt: HostRuntime) {
     for row in RUNS.lines() {
         let (words, pages) = asked(row).expect(&rt, "a row of three");
         let words = parse_number(words.as_bytes()).expect(&rt, "a number");
-        let found = told_number(rt.alloc(), Some(run_pages(words)))?;
-        assert_eq!(rt; found.as_str(), pages, "{row}");
+        assert_eq!(rt;
+            Some(run_pages(words)),
+            parse_number(pages.as_bytes()),
+            "{row}"
+        );
     }
-    Ok(())
 }
 
 #[test]
-fn words_of_each_kind_within_and_outside_their_limits(rt: HostRuntime) -> Result<(), Fail> {
+fn words_of_each_kind_within_and_outside_their_limits(rt: HostRuntime) {
     for row in HEADERS.lines() {
         let (word, says) = asked(row).expect(&rt, "a row of three");
         let word = parse_number(word.as_bytes()).expect(&rt, "a number");
         let header = decode(word);
-        let found = told_header(rt.alloc(), header)?;
-        assert_eq!(rt; found.as_str(), says, "{row}");
+        assert_eq!(rt; header, header_said(says), "{row}");
         if let Some(header) = header {
             assert_eq!(rt; encode(header), word, "{row}");
         }
     }
-    Ok(())
 }
 
 #[test]
@@ -225,8 +210,7 @@ fn addresses_point_into_cells_and_runs(rt: HostRuntime) -> Result<(), Fail> {
             [pages, header, address] => lookup(*pages, *header, *address),
             _ => None,
         };
-        let found = told_cell(rt.alloc(), found)?;
-        assert_eq!(rt; found.as_str(), cell, "{row}");
+        assert_eq!(rt; found, cell_said(cell), "{row}");
     }
     Ok(())
 }
