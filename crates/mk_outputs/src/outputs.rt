@@ -15,7 +15,7 @@ use crate::summing::summed;
 use crate::traces::played;
 use mk_check::check;
 use mk_io::{Source, read_all};
-use mk_run::lower::heaps::{Pace, Pace, Report};
+use mk_run::lower::heaps::{Pace, Report};
 use mk_script::{Program, parse, print};
 use std::alloc::Global;
 use std::sync::Wait;
