@@ -2,7 +2,8 @@
 ghost use Rattle.std.specs.Prelude.{◌≡◌, ◌≢◌, ◌⊎◌, map, string_bytes, length, false, None, IsSomeAnd};
 ghost use Rattle.mk_io.specs.{Bytes.{Appends, AppendsPart}, Faults.Rose};
 ghost use Rattle.mk_outputs.specs.Commands.{command_of};
-ghost use Rattle.mk_outputs.specs.{Outputs.{HasAnswered, HasNoRead, IsStatusOn}, Statuses.{IsBeforeWriting, IsRefusal}};
+ghost use Rattle.mk_outputs.specs.{Outputs.{HasAnswered, HasNoRead, IsStatusOn}, Seen.HasSeen};
+ghost use Rattle.mk_outputs.specs.Statuses.{IsBeforeWriting, IsRefusal};
 
 use mk_io::{Failed, Sink, Source, write_all};
 use mk_outputs::lower::heaps::Pace;
@@ -13,9 +14,10 @@ use std::thread::Threads;
 
 /// Does all that the program does. With the word `run`, `check`, `print`, `replay` or `trace` it reads a text from the
 /// source, and writes to the sink what its scripts print, the line `ok`, its canonical text, what its scripts have
-/// printed when the schedule after it ends, or the peaks of its trace. After what the scripts print `run --why` reports
-/// which freed objects are kept, and by which pointers. With `gen START COUNT` it reads nothing, runs the program that
-/// is generated, and sums up. The whole output is made before the first write.
+/// printed when the schedule after it ends, or the peaks of its trace. After what the scripts print `run --report`
+/// gives the counts of the heap at its end, and then `run --why` which freed objects are kept, and by which pointers.
+/// With `gen START COUNT` it reads nothing, runs the program that is generated, and sums up. The whole output is made
+/// before the first write.
 ///
 /// Each script runs on a thread of its own, and the pace is called before and after each of its memory instructions. A
 /// trace is played on the calling thread.
@@ -30,11 +32,18 @@ pub fn markus<S: Source, K: Sink, P: Pace + Sync, R: Threads + Wait + Sync>(
     sink: &mut K,
     pace: &P,
 ) -> Status
+    // With `run`, what is written begins with what the program's scripts print: in one order of all their calls each of
+    // them, told the replies of a heap that never reuses storage to its own, asks for just these, and ends. `gen` sums
+    // up such a run.
+    ensures seen { result ≡ Status.Ok →
+        HasSeen (map (λ word. string_bytes word) words.now) (S.left source.old)
+        (Appends (K.taken sink.old) (K.taken sink.new)) }
+
     // What the command writes was written: on the text that was read to its end, which it accepts, or, with `gen`, of
     // the program that it generates. With `run` and `gen` the replies of the program's scripts stand in one history of
-    // a heap that never reuses storage, each script's operations there once and in order. With `run --why` the entries
-    // are those of the cycle with which that history ends, and with `trace` the peaks are those of the history that
-    // playing makes.
+    // the heap that ran, each script's operations there once and in order. With `run --report` the counts are those of
+    // this history at its end, with `run --why` the entries are those of the cycle with which it ends, and with `trace`
+    // the peaks are those of the history that playing makes.
     ensures ok { result ≡ Status.Ok →
         HasAnswered (map (λ word. string_bytes word) words.now) (S.left source.old) (S.left source.new)
         (Appends (K.taken sink.old) (K.taken sink.new)) }
@@ -77,7 +86,7 @@ pub fn markus<S: Source, K: Sink, P: Pace + Sync, R: Threads + Wait + Sync>(
         Ok(output) => output,
         Err(status) => return status,
     };
-    match write_all(sink, &output) {
+    match write_all(sink, &output.bytes) {
         Ok(()) => Status::Ok,
         Err(Failed) => Status::WriteFault,
     }

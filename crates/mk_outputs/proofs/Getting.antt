@@ -12,13 +12,14 @@ flag_is true r o e on off = on e
 flag_is false r o e on off = off e
 
 pub run_reads : (f : Found) (t : Given) (answer : Option Command)
-    → ((sweep why : Bool) → one_text f (codes "sweep") ≡ Some (bool_text sweep)
-    → one_text f (codes "why") ≡ Some (bool_text why)
-    → answer ≡ option_and_then (run_with sweep why) (markers_of (first_value f (codes "markers"))))
+    → ((sweep why report : Bool) → one_text f (codes "sweep") ≡ Some (bool_text sweep)
+    → one_text f (codes "why") ≡ Some (bool_text why) → one_text f (codes "report") ≡ Some (bool_text report)
+    → answer ≡ option_and_then (run_with sweep why report) (markers_of (first_value f (codes "markers"))))
     → HasGiven runs (rows_of f) t → answer ≡ run_of t
 run_reads f t answer reads h =
-    reads t.sweep t.why (one_text-rows f (codes "sweep") ∙ h.flags.0) (one_text-rows f (codes "why") ∙ h.flags.1)
-    ∙ ap (λ (o : Option Text). option_and_then (run_with t.sweep t.why) (markers_of o))
+    reads t.sweep t.why t.report (one_text-rows f (codes "sweep") ∙ h.flags.0)
+    (one_text-rows f (codes "why") ∙ h.flags.1) (one_text-rows f (codes "report") ∙ h.flags.2)
+    ∙ ap (λ (o : Option Text). option_and_then (run_with t.sweep t.why t.report) (markers_of o))
     (first_value-rows f (codes "markers") ∙ h.markers)
 
 abbrev gen_said : Option Text → Option Text → Option Text → Option Command

@@ -3,8 +3,8 @@ use Rattle.std.proofs.Common.{Bool, None, Option, Some, ℕ, ap, arith, codes, d
 use Rattle.std.proofs.Common.{option_and_then, refl, sym, take, true, unwrap_or, [], ◌++◌, ◌+◌, ◌==◌, ◌∙◌, ◌∷◌, ◌≡◌}
 use Rattle.std.{proofs.{lemmas.Bool.Decides.nat_tests, lemmas.Slice.Eq.bytes_eq-Decides}, specs.Str.{bytes_eq, chars}}
 use Rattle.clap.specs.{Lexer.{long_of, long_of_rest, name_and_value, short_of, strip_byte}, Walk.Text}
-use Rattle.mk_outputs.specs.Given.{Flag, Said, behind, flag_said, markers_said, said, said_dashed, sweep_flag, unknown}
-use Rattle.mk_outputs.specs.{Given.why_flag, Told.flag_name}
+use Rattle.mk_outputs.specs.Given.{Flag, Said, behind, flag_said, markers_said, report_flag, said, said_dashed}
+use Rattle.mk_outputs.specs.{Given.{sweep_flag, unknown, why_flag}, Told.flag_name}
 
 -- ---- the parts of `--name=value`
 
@@ -73,31 +73,33 @@ no_value (Some v) s = unknown
 abbrev pub said_long : Text → Option Text → Said
 said_long name v = if bytes_eq (codes "markers") name then markers_said v else if bytes_eq
     (codes "sweep") name then no_value v (flag_said sweep_flag) else if bytes_eq (codes "why") name then no_value v
-    (flag_said why_flag) else unknown
+    (flag_said why_flag) else if bytes_eq (codes "report") name then no_value v (flag_said report_flag) else unknown
 
 pub flag_long : (flag : Flag) (v : Option Text) → said_long (flag_name flag) v ≡ no_value v (flag_said flag)
 flag_long sweep_flag v = refl
 flag_long why_flag v = refl
+flag_long report_flag v = refl
 
 -- which option's name it is
 pub data NameView (id : Text) : Type 0 where
   is_markers : id ≡ codes "markers" → NameView id
   is_flag : (flag : Flag) → id ≡ flag_name flag → NameView id
   is_other : bytes_eq (codes "markers") id ≡ false → bytes_eq (codes "sweep") id ≡ false
-      → bytes_eq (codes "why") id ≡ false → NameView id
+      → bytes_eq (codes "why") id ≡ false → bytes_eq (codes "report") id ≡ false → NameView id
 
 pub name_view : (id : Text) → NameView id
-name_view id = by _ _ _ refl refl refl
+name_view id = by _ _ _ _ refl refl refl refl
   where
     same : (name : Text) → bytes_eq name id ≡ true → id ≡ name
     same name e = sym ((bytes_eq-Decides name id).0 e)
 
-    by : (m s w : Bool) → bytes_eq (codes "markers") id ≡ m → bytes_eq (codes "sweep") id ≡ s
-        → bytes_eq (codes "why") id ≡ w → NameView id
-    by true s w e f g = is_markers (same (codes "markers") e)
-    by false true w e f g = is_flag sweep_flag (same (codes "sweep") f)
-    by false false true e f g = is_flag why_flag (same (codes "why") g)
-    by false false false e f g = is_other e f g
+    by : (m s w r : Bool) → bytes_eq (codes "markers") id ≡ m → bytes_eq (codes "sweep") id ≡ s
+        → bytes_eq (codes "why") id ≡ w → bytes_eq (codes "report") id ≡ r → NameView id
+    by true s w r e f g h = is_markers (same (codes "markers") e)
+    by false true w r e f g h = is_flag sweep_flag (same (codes "sweep") f)
+    by false false true r e f g h = is_flag why_flag (same (codes "why") g)
+    by false false false true e f g h = is_flag report_flag (same (codes "report") h)
+    by false false false false e f g h = is_other e f g h
 
 unknown_dashed : (rest : Text) → said_dashed (Some (45 ∷ rest)) ≡ unknown
 unfolding chars
@@ -139,17 +141,18 @@ says_long word id v e l = by (name_view id)
         (behind_shape (codes "--markers=") word digits b))
 
     other : bytes_eq (codes "markers") id ≡ false → bytes_eq (codes "sweep") id ≡ false
-        → bytes_eq (codes "why") id ≡ false → said word ≡ unknown
-    other m s w =
+        → bytes_eq (codes "why") id ≡ false → bytes_eq (codes "report") id ≡ false → said word ≡ unknown
+    other m s w r =
         rw (
           e,
           test_fails (codes "markers") (codes "--markers") m refl _ refl,
           test_fails (codes "sweep") (codes "--sweep") s refl _ refl,
           test_fails (codes "why") (codes "--why") w refl _ refl,
+          test_fails (codes "report") (codes "--report") r refl _ refl,
           none_behind m _ refl,
         ) (ap (λ (u : Text). said_dashed (behind (codes "-") u)) shape ∙ unknown_dashed (id ++ tail_of v))
 
     by : NameView id → said word ≡ said_long id v
     by (is_markers same) = grind (arith, named)
     by (is_flag flag same) = grind (arith, named)
-    by (is_other m s w) = rw (m, s, w) (other m s w)
+    by (is_other m s w r) = rw (m, s, w, r) (other m s w r)

@@ -1,4 +1,5 @@
 pub mod PrintedTexts
+pub mod Seen
 pub mod Summaries
 pub mod Vocabulary
 pub mod Accepted
@@ -21,5 +22,6 @@ pub mod Standing
 pub mod OptionWords
 pub mod Tells
 pub mod Taken
+pub mod Traced
 pub mod Within
 pub mod Getting

@@ -11,8 +11,8 @@ use Rattle.mk_outputs.proofs.Standing.{Id, IsAt, More, TellsAs, flag_id, flag_so
 use Rattle.mk_outputs.proofs.{Standing.{markers_id, passes_on, still_holds, text_of, waits}, Walking.{holding, long_is}}
 use Rattle.mk_outputs.proofs.Walking.{position_of, rules, standing, word_stops}
 use Rattle.mk_outputs.specs.Given.{Flag, Form, Given, Numbers, bare, flag_said, gens, given_said, has_flag, markers_by}
-use Rattle.mk_outputs.specs.Given.{runs, set_flag, sweep_flag, takes_flags, takes_markers, why_flag, with_markers}
-use Rattle.mk_outputs.specs.{Given.with_words, Told.flag_name}
+use Rattle.mk_outputs.specs.Given.{report_flag, runs, set_flag, sweep_flag, takes_flags, takes_markers, why_flag}
+use Rattle.mk_outputs.specs.{Given.{with_markers, with_words}, Told.flag_name}
 
 -- ---- a word with a name
 
@@ -58,6 +58,7 @@ flag_fault : (form : Form) → takes_flags form ≡ true → (flag : Flag) (rows
     → long_fault (rules form) false (arg_by_long (rules form) (flag_name flag)) None (holding rows p) ≡ conflict_if b
 flag_fault runs k sweep_flag rows p true s h = rw (s, h) refl
 flag_fault runs k why_flag rows p true s h = rw (s, h) refl
+flag_fault runs k report_flag rows p true s h = rw (s, h) refl
 flag_fault runs k _ rows p _ s h = rw (s, h) refl
 flag_fault _ k flag rows p b s h = cc
 
@@ -70,6 +71,7 @@ flag_met : (form : Form) → takes_flags form ≡ true
     )
 flag_met runs k sweep_flag word rows p = refl
 flag_met runs k why_flag word rows p = refl
+flag_met runs k report_flag word rows p = refl
 flag_met _ k flag word rows p = cc
 
 -- it has no value, and only `run` has flags
@@ -86,10 +88,10 @@ no_flag _ k _ = cc
 
 -- a name that no option has
 no_option : (form : Form) (id : Text) → bytes_eq (codes "markers") id ≡ false → bytes_eq (codes "sweep") id ≡ false
-    → bytes_eq (codes "why") id ≡ false → arg_by_long (rules form) id ≡ None
-no_option runs id m s w = rw (m, s, w) refl
-no_option gens id m s w = rw m refl
-no_option bare id m s w = refl
+    → bytes_eq (codes "why") id ≡ false → bytes_eq (codes "report") id ≡ false → arg_by_long (rules form) id ≡ None
+no_option runs id m s w r = rw (m, s, w, r) refl
+no_option gens id m s w r = rw m refl
+no_option bare id m s w r = refl
 
 pub some_markers : (t : Given) (x : Text) (b : Bool) → is_some t.markers ≡ b
     → with_markers t x ≡ (if b then None else Some (record t { markers = Some x; awaits = false }))
@@ -111,12 +113,15 @@ flag_alone : (t : Given) (flag : Flag) (j : Id) → bytes_eq (flag_name flag) (t
     → given_for j (set_flag flag t) ≡ given_for j t
 flag_alone t sweep_flag (flag_id sweep_flag) e = cc
 flag_alone t why_flag (flag_id why_flag) e = cc
+flag_alone t report_flag (flag_id report_flag) e = cc
 flag_alone t sweep_flag _ e = refl
 flag_alone t why_flag _ e = refl
+flag_alone t report_flag _ e = refl
 
 flag_set : (t : Given) (flag : Flag) → given_for (flag_id flag) (set_flag flag t) ≡ Some (codes "true")
 flag_set t sweep_flag = refl
 flag_set t why_flag = refl
+flag_set t report_flag = refl
 
 -- the words that are left, where a number is awaited
 abbrev pub at_value : List Row → Numbers → Walk
@@ -205,6 +210,7 @@ module _ (form : Form) (name word : Text) (words : List Text) (rows : List Row) 
             → ((set_flag f t).numbers ≡ ns) × ((set_flag f t).ended ≡ false) × ((set_flag f t).awaits ≡ false)
         unchanged sweep_flag = (is, en, i.2)
         unchanged why_flag = (is, en, i.2)
+        unchanged report_flag = (is, en, i.2)
 
     flag_goes : (k : Bool) → takes_flags form ≡ k → (flag : Flag) → long_of word ≡ Some (flag_name flag, None)
         → Free (if k then (if has_flag flag t then None else Some (set_flag flag t)) else None)
@@ -227,4 +233,4 @@ module _ (form : Form) (name word : Text) (words : List Text) (rows : List Row) 
         by : NameView id → Free (given_said form (said_long id v) word t)
         by (is_markers same) = named (codes "markers") same (markers_go (takes_markers form) refl v)
         by (is_flag flag same) = named (flag_name flag) same (λ is. rw (flag_long flag v) (flag_go flag v is))
-        by (is_other m s w) = rw (m, s, w) (long_unknown id v l (no_option form id m s w))
+        by (is_other m s w r) = rw (m, s, w, r) (long_unknown id v l (no_option form id m s w r))

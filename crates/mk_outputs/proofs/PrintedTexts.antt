@@ -1,16 +1,18 @@
 -- The texts of the scripts, one after the other, are all that a run prints.
+use Rattle.std.proofs.Common.{ap₂}
 use Rattle.std.specs.List.{flat_map, range_with_len}
-use Rattle.mk_laws.proofs.Vocabulary.{Bool, Event, List, ℕ, ap, arith, false, length, refl, slice_index_or, subst, suc}
-use Rattle.mk_laws.proofs.Vocabulary.{sym, true, [], ◌++◌, ◌+◌, ◌<◌, ◌∙◌, ◌∷◌, ◌≡◌}
+use Rattle.mk_laws.proofs.Vocabulary.{Config, Event, List, ℕ, ap, arith, false, if◌then◌else◌, length, refl}
+use Rattle.mk_laws.proofs.Vocabulary.{slice_index_or, suc, true, [], ◌++◌, ◌+◌, ◌<◌, ◌∙◌, ◌∷◌, ◌≡◌}
 use Rattle.mk_check.specs.{Declarations.config_of, Output.output, Output.text_behind, declared.text.Text.Text}
-use Rattle.mk_run.specs.Below.Cycles.Roots.{CyclesMarkRootsFirst}
-use Rattle.mk_run.specs.{Headline.{StandsInOneHistory, cycles_go_on}, Below.Heaps.LastCycle.EndsWithCycle}
-use Rattle.mk_run.specs.{Running.IsRunOf, Below.Heaps.Unswept.IsUnswept}
-use Rattle.mk_run.specs.{declared.outcomes.Outcome.Outcome, Below.Chains.Chains.AreKept}
-use Rattle.mk_run.specs.Below.Heaps.Reports as report
+use Rattle.mk_run.specs.Below.{Cycles.Roots.CyclesMarkRootsFirst, Heaps.Reports.HasCounts}
+use Rattle.mk_run.specs.{Below.Heaps.declared.reports.Report.Report, declared.outcomes.Outcome.Outcome}
+use Rattle.mk_run.specs.{Headline.{cycles_go_on, printed}, Running.IsRunOf, Below.Heaps.Unswept.IsUnswept}
 use Rattle.mk_run.specs.Below.Chains.declared.kept.Kept.{Kept}
-use Rattle.mk_run.proofs.Headline.{runs_print_their_texts, runs_stand_in_one_history}
-use Rattle.mk_outputs.specs.{KeptText.kept_text, Outputs.IsOutputOfRun, Outputs.TellsWhatIsKept}
+use Rattle.mk_run.specs.Below.Heaps.Reports as report
+use Rattle.mk_run.proofs.Headline.{runs_keep_their_promises, runs_print_their_texts}
+use Rattle.mk_run.proofs.Headline.{runs_stand_in_one_history}
+use Rattle.mk_outputs.specs.{Commands.{is_sweep, markers_beside}, KeptText.kept_text, declared.commands.Options.Options}
+use Rattle.mk_outputs.specs.{ReportText.{lines_of_report, report_text}, RunOutputs.{AreEntries, IsOutputOfRun}}
 use Rattle.mk_replay.specs.Replays.{AreTextsOf}
 use Rattle.mk_script.specs.declared.items.Item.{Item}
 
@@ -29,58 +31,37 @@ texts_are_printed program es texts are =
     pieces (λ text. text.bytes.items) text_of 0 texts (λ k d less. (are.each k d less).text ∙ ap text_of (omega arith))
     ∙ ap (λ n. flat_map text_of (range_with_len 0 n)) are.count
 
--- The texts of a run are what its scripts print of one history.
-pub run_is_printed : (program : List Item) (markers : ℕ) (sweep : Bool) (outcome : Outcome) (bytes : List ℕ)
-    → IsRunOf (cycles_go_on markers) false program markers outcome
-    → (cycles_go_on markers ≡ true
-    → CyclesMarkRootsFirst (config_of program markers) (report.history_of outcome.report))
-    → (sweep ≡ false → IsUnswept (config_of program markers) (report.history_of outcome.report))
-    → bytes ≡ flat_map (λ (text : Text). text.bytes.items) outcome.texts.items
-    → StandsInOneHistory program markers sweep false (output program) bytes
-run_is_printed program markers sweep outcome bytes runs begun unswept are =
-    runs_stand_in_one_history program markers sweep false outcome (output program) bytes runs begun unswept
-    (are ∙ runs_print_their_texts (cycles_go_on markers) false program markers outcome runs)
+-- The numbers of a report are the counts of its history.
 
--- With the lines of the entries after them they report what was kept in that history's last cycle.
-pub run_is_explained : (program : List Item) (markers : ℕ) (sweep : Bool) (outcome : Outcome) (texts bytes : List ℕ)
-    (entries : List Kept) → IsRunOf (cycles_go_on markers) true program markers outcome → (cycles_go_on markers ≡ true
-    → CyclesMarkRootsFirst (config_of program markers) (report.history_of outcome.report))
-    → (sweep ≡ false → IsUnswept (config_of program markers) (report.history_of outcome.report)) → EndsWithCycle
-    (λ c w. AreKept c w entries) (config_of program markers) (report.history_of outcome.report) → texts ≡ flat_map
-    (λ (text : Text). text.bytes.items) outcome.texts.items → bytes ≡ texts ++ kept_text program entries
-    → TellsWhatIsKept program markers sweep bytes
-unfolding runs_stand_in_one_history
-run_is_explained program markers sweep outcome texts bytes entries runs begun unswept ends are is =
-    let lines = kept_text program entries in
-    let front = are ∙ runs_print_their_texts (cycles_go_on markers) true program markers outcome runs in
+counts_are : {c : Config} {es : List Event} {r : Report} → HasCounts c es r → lines_of_report r ≡ report_text c es
+counts_are h = cc (h.held, h.fresh, h.quarantined, h.released, h.cycles, h.full)
+
+-- So this is what a run writes.
+pub run_is_output : (options : Options) (program : List Item) (outcome : Outcome) (entries : List Kept) (bytes : List ℕ)
+    → IsRunOf (cycles_go_on (markers_beside options.marking)) options.why program (markers_beside options.marking)
+    outcome
+    → (cycles_go_on (markers_beside options.marking) ≡ true
+    → CyclesMarkRootsFirst (config_of program (markers_beside options.marking)) (report.history_of outcome.report))
+    → (is_sweep options.marking ≡ false
+    → IsUnswept (config_of program (markers_beside options.marking)) (report.history_of outcome.report))
+    → AreEntries options.why entries (config_of program (markers_beside options.marking))
+    (report.history_of outcome.report)
+    → bytes ≡ printed outcome ++ ((if options.report then lines_of_report outcome.report else [])
+    ++ kept_text program entries)
+    → IsOutputOfRun options program (report.history_of outcome.report) bytes
+run_is_output options program outcome entries bytes runs begun unswept kept are =
+    let markers = markers_beside options.marking in
+    let sweep = is_sweep options.marking in
+    let stands = runs_stand_in_one_history program markers sweep options.why outcome runs begun unswept in
     record {
+      stands = stands;
+      promises =
+          runs_keep_their_promises program markers sweep options.why (report.history_of outcome.report) stands;
       entries = entries;
-      stands =
-          runs_stand_in_one_history program markers sweep true outcome (λ c es. output program c es ++ lines) bytes
-          runs begun unswept (is ∙ ap (λ (text : List ℕ). text ++ lines) front);
-      ends_with_cycle = ends;
+      are_entries = kept;
+      bytes_are =
+          are ∙ ap₂ (λ (texts lines : List ℕ). texts ++ ((if options.report then lines else [])
+          ++ kept_text program entries))
+          (runs_print_their_texts (cycles_go_on markers) options.why program markers outcome runs)
+          (counts_are runs.counts);
     }
-
--- So a run is told, whether it is asked why objects are kept or not.
-
-pub told_why : (why : Bool) (program : List Item) (markers : ℕ) (sweep : Bool) (outcome : Outcome)
-    (texts bytes : List ℕ) (entries : List Kept) → why ≡ true → IsRunOf (cycles_go_on markers) why program markers
-    outcome → (cycles_go_on markers ≡ true → CyclesMarkRootsFirst (config_of program markers)
-    (report.history_of outcome.report)) → (sweep ≡ false → IsUnswept (config_of program markers)
-    (report.history_of outcome.report)) → EndsWithCycle (λ c w. AreKept c w entries) (config_of program markers)
-    (report.history_of outcome.report) → texts ≡ flat_map (λ (text : Text). text.bytes.items) outcome.texts.items
-    → bytes ≡ texts ++ kept_text program entries → IsOutputOfRun why program markers sweep bytes
-told_why why program markers sweep outcome texts bytes entries asked runs begun unswept ends are is =
-    subst (λ (w : Bool). IsOutputOfRun w program markers sweep bytes) (sym asked)
-    (run_is_explained program markers sweep outcome texts bytes entries (subst
-    (λ (w : Bool). IsRunOf (cycles_go_on markers) w program markers outcome) asked runs) begun unswept ends are is)
-
-pub told_texts : (why : Bool) (program : List Item) (markers : ℕ) (sweep : Bool) (outcome : Outcome) (bytes : List ℕ)
-    → why ≡ false → IsRunOf (cycles_go_on markers) why program markers outcome → (cycles_go_on markers ≡ true
-    → CyclesMarkRootsFirst (config_of program markers) (report.history_of outcome.report))
-    → (sweep ≡ false → IsUnswept (config_of program markers) (report.history_of outcome.report)) → bytes ≡ flat_map
-    (λ (text : Text). text.bytes.items) outcome.texts.items → IsOutputOfRun why program markers sweep bytes
-told_texts why program markers sweep outcome bytes asked runs begun unswept are =
-    subst (λ (w : Bool). IsOutputOfRun w program markers sweep bytes) (sym asked)
-    (run_is_printed program markers sweep outcome bytes
-    (subst (λ (w : Bool). IsRunOf (cycles_go_on markers) w program markers outcome) asked runs) begun unswept are)

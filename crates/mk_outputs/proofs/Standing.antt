@@ -11,8 +11,9 @@ use Rattle.mk_outputs.proofs.Walking.{count_filled, goes_on, holding, position_o
 use Rattle.mk_outputs.proofs.{Walking.{standing, start_filled, step_stops}, Rows.{entry, entry_other, entry_same}}
 use Rattle.mk_outputs.proofs.Rows.{has_entry, row, values_set}
 use Rattle.mk_outputs.specs.Given.{Flag, Form, Given, Numbers, bare, gens, given_awaited, given_said, given_with_word}
-use Rattle.mk_outputs.specs.Given.{has_flag, no_number, one_number, runs, said, sweep_flag, takes_markers, two_numbers}
-use Rattle.mk_outputs.specs.{Given.{why_flag, with_number, with_words}, Commands.{count_of, start_of}, Told.flag_name}
+use Rattle.mk_outputs.specs.Given.{has_flag, no_number, one_number, report_flag, runs, said, sweep_flag, takes_markers}
+use Rattle.mk_outputs.specs.Given.{two_numbers, why_flag, with_number, with_words}
+use Rattle.mk_outputs.specs.{Commands.{count_of, start_of}, Told.flag_name}
 
 -- ---- what the rows hold
 
@@ -47,6 +48,7 @@ same_id : (k j : Id) → bytes_eq (text_of k) (text_of j) ≡ true → k ≡ j
 same_id markers_id markers_id e = refl
 same_id (flag_id sweep_flag) (flag_id sweep_flag) e = refl
 same_id (flag_id why_flag) (flag_id why_flag) e = refl
+same_id (flag_id report_flag) (flag_id report_flag) e = refl
 same_id start_id start_id e = refl
 same_id count_id count_id e = refl
 same_id markers_id (flag_id sweep_flag) e = cc

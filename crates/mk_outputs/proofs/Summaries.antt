@@ -1,21 +1,23 @@
 -- The summary of a run of a generated program is that of its history.
-use Rattle.std.proofs.{Common.codes, Common.slice_get, Common.sum_by, lemmas.Fmt.decimal_digit, lemmas.List.drop_all}
+use Rattle.std.proofs.{Common.{codes, count_by, slice_get, sum_by}, lemmas.Fmt.decimal_digit, lemmas.List.drop_all}
 use Rattle.std.proofs.{lemmas.List.Sums.sum_by-cons, lemmas.Option.slice_get_within}
 use Rattle.std.specs.{Fmt.decimal, List.flat_map, List.range_with_len}
-use Rattle.mk_laws.proofs.Vocabulary.{Config, Event, List, Some, ℕ, ap, append-nil, append_assoc, arith, drop, false}
-use Rattle.mk_laws.proofs.Vocabulary.{get_or, length, refl, slice_index_or, suc, sym, true, [], ◌++◌, ◌+◌, ◌<◌, ◌∙◌}
-use Rattle.mk_laws.proofs.Vocabulary.{◌∷◌, ◌≡◌, ◌≤◌}
+use Rattle.mk_laws.proofs.Vocabulary.{Answer, Config, Event, List, Some, ℕ, ap, append-nil, append_assoc, arith, drop}
+use Rattle.mk_laws.proofs.Vocabulary.{false, get_or, length, refl, slice_index_or, suc, sym, true, [], ◌++◌, ◌+◌, ◌<◌}
+use Rattle.mk_laws.proofs.Vocabulary.{◌∙◌, ◌∷◌, ◌≡◌, ◌≤◌}
 use Rattle.mk_check.specs.{Declarations.config_of, Laws.IsScript, declared.text.Text.Text}
+use Rattle.mk_check.specs.{Feed.is_refusal, Output.answers_given}
 use Rattle.mk_run.specs.Below.Cycles.Roots.{CyclesMarkRootsFirst}
-use Rattle.mk_run.specs.Headline.{StandsInOneHistory, cycles_go_on}
+use Rattle.mk_run.specs.Headline.{cycles_go_on}
 use Rattle.mk_run.specs.{Running.{IsRunOf, answers_in}, Below.Heaps.Unswept.IsUnswept}
 use Rattle.mk_run.specs.Below.Heaps.Reports as report
 use Rattle.mk_run.specs.declared.outcomes.Outcome.{Outcome}
 use Rattle.mk_outputs.proofs.GeneratedLaws.{generated_declares_nodes, generated_makes_turns}
 use Rattle.mk_outputs.specs.Generated.{all_names, generated_program}
-use Rattle.mk_run.proofs.Headline.{runs_stand_in_one_history, runs_to_its_end}
+use Rattle.mk_run.proofs.Headline.{all_given, ends_of_run, none_is_left, noted_of_run}
+use Rattle.mk_run.proofs.Headline.{runs_keep_their_promises, runs_stand_in_one_history}
 use Rattle.mk_outputs.specs.SummedTexts.{AreFew, all_ops, line_of_text, lines_from, summary_of_texts}
-use Rattle.mk_outputs.specs.Summary.{calls_made, line_of_script, summary}
+use Rattle.mk_outputs.specs.{RunOutputs.IsSummaryOfRun, Summary.{line_of_script, summary}}
 use Rattle.mk_script.{proofs.Spacing.drop_next, specs.Scopes.script_names, specs.declared.items.Item.Item}
 
 -- Lines and sums, place by place.
@@ -88,34 +90,53 @@ module _ (start count markers : ℕ) (outcome : Outcome)
       let inside = slice_get_within outcome.texts.items k text is in
       omega arith
 
+  given : (k : ℕ) (text : Text) → slice_get outcome.texts.items k ≡ Some text
+      → answers_in c k es ≡ answers_given c es k
+  given k text is = sym (all_given k runs.whole (is_script k text is))
+
+  ops_are : (k : ℕ) (text : Text) → slice_get outcome.texts.items k ≡ Some text
+      → text.ops ≡ length (answers_given c es k)
+  ops_are k text is = (runs.texts k text is).ops ∙ ap (λ (xs : List Answer). length xs) (given k text is)
+
+  refusals_are : (k : ℕ) (text : Text) → slice_get outcome.texts.items k ≡ Some text
+      → text.refused ≡ count_by is_refusal (answers_given c es k)
+  refusals_are k text is =
+      (runs.texts k text is).refused ∙ ap (λ (xs : List Answer). count_by is_refusal xs) (given k text is)
+
   pub are_few : count ≤ 3000000 → AreFew outcome.texts.items
   are_few most k text is =
       let script = is_script k text is in
-      let ends = runs_to_its_end (cycles_go_on markers) false program markers outcome k runs script in
-      let made = (generated_makes_turns start count k script).calls (answers_in c k es) ends.ended in
-      let ops = (runs.texts k text is).ops in
+      let made = (generated_makes_turns start count k script).calls (answers_given c es k)
+      (ends_of_run runs k script) in
+      let all = none_is_left program markers k runs.whole script (noted_of_run runs k script) in
+      let ops = ops_are k text is in
       omega arith
 
   summary_is : summary_of_texts outcome.texts.items ≡ summary program c es
   summary_is =
       let texts = outcome.texts.items in
-      let lines = lines_are (line_of_script program c es) 0 texts (λ k text is.
+      let answers = answers_given c es in
+      let lines = lines_are (line_of_script program answers) 0 texts (λ k text is.
       let same : 0 + k ≡ k = omega arith in
-      ap (λ (j : ℕ). line_of_text j text) same ∙ (let t = runs.texts k text is in
-      let script = is_script k text is in
+      ap (λ (j : ℕ). line_of_text j text) same ∙ (let ops = ops_are k text is in
+      let refusals = refusals_are k text is in
       let inside = slice_get_within outcome.texts.items k text is in
       let e = four in
       let name : codes "s" ++ decimal k ≡ slice_index_or (script_names program) k [] =
       name_is k (omega arith) ∙ ap (λ (xs : List (List ℕ)). slice_index_or xs k []) (sym names) in
-      cc (name, t.ops, t.refused)) ∙ ap (line_of_script program c es) (sym same)) in
-      let sums = sums_are (calls_made c es) 0 texts (λ k text is.
-      (runs.texts k text is).ops ∙ ap (calls_made c es) (omega arith)) in
+      cc (name, ops, refusals)) ∙ ap (line_of_script program answers) (sym same)) in
+      let sums = sums_are (λ k. length (answers k)) 0 texts (λ k text is.
+      ops_are k text is ∙ ap (λ (j : ℕ). length (answers j)) (omega arith)) in
       let counted = runs.count in
       cc (lines, sums, counted)
 
   pub run_is_summed : (cycles_go_on markers ≡ true → CyclesMarkRootsFirst c es) → IsUnswept c es
       → (bytes : List ℕ) → bytes ≡ summary_of_texts outcome.texts.items
-      → StandsInOneHistory program markers false false (summary program) bytes
+      → IsSummaryOfRun program markers es bytes
   run_is_summed begun unswept bytes is =
-      runs_stand_in_one_history program markers false false outcome (summary program) bytes runs begun (λ none. unswept)
-      (is ∙ summary_is)
+      let stands = runs_stand_in_one_history program markers false false outcome runs begun (λ none. unswept) in
+      record {
+        stands = stands;
+        promises = runs_keep_their_promises program markers false false es stands;
+        bytes_are = is ∙ summary_is;
+      }

@@ -13,8 +13,9 @@ use Rattle.mk_outputs.proofs.{Standing.text_of, Walking.{count_filled, flag_fill
 use Rattle.mk_outputs.proofs.{Walking.{rest_rows, rules, shape, standing, start_filled}, Rows.{entry, entry_other}}
 use Rattle.mk_outputs.proofs.Rows.{entry_same, first_of_entry, has_entry, one_of_entry, row, values_added}
 use Rattle.mk_outputs.proofs.Tells.{tells}
-use Rattle.mk_outputs.specs.Given.{Form, Given, bare, gens, given_by, no_number, nothing_given, runs, sweep_flag}
-use Rattle.mk_outputs.specs.{Given.why_flag, Told.{HasFlags, HasGiven, app_named}, declared.commands.Command.Command}
+use Rattle.mk_outputs.specs.Given.{Form, Given, bare, gens, given_by, no_number, nothing_given, report_flag, runs}
+use Rattle.mk_outputs.specs.{Given.{sweep_flag, why_flag}, Told.{HasFlags, HasGiven, app_named}}
+use Rattle.mk_outputs.specs.declared.commands.Command.{Command}
 
 -- ---- the values that stand where a flag wasn't given
 
@@ -37,8 +38,14 @@ flag_same : (id : Text) (rows : List Row) (b : Bool) → bytes_eq id id ≡ true
     → entry id (with_default rows (flag_filled id)) ≡ Some (bool_text b ∷ [], AsWritten)
 flag_same id rows x2 e h = grind (arith, has_entry, entry, values_added, entry_same, row)
 
+abbrev with_sweep : List Row → List Row
+with_sweep rows = with_default rows (flag_filled (codes "sweep"))
+
+abbrev with_why : List Row → List Row
+with_why rows = with_default (with_sweep rows) (flag_filled (codes "why"))
+
 abbrev defaulted : Form → List Row → List Row
-defaulted runs rows = with_default (with_default rows (flag_filled (codes "sweep"))) (flag_filled (codes "why"))
+defaulted runs rows = with_default (with_why rows) (flag_filled (codes "report"))
 defaulted _ rows = rows
 
 abbrev with_defaults : Form → List Row → List Row
@@ -63,25 +70,33 @@ flag_found id rows b e = cc (one_of_entry id rows)
 -- what the words gave stands where the flags have their values
 stays : (form : Form) (rows : List Row) (t : Given) → Holds rows t → (k : Id)
     → bytes_eq (codes "sweep") (text_of k) ≡ false → bytes_eq (codes "why") (text_of k) ≡ false
+    → bytes_eq (codes "report") (text_of k) ≡ false
     → first_of (text_of k) (with_defaults form rows) ≡ given_for k t
-stays form rows t h k not_sweep not_why =
+stays form rows t h k not_sweep not_why not_report =
     grind (arith, text_of, with_defaults, given_for, entry, defaulted_is, defaulted, flag_other, first_of_entry)
 
 has_given : (form : Form) (rows : List Row) (t : Given) → Holds rows t → HasGiven form (with_defaults form rows) t
 has_given form rows t h = record {
-  markers = stays form rows t h markers_id refl refl;
+  markers = stays form rows t h markers_id refl refl refl;
   flags = by form;
-  start = stays form rows t h start_id refl refl;
-  count = stays form rows t h count_id refl refl;
+  start = stays form rows t h start_id refl refl refl;
+  count = stays form rows t h count_id refl refl refl;
 }
   where
     by : (f : Form) → HasFlags f (with_defaults f rows) t
     by runs = subst (λ (r : List Row). HasFlags runs r t) (sym (defaulted_is runs rows)) (
       flag_found (codes "sweep") (defaulted runs rows) t.sweep
-          (flag_other (codes "why") (codes "sweep") (with_default rows (flag_filled (codes "sweep"))) refl
-          ∙ flag_same (codes "sweep") rows t.sweep refl (h (flag_id sweep_flag))),
-      flag_found (codes "why") (defaulted runs rows) t.why (flag_same (codes "why") (with_default rows (flag_filled
-          (codes "sweep"))) t.why refl (flag_other (codes "sweep") (codes "why") rows refl ∙ h (flag_id why_flag))),
+          (flag_other (codes "report") (codes "sweep") (with_why rows) refl
+          ∙ (flag_other (codes "why") (codes "sweep") (with_sweep rows) refl
+          ∙ flag_same (codes "sweep") rows t.sweep refl (h (flag_id sweep_flag)))),
+      flag_found (codes "why") (defaulted runs rows) t.why
+          (flag_other (codes "report") (codes "why") (with_why rows) refl
+          ∙ flag_same (codes "why") (with_sweep rows) t.why refl
+          (flag_other (codes "sweep") (codes "why") rows refl ∙ h (flag_id why_flag))),
+      flag_found (codes "report") (defaulted runs rows) t.report
+          (flag_same (codes "report") (with_why rows) t.report refl
+          (flag_other (codes "why") (codes "report") (with_sweep rows) refl
+          ∙ (flag_other (codes "sweep") (codes "report") rows refl ∙ h (flag_id report_flag)))),
     )
     by _ = tt
 

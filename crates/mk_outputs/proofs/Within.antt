@@ -13,12 +13,12 @@ within_if : (b : Bool) (x y : Option Command) → IfSome x IsWithin → IfSome y
 within_if true x y h k = h
 within_if false x y h k = k
 
-within_options : (sweep why : Bool) (markers : ℕ) → markers ≤ 8 → (b : Bool) → nat_lt 0 markers ≡ b
-    → IfSome (run_with sweep why markers) IsWithin
-within_options true why markers few true e = rw e tt
-within_options true why markers few false e = rw e tt
-within_options false why markers few true e = rw e (grind (arith, nat_tests))
-within_options false why markers few false e = rw e tt
+within_options : (sweep why report : Bool) (markers : ℕ) → markers ≤ 8 → (b : Bool) → nat_lt 0 markers ≡ b
+    → IfSome (run_with sweep why report markers) IsWithin
+within_options true why report markers few true e = rw e tt
+within_options true why report markers few false e = rw e tt
+within_options false why report markers few true e = rw e (grind (arith, nat_tests))
+within_options false why report markers few false e = rw e tt
 
 within_run : (g : Given) → IfSome (run_of g) IsWithin
 within_run g = grind (arith, few_markers, within_options)

@@ -25,13 +25,14 @@ marking_by true markers = if nat_lt 0 markers then None else Some Sweep
 marking_by false markers = Some (traced_by markers)
 
 -- `run` with these options, if they go together
-abbrev pub run_with : Bool → Bool → ℕ → Option Command
-run_with sweep why markers =
-    option_map (λ marking. OnText (Run (record { marking = marking; why = why }))) (marking_by sweep markers)
+abbrev pub run_with : Bool → Bool → Bool → ℕ → Option Command
+run_with sweep why report markers =
+    option_map (λ marking. OnText (Run (record { marking = marking; why = why; report = report })))
+    (marking_by sweep markers)
 
 -- `run` with what was given
 abbrev pub run_of : Given → Option Command
-run_of g = option_and_then (run_with g.sweep g.why) (markers_of g.markers)
+run_of g = option_and_then (run_with g.sweep g.why g.report) (markers_of g.markers)
 
 -- the first number that was given
 abbrev pub start_of : Numbers → Option (List ℕ)

@@ -23,6 +23,7 @@ takes_flags _ = false
 pub data Flag : Type 0 where
   sweep_flag : Flag
   why_flag : Flag
+  report_flag : Flag
 
 -- what a word says: that no option comes after it, an option, one that there isn't, or no option
 pub data Said : Type 0 where
@@ -55,6 +56,7 @@ said word =
     else if bytes_eq word (codes "--markers") then markers_said None
     else if bytes_eq word (codes "--sweep") then flag_said sweep_flag
     else if bytes_eq word (codes "--why") then flag_said why_flag
+    else if bytes_eq word (codes "--report") then flag_said report_flag
     else said_other (behind (codes "--markers=") word) word
 
 -- the words that are no options
@@ -74,6 +76,7 @@ pub record Given : Type 0 where
   pub markers : Option (List ℕ)
   pub sweep : Bool
   pub why : Bool
+  pub report : Bool
   pub numbers : Numbers
   -- `--markers` was read, and its number comes next
   pub awaits : Bool
@@ -82,8 +85,15 @@ pub record Given : Type 0 where
 
 -- nothing was given yet
 abbrev pub nothing_given : Given
-nothing_given =
-    record { markers = None; sweep = false; why = false; numbers = no_number; awaits = false; ended = false }
+nothing_given = record {
+  markers = None;
+  sweep = false;
+  why = false;
+  report = false;
+  numbers = no_number;
+  awaits = false;
+  ended = false;
+}
 
 -- Each option is given at most once.
 
@@ -100,11 +110,13 @@ markers_by (Some digits) g = with_markers g digits
 abbrev pub has_flag : Flag → Given → Bool
 has_flag sweep_flag g = g.sweep
 has_flag why_flag g = g.why
+has_flag report_flag g = g.report
 
 -- with this flag
 abbrev pub set_flag : Flag → Given → Given
 set_flag sweep_flag g = record g { sweep = true }
 set_flag why_flag g = record g { why = true }
+set_flag report_flag g = record g { report = true }
 
 -- the flag is given, once
 abbrev pub with_flag : Flag → Given → Option Given

@@ -1,11 +1,18 @@
--- What the programs of the generator are.
-use Rattle.std.specs.Prelude.{◌≡◌, ℕ, ◌+◌, ◌*◌, true, List, [], ◌∷◌, replicate, length}
+-- What is written of runs, and what the programs of the generator are.
+use Rattle.std.specs.Prelude.{◌≡◌, ℕ, ◌+◌, ◌*◌, true, List, [], ◌∷◌, Option, replicate, length}
 use Rattle.mk_never.specs.declared.types.Kind.TheVariants.{Num, To}
 use Rattle.mk_core.specs.declared.events.Answer.{Answer}
 use Rattle.mk_script.specs.{declared.items.Item.Item, Scopes.script_names}
 use Rattle.mk_check.specs.{Blocks.script_of, Lengths.script_length, Declarations.{pages_of, resident_of, types_of}}
 use Rattle.mk_check.specs.{Declarations.globals_of, Feed.{feed, has_ended}}
-use Rattle.mk_outputs.specs.Generated.{all_names}
+use Rattle.mk_outputs.specs.{declared.commands.Command.Command, declared.outputs.Output.Output, Generated.all_names}
+use Rattle.mk_outputs.specs.{Outputs.IsOutputOfCommand, Seen.IsSeen}
+
+-- What a command writes on what the source had left is seen.
+abbrev pub OutputsAreSeen : Type 0
+OutputsAreSeen =
+    (command : Command) (old new : Option (List ℕ)) (output : Output)
+    → IsOutputOfCommand command old new output → IsSeen command old output.bytes.items
 
 -- A heap of 256 pages, all of which may be resident; a type of a number and a link to its like, and one of this many
 -- numbers; a global for the first; and the scripts.

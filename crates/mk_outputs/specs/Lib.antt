@@ -1,4 +1,7 @@
 pub mod KeptText
+pub mod ReportText
+pub mod RunOutputs
+pub mod Seen
 pub mod Outputs
 pub mod Statuses
 pub mod Summary

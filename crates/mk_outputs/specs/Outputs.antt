@@ -1,33 +1,32 @@
 -- What a command writes, and the status that it ends with where nothing fails.
 use Rattle.std.specs.declared.result.Result.{Result}
-use Rattle.std.specs.Prelude.{◌≡◌, ℕ, Bool, true, false, List, [], ◌++◌, Option, Some, None, IfSome, Ok as Accepted}
-use Rattle.std.specs.Prelude.{Err as Refused, ◌⊎◌}
+use Rattle.std.specs.Prelude.{◌≡◌, ◌⊎◌, ℕ, List, [], Option, Some, None, IfSome, IsSomeAnd, Ok as Accepted}
+use Rattle.std.specs.Prelude.{Err as Refused}
 use lib.Chars.{codes}
 use Rattle.mk_io.specs.declared.reading.ReadStop.{ReadStop}
 use Rattle.mk_script.specs.{declared.faults.Which.TheVariants.Bytes, declared.items.Item.Item}
 use Rattle.mk_script.specs.{declared.faults.TextStop.TextStop, Grammar.program_of, Canonical.canonical_text}
 use Rattle.mk_check.specs.{declared.typing_faults.TypeStop.TypeStop, Typing.{TypingFault, first_typing_fault}}
 use Rattle.mk_check.specs.Declarations.{config_of}
-use Rattle.mk_core.specs.{declared.config.Config.Config, declared.events.Event.Event, History.AreEnabled}
+use Rattle.mk_core.specs.{declared.events.Event.Event, History.AreEnabled}
 use Rattle.mk_laws.specs.Promises.{KeepsAllPromises}
-use Rattle.mk_run.specs.{Headline.StandsInOneHistory, Below.Heaps.LastCycle.EndsWithCycle}
-use Rattle.mk_run.specs.{Below.Chains.declared.kept.Kept.Kept, Below.Chains.Chains.AreKept}
 use Rattle.mk_outputs.specs.declared.commands.Command.{Command}
 use Rattle.mk_outputs.specs.declared.commands.Command.TheVariants as asked
 use Rattle.mk_outputs.specs.{Generated.generated_program, declared.commands.TextCommand.TextCommand}
 use Rattle.mk_outputs.specs.declared.commands.TextCommand.TheVariants.{Run, Check, Print, Replay, Trace}
-use Rattle.mk_outputs.specs.{declared.commands.Request.Request, Commands.{command_of, is_sweep, markers_beside}}
+use Rattle.mk_outputs.specs.{declared.commands.Request.Request, declared.outputs.Output.Output, Commands.command_of}
 use Rattle.mk_replay.specs.{declared.schedule.Entry.Entry, declared.replaying.ReplayStop.ReplayStop}
 use Rattle.mk_replay.specs.{Schedules.replay_of, Replays.{history_of, refusal_of}}
 use Rattle.mk_trace.specs.{declared.faults.TraceStop.TraceStop, declared.peaks.Peaks.Peaks, Traces.{Contents, trace_of}}
 use Rattle.mk_trace.specs.{Playing.{IsPlayed, ArePeaks}, Printed.peaks_text}
 use Rattle.mk_outputs.specs.{declared.statuses.Status.Status, declared.statuses.Status.TheVariants.{Ok, NoMemory}}
 use Rattle.mk_outputs.specs.declared.statuses.Status.TheVariants.{ReadFault, Text, IllTyped, Limit, NotEnabled}
-use Rattle.mk_outputs.specs.{KeptText.kept_text, Summary.summary}
+use Rattle.mk_outputs.specs.RunOutputs.{IsOutputOfRun, IsSummaryOfRun}
 use Rattle.mk_io.specs.declared.reading.ReadStop.TheVariants as reading
 use Rattle.mk_script.specs.declared.faults.TextStop.TheVariants as stop
 use Rattle.mk_check.specs.declared.typing_faults.TypeStop.TheVariants as typing
 use Rattle.mk_check.specs.Output.{output as output_behind}
+use Rattle.mk_run.specs.Below.Heaps.Reports.{history_of as history_of_report}
 use Rattle.mk_replay.specs.declared.replaying.ReplayStop.TheVariants as replay
 use Rattle.mk_trace.specs.declared.faults.TraceStop.TheVariants as trace
 
@@ -100,41 +99,17 @@ status_on Replay input = status_of_replay (replay_of input)
 status_on Trace input = status_of_trace (trace_of input)
 status_on command input = status_of_text command (program_of input)
 
--- What a run prints that says why objects are kept. The program's replies stand in one history of its heap, and what
--- its scripts print of it is written, whole, and after that the lines of the entries. In this history a cycle is begun
--- and ended after the last step of every script, in one turn of the host. The entries are those of its `close`, the
--- last one of all: each object that was freed before this cycle and is marked, with a shortest chain from a register or
--- a global to it.
-pub record TellsWhatIsKept (program : List Item) (markers : ℕ) (sweep : Bool) (output : List ℕ) : Type 0 where
-  pub entries : List Kept
-  pub stands :
-      StandsInOneHistory program markers sweep true (λ c es. output_behind program c es ++ kept_text program entries)
-      output
-  pub ends_with_cycle : EndsWithCycle (λ c w. AreKept c w entries) (config_of program markers) stands.history
-
--- Where it is asked why objects are kept, the entries are what the history's last cycle kept, and there are none else.
-abbrev pub TellsKept : Bool → Option (List Kept) → Config → List Event → Type 0
-TellsKept why None c es = why ≡ false
-TellsKept why (Some entries) c es = (why ≡ true) × EndsWithCycle (λ c w. AreKept c w entries) c es
-
--- What a run prints, asked why objects are kept or not: without that, its program's replies stand in one history of its
--- heap, and what its scripts print of it is written.
-abbrev pub IsOutputOfRun : Bool → List Item → ℕ → Bool → List ℕ → Type 0
-IsOutputOfRun true program markers sweep output = TellsWhatIsKept program markers sweep output
-IsOutputOfRun false program markers sweep output =
-    StandsInOneHistory program markers sweep false (output_behind program) output
-
--- What the command writes on this program.
-abbrev pub IsOutputOf : TextCommand → List Item → List ℕ → Type 0
-IsOutputOf (Run options) program output =
-    IsOutputOfRun options.why program (markers_beside options.marking) (is_sweep options.marking) output
-IsOutputOf Check program output = output ≡ codes "ok\n"
-IsOutputOf Print program output = output ≡ canonical_text program
+-- What a command writes on a program. What a run writes is of the history that the report on its heap has.
+abbrev pub IsOutputOf : TextCommand → List Item → Output → Type 0
+IsOutputOf (Run options) program output = IsSomeAnd output.report
+    (λ report. IsOutputOfRun options program (history_of_report report) output.bytes.items)
+IsOutputOf Check program output = output.bytes.items ≡ codes "ok\n"
+IsOutputOf Print program output = output.bytes.items ≡ canonical_text program
 IsOutputOf Replay program output = ⊥
 IsOutputOf Trace program output = ⊥
 
 -- what a command on a program writes on one that it accepts
-pub record IsOutputOnProgram (command : TextCommand) (input output : List ℕ) : Type 0 where
+pub record IsOutputOnProgram (command : TextCommand) (input : List ℕ) (output : Output) : Type 0 where
   pub program : List Item
   pub is_text : program_of input ≡ Accepted program
   pub accepted : status_of_program command program ≡ Ok
@@ -162,41 +137,39 @@ pub record TellsOfPlay (contents : Contents) (output : List ℕ) : Type 0 where
 pub record IsOutputOnTrace (input output : List ℕ) : Type 0 where
   pub contents : Contents
   pub is_text : trace_of input ≡ Accepted contents
-  pub told : TellsOfPlay contents output
+  pub output_is : TellsOfPlay contents output
 
 -- what a command writes on an input that it accepts
-abbrev pub IsOutput : TextCommand → List ℕ → List ℕ → Type 0
-IsOutput Replay input output = IsOutputOnSchedule input output
-IsOutput Trace input output = IsOutputOnTrace input output
+abbrev pub IsOutput : TextCommand → List ℕ → Output → Type 0
+IsOutput Replay input output = IsOutputOnSchedule input output.bytes.items
+IsOutput Trace input output = IsOutputOnTrace input output.bytes.items
 IsOutput command input output = IsOutputOnProgram command input output
 
 -- An input was read from the source to its end, and this is what the command writes on it. Where the source doesn't
 -- tell its bytes, there is such an input.
-pub record IsOutputOnSource (command : TextCommand) (old new : Option (List ℕ)) (output : List ℕ) : Type 0 where
+pub record IsOutputOnSource (command : TextCommand) (old new : Option (List ℕ)) (output : Output) : Type 0 where
   pub input : List ℕ
   pub read : IfSome old (λ left. (input ≡ left) × (new ≡ Some []))
   pub is_output : IsOutput command input output
 
--- What `gen` writes: the generated program's replies stand in one history of its heap, and it is summed up. Nothing is
--- read.
-pub record IsOutputOfRequest (request : Request) (old new : Option (List ℕ)) (output : List ℕ) : Type 0 where
+-- What `gen` writes: it sums up the run of the generated program. Nothing is read.
+pub record IsOutputOfRequest (request : Request) (old new : Option (List ℕ)) (output : Output) : Type 0 where
   pub unread : new ≡ old
-  pub output_is :
-      let program = generated_program request.start request.count in
-      StandsInOneHistory program request.markers false false (summary program) output
+  pub output_is : IsSomeAnd output.report (λ report. IsSummaryOfRun (generated_program request.start request.count)
+      request.markers (history_of_report report) output.bytes.items)
 
--- What the command writes on this input.
-abbrev pub IsOutputOfCommand : Command → Option (List ℕ) → Option (List ℕ) → List ℕ → Type 0
+-- What the command writes, whether it reads a text or not.
+abbrev pub IsOutputOfCommand : Command → Option (List ℕ) → Option (List ℕ) → Output → Type 0
 IsOutputOfCommand (asked.OnText on_text) old new output = IsOutputOnSource on_text old new output
 IsOutputOfCommand (asked.Gen request) old new output = IsOutputOfRequest request old new output
 
 -- W holds of what the words' command writes, where the source had one list of bytes left, and then the other.
 pub record HasAnswered (words : List (List ℕ)) (old new : Option (List ℕ)) (W : List ℕ → Type 0) : Type 0 where
   pub command : Command
-  pub output : List ℕ
+  pub output : Output
   pub named : command_of words ≡ Some command
   pub answers : IsOutputOfCommand command old new output
-  pub written : W output
+  pub written : W output.bytes.items
 
 -- The command's status on what is left of the source, or no memory.
 abbrev pub IsStatusOf : Command → Option (List ℕ) → Status → Type 0

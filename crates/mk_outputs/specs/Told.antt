@@ -3,8 +3,8 @@ use Rattle.std.specs.Prelude.{◌≡◌, true, List, [], ◌∷◌, Some}
 use lib.Chars.{codes}
 use Rattle.clap.specs.{Values.bool_text, Walk.{Row, Rule, Text, first_of, one_of}, Simple.{App, Shape, new_rule}}
 use Rattle.clap.specs.{Simple.new_shape, declared.builder.action.ArgAction.TheVariants.{Set, SetTrue}}
-use Rattle.mk_outputs.specs.{Commands.{start_of, count_of}, Given.{Form, runs, gens, bare, Flag, sweep_flag, why_flag}}
-use Rattle.mk_outputs.specs.Given.{Given}
+use Rattle.mk_outputs.specs.{Commands.{start_of, count_of}, Given.{Flag, Form, Given, bare, gens, report_flag, runs}}
+use Rattle.mk_outputs.specs.Given.{sweep_flag, why_flag}
 
 -- what clap is told of `--markers`
 abbrev pub markers_rule : Rule
@@ -22,10 +22,12 @@ positional_rule name = record (new_rule name) { action = Some Set }
 abbrev pub flag_name : Flag → Text
 flag_name sweep_flag = codes "sweep"
 flag_name why_flag = codes "why"
+flag_name report_flag = codes "report"
 
 -- what it is told of a form's words
 abbrev pub rules_of : Form → List Rule
-rules_of runs = markers_rule ∷ flag_rule (codes "sweep") ∷ flag_rule (codes "why") ∷ []
+rules_of runs =
+    markers_rule ∷ flag_rule (codes "sweep") ∷ flag_rule (codes "why") ∷ flag_rule (codes "report") ∷ []
 rules_of gens = markers_rule ∷ positional_rule (codes "start") ∷ positional_rule (codes "count") ∷ []
 rules_of bare = []
 
@@ -45,6 +47,7 @@ app_named form name = app_with (rules_of form) name
 abbrev pub HasFlags : Form → List Row → Given → Type 0
 HasFlags runs rows g = (one_of (codes "sweep") rows ≡ Some (bool_text g.sweep))
     × (one_of (codes "why") rows ≡ Some (bool_text g.why))
+    × (one_of (codes "report") rows ≡ Some (bool_text g.report))
 HasFlags _ rows g = Unit {0}
 
 -- What clap has taken is what was given.

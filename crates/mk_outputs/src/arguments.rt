@@ -61,11 +61,12 @@ fn with_markers<'a>(
     Ok(command)
 }
 
-/// `run [--markers K] [--sweep] [--why]`.
+/// `run [--markers K] [--sweep] [--why] [--report]`.
 pub fn run(alloc: Global, name: &str) -> Result<Command<'_>, NoMemory>
     ensures { IfOk result (λ command. app_of command ≡ app_named runs name.entry.now) }
 {
-    with_markers(alloc, name, flag(alloc, "sweep"), flag(alloc, "why"))
+    let command = with_markers(alloc, name, flag(alloc, "sweep"), flag(alloc, "why"))?;
+    Ok(command.arg(flag(alloc, "report"))?)
 }
 
 /// `gen START COUNT [--markers K]`.

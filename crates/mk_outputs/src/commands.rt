@@ -32,6 +32,8 @@ pub struct Options {
     pub marking: Marking,
     /// What the last cycle kept is printed, and why.
     pub why: bool,
+    /// The counts of the heap at the end are printed.
+    pub report: bool,
 }
 
 /// How cycles mark.

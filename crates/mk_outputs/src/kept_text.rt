@@ -1,10 +1,11 @@
 //! The lines that report what the last cycle kept, and why.
-ghost use Rattle.std.specs.{Prelude.{◌≡◌, ◌++◌, [], ◌∷◌, List, OnOk}, List.flat_map, Fmt.decimal};
+ghost use Rattle.std.specs.{Prelude.{◌≡◌, ◌++◌, [], ◌∷◌, List, OnOk}, Fmt.decimal};
 ghost use Rattle.mk_script.specs.Canonical.{line_text};
 ghost use Rattle.mk_outputs.specs.KeptText.{root_words, links_text, entry_text, kept_text};
 ghost use lib.Chars.{codes};
 
 use crate::names::{global_name, register_name, script_name};
+use crate::pieces::{push, push_pieces};
 use itoa::Buffer;
 use mk_never::NoMemory;
 use mk_run::lower::chains::{Kept, Root};
@@ -71,16 +72,6 @@ fn push_root(text: &mut Vec<u8>, items: &[Item], root: Option<Root>) -> Result<(
     }
 }
 
-/// Appends pieces, one after the other.
-fn push_pieces(text: &mut Vec<u8>, pieces: &[&[u8]]) -> Result<(), NoMemory>
-    ensures { OnOk result (text.new.items ≡ text.old.items ++ flat_map (λ piece. piece.now) pieces.now) }
-{
-    for piece in pieces {
-        push(text, piece)?;
-    }
-    Ok(())
-}
-
 /// Appends the lines of the words through which an entry is reached.
 fn push_links(text: &mut Vec<u8>, links: &[u64]) -> Result<(), NoMemory>
     ensures { OnOk result (text.new.items ≡ text.old.items ++ links_text links.now) }
@@ -97,10 +88,4 @@ fn push_link(text: &mut Vec<u8>, link: u64) -> Result<(), NoMemory>
 {
     let mut at = Buffer::new();
     push_pieces(text, &[b"word ", at.format(link).as_bytes(), b"\n"])
-}
-
-fn push(text: &mut Vec<u8>, piece: &[u8]) -> Result<(), NoMemory>
-    ensures { OnOk result (text.new.items ≡ text.old.items ++ piece.now) }
-{
-    Ok(text.extend_from_slice(piece)?)
 }

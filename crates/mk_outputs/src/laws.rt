@@ -1,9 +1,14 @@
-//! Laws of the generator's programs. Each is the contract of a function that does nothing.
+//! Laws of what is written, and of the generator's programs. Each is the contract of a function that does nothing.
 ghost use Rattle.std.specs.Prelude.{ℕ, ◌≡◌, ◌≤◌, Ok};
 ghost use Rattle.mk_script.specs.Grammar.{program_of};
 ghost use Rattle.mk_check.specs.Laws.{IsChecked, IsScript};
 ghost use Rattle.mk_outputs.specs.Generated.{count_of_numbers, turns_of, generated_program};
-ghost use Rattle.mk_outputs.specs.{GeneratedText.generated_text, Laws.{DeclaresNodes, MakesTurns}};
+ghost use Rattle.mk_outputs.specs.{GeneratedText.generated_text, Laws.{DeclaresNodes, MakesTurns, OutputsAreSeen}};
+
+/// What is written of a run, of a text's program or of a generated one, is of a run that can be observed.
+pub fn outputs_are_seen()
+    ensures { OutputsAreSeen }
+{}
 
 /// The generated text is a text of the generated program, which is well typed.
 pub fn generated_programs_are_checked()

@@ -12,7 +12,9 @@ pub mod laws;
 pub mod lower;
 mod names;
 mod outputs;
+mod pieces;
 mod replays;
+mod report_text;
 mod running;
 mod statuses;
 mod summing;
@@ -23,6 +25,6 @@ mod words;
 
 pub use commands::{Command, Marking, Options, Request, TextCommand};
 pub use generating::generate;
-pub use outputs::output_of;
+pub use outputs::{Output, output_of};
 pub use statuses::Status;
 pub use words::command_in;

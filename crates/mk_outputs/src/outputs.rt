@@ -4,7 +4,8 @@ ghost use Rattle.mk_io.specs.{Bytes.TakesAll, Faults.Rose};
 ghost use Rattle.mk_script.specs.Grammar.{program_of};
 ghost use Rattle.mk_outputs.specs.Commands.{AreWithin, IsWithin, MarkersAreWithin};
 ghost use Rattle.mk_outputs.specs.Outputs.{IsOutputOfCommand, IsOutput, IsOutputOf, IsStatusOf, HasNoRead, status_on};
-ghost use Rattle.mk_outputs.specs.{Outputs.{status_of_program, status_of_text}, Statuses.{IsBeforeWriting, IsOfText}};
+ghost use Rattle.mk_outputs.specs.{Outputs.{status_of_program, status_of_text}, Seen.IsSeen};
+ghost use Rattle.mk_outputs.specs.Statuses.{IsBeforeWriting, IsOfText};
 
 use crate::commands::{Command, Options, TextCommand};
 use crate::replays::replayed;
@@ -14,11 +15,30 @@ use crate::summing::summed;
 use crate::traces::played;
 use mk_check::check;
 use mk_io::{Source, read_all};
-use mk_run::lower::heaps::Pace;
+use mk_run::lower::heaps::{Pace, Report};
 use mk_script::{Program, parse, print};
 use std::alloc::Global;
 use std::sync::Wait;
 use std::thread::Threads;
+
+/// All that a command writes and, with `run` and `gen`, the report on the heap that ran, which is closed.
+#[derive(Drop)]
+pub struct Output {
+    pub bytes: Vec<u8>,
+    pub report: Option<Report>,
+}
+
+impl Output {
+    /// What is written where no heap ran.
+    fn of_bytes(bytes: Vec<u8>) -> Output
+        ensures { result.bytes ≡ bytes }
+    {
+        Output {
+            bytes,
+            report: None,
+        }
+    }
+}
 
 /// What a command writes, whole, or the status with which it is refused.
 pub fn output_of<S: Source, P: Pace + Sync, R: Threads + Wait + Sync>(
@@ -27,10 +47,11 @@ pub fn output_of<S: Source, P: Pace + Sync, R: Threads + Wait + Sync>(
     command: Command,
     source: &mut S,
     pace: &P,
-) -> Result<Vec<u8>, Status>
+) -> Result<Output, Status>
     requires { IsWithin command }
     ensures ok { IfOk result (λ output. IsOutputOfCommand command (S.left source.old)
-        (S.left source.new) output.items) }
+        (S.left source.new) output) }
+    ensures seen { IfOk result (λ output. IsSeen command (S.left source.old) output.bytes.items) }
     ensures accepted { OnOk result (IsStatusOf command (S.left source.old) Status.Ok) }
     ensures refused { IfErr result (λ status. status ≢ Status.ReadFault
         → IsStatusOf command (S.left source.old) status) }
@@ -71,9 +92,9 @@ fn output_on<P: Pace + Sync, R: Threads + Wait + Sync>(
     command: TextCommand,
     text: &[u8],
     pace: &P,
-) -> Result<Vec<u8>, Status>
+) -> Result<Output, Status>
     requires { AreWithin command }
-    ensures ok { IfOk result (λ output. IsOutput command text.now output.items) }
+    ensures ok { IfOk result (λ output. IsOutput command text.now output) }
     ensures accepted { OnOk result (status_on command text.now ≡ Status.Ok) }
     ensures refused { IfErr result (λ status. (status ≡ Status.NoMemory) ⊎ (status ≡ status_on command text.now)) }
     ensures of_text { IfErr result (λ status. IsOfText status) }
@@ -82,8 +103,8 @@ fn output_on<P: Pace + Sync, R: Threads + Wait + Sync>(
         TextCommand::Run(options) => run(rt, alloc, options, read(alloc, text)?, pace),
         TextCommand::Check => accept(alloc, read(alloc, text)?),
         TextCommand::Print => canonical(alloc, read(alloc, text)?),
-        TextCommand::Replay => replayed(alloc, text),
-        TextCommand::Trace => played(rt, alloc, text),
+        TextCommand::Replay => Ok(Output::of_bytes(replayed(alloc, text)?)),
+        TextCommand::Trace => Ok(Output::of_bytes(played(rt, alloc, text)?)),
     }
 }
 
@@ -98,35 +119,35 @@ fn read(alloc: Global, text: &[u8]) -> Result<Program, Status>
 }
 
 /// The canonical text of a program.
-fn canonical(alloc: Global, program: Program) -> Result<Vec<u8>, Status>
-    ensures ok { IfOk result (λ output. IsOutputOf TextCommand.Print program output.items) }
+fn canonical(alloc: Global, program: Program) -> Result<Output, Status>
+    ensures ok { IfOk result (λ output. IsOutputOf TextCommand.Print program output) }
     ensures refused { IfErr result (λ status. status ≡ Status.NoMemory) }
 {
-    Ok(print(alloc, &program)?)
+    Ok(Output::of_bytes(print(alloc, &program)?))
 }
 
 /// The line `ok`, where a program is well typed.
-fn accept(alloc: Global, program: Program) -> Result<Vec<u8>, Status>
-    ensures ok { IfOk result (λ output. IsOutputOf TextCommand.Check program output.items) }
+fn accept(alloc: Global, program: Program) -> Result<Output, Status>
+    ensures ok { IfOk result (λ output. IsOutputOf TextCommand.Check program output) }
     ensures accepted { OnOk result (status_of_program TextCommand.Check program ≡ Status.Ok) }
     ensures refused { IfErr result (λ status. (status ≡ Status.NoMemory)
         ⊎ (status ≡ status_of_program TextCommand.Check program)) }
     ensures of_text { IfErr result (λ status. IsOfText status) }
 {
     check(alloc, program)?;
-    Ok(b"ok\n".to_vec(alloc)?)
+    Ok(Output::of_bytes(b"ok\n".to_vec(alloc)?))
 }
 
-/// What a program's scripts print, and after it, where this is asked, what the last cycle kept and why.
+/// What a program's scripts print, and after it what the options ask for.
 fn run<P: Pace + Sync, R: Threads + Wait + Sync>(
     rt: &R,
     alloc: Global,
     options: Options,
     program: Program,
     pace: &P,
-) -> Result<Vec<u8>, Status>
+) -> Result<Output, Status>
     requires { MarkersAreWithin options.marking }
-    ensures ok { IfOk result (λ output. IsOutputOf (TextCommand.Run options) program output.items) }
+    ensures ok { IfOk result (λ output. IsOutputOf (TextCommand.Run options) program output) }
     ensures accepted { OnOk result (status_of_program (TextCommand.Run options) program ≡ Status.Ok) }
     ensures refused { IfErr result (λ status. (status ≡ Status.NoMemory)
         ⊎ (status ≡ status_of_program (TextCommand.Run options) program)) }

@@ -1,12 +1,14 @@
 //! Generated programs, and the summaries of their runs.
-ghost use Rattle.std.specs.Prelude.{◌≡◌, ◌≤◌, ◌++◌, length, string_bytes, IfOk, OnOk, false};
+ghost use Rattle.std.specs.Prelude.{◌≡◌, ◌≤◌, ◌++◌, length, string_bytes, IfOk, IsSomeAnd, OnOk};
 ghost use Rattle.mk_outputs.specs.declared.commands.Command.TheVariants as Command;
 ghost use Rattle.mk_outputs.specs.{Generated.generated_program, Commands.IsWithin};
-ghost use Rattle.mk_run.specs.Headline.{StandsInOneHistory};
-ghost use Rattle.mk_outputs.specs.{Summary.{summary, total_line}, SummedTexts.{line_of_text, summary_of_texts, AreFew}};
+ghost use Rattle.mk_run.specs.Below.Heaps.Reports.{history_of};
+ghost use Rattle.mk_outputs.specs.{RunOutputs.IsSummaryOfRun, Summary.total_line};
+ghost use Rattle.mk_outputs.specs.SummedTexts.{line_of_text, summary_of_texts, AreFew};
 
 use crate::commands::{Marking, Options, Request};
 use crate::generating::generate;
+use crate::outputs::Output;
 use crate::running::outcome_of;
 use mk_check::Text;
 use mk_never::NoMemory;
@@ -21,19 +23,24 @@ pub fn summed<P: Pace + Sync, R: Threads + Wait + Sync>(
     alloc: Global,
     request: Request,
     pace: &P,
-) -> Result<Vec<u8>, NoMemory>
+) -> Result<Output, NoMemory>
     requires { IsWithin (Command.Gen request) }
-    ensures { IfOk result (λ bytes. StandsInOneHistory (generated_program request.start request.count)
-        request.markers false false (summary (generated_program request.start request.count)) bytes.items) }
+    ensures { IfOk result (λ output. IsSomeAnd output.report
+        (λ report. IsSummaryOfRun (generated_program request.start request.count) request.markers (history_of report)
+        output.bytes.items)) }
 {
     let program = generate(alloc, request.start, request.count)?;
     let options = Options {
         marking: Marking::with_markers(request.markers),
         why: false,
+        report: false,
     };
     let (outcome, _) = outcome_of(rt, alloc, &program, options, pace)?;
     let lines = summary_of(alloc, &outcome.texts)?;
-    Ok(lines.into_bytes())
+    Ok(Output {
+        bytes: lines.into_bytes(),
+        report: Some(outcome.report),
+    })
 }
 
 /// The summary of scripts that are named `s0`, `s1` and so on.

@@ -37,16 +37,23 @@ fn marking_by(sweep: bool, markers: u64) -> Option<Marking>
 }
 
 fn run_in(matches: &ArgMatches<'_>) -> Option<Command>
-    ensures { (sweep why : Bool) → one_text (found_of matches.now) (codes "sweep") ≡ Some (bool_text sweep)
+    ensures { (sweep why report : Bool) → one_text (found_of matches.now) (codes "sweep") ≡ Some (bool_text sweep)
         → one_text (found_of matches.now) (codes "why") ≡ Some (bool_text why)
-        → result ≡ option_and_then (run_with sweep why)
+        → one_text (found_of matches.now) (codes "report") ≡ Some (bool_text report)
+        → result ≡ option_and_then (run_with sweep why report)
         (markers_of (first_value (found_of matches.now) (codes "markers"))) }
 {
     let markers = markers_in(matches)?;
     let sweep = matches.get_flag("sweep");
     let marking = marking_by(sweep, markers)?;
     let why = matches.get_flag("why");
-    Some(Command::OnText(TextCommand::Run(Options { marking, why })))
+    let report = matches.get_flag("report");
+    let options = Options {
+        marking,
+        why,
+        report,
+    };
+    Some(Command::OnText(TextCommand::Run(options)))
 }
 
 /// The number that is given under a name.

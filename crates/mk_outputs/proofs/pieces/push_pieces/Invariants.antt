@@ -1,6 +1,6 @@
 use Rattle.std.specs.List.{flat_map}
 use Rattle.mk_laws.proofs.Vocabulary.{drop, ◌++◌, ◌≡◌}
-use Rattle.mk_outputs.proofs.kept_text.push_pieces.Given as goal
+use Rattle.mk_outputs.proofs.pieces.push_pieces.Given as goal
 
 -- what stands so far, and the pieces that are left
 abbrev pub invariant-loop-piece : goal.invariant-loop-piece

@@ -1,0 +1,43 @@
+-- What is written of a run, by what can be observed of it: the calls of its scripts, and what they print where a heap
+-- that never reuses storage replies to them.
+use Rattle.std.specs.Prelude.{◌≡◌, ℕ, false, List, [], ◌++◌, Option, Some, IfSome, Ok as Accepted}
+use Rattle.mk_script.specs.{declared.items.Item.Item, Grammar.program_of}
+use Rattle.mk_check.specs.{Observed.{ObservedRun, told_to}, Typing.IsWellTyped}
+use Rattle.mk_outputs.specs.{declared.commands.Command.Command, declared.commands.Command.TheVariants.{OnText, Gen}}
+use Rattle.mk_outputs.specs.{declared.commands.Options.Options, declared.commands.TextCommand.TheVariants.Run}
+use Rattle.mk_outputs.specs.{Commands.command_of, Generated.generated_program, Summary.summary_by}
+
+-- The bytes begin with what the scripts of a run print. More comes after it only where more is asked for.
+pub record BeginsWithRun (options : Options) (program : List Item) (bytes : List ℕ) : Type 0 where
+  pub texts : List ℕ
+  pub more : List ℕ
+  pub run : ObservedRun program texts
+  pub bytes_are : bytes ≡ texts ++ more
+  pub no_more : options.report ≡ false → options.why ≡ false → more ≡ []
+
+-- What is left to read, where this is known, is the text of a well typed program, which runs.
+pub record IsSeenOfText (options : Options) (left : Option (List ℕ)) (bytes : List ℕ) : Type 0 where
+  pub program : List Item
+  pub is_text : IfSome left (λ input. program_of input ≡ Accepted program)
+  pub is_well_typed : IsWellTyped program
+  pub begins : BeginsWithRun options program bytes
+
+-- The bytes sum up a run: how many replies each script is told, and how many of them are refusals.
+pub record SumsUpRun (program : List Item) (bytes : List ℕ) : Type 0 where
+  pub texts : List ℕ
+  pub run : ObservedRun program texts
+  pub bytes_are : bytes ≡ summary_by program (told_to program run.calls)
+
+-- Of the other commands this says nothing.
+abbrev pub IsSeen : Command → Option (List ℕ) → List ℕ → Type 0
+IsSeen (OnText (Run options)) left bytes = IsSeenOfText options left bytes
+IsSeen (Gen request) left bytes = SumsUpRun (generated_program request.start request.count) bytes
+IsSeen _ left bytes = Unit {0}
+
+-- So is what the words' command writes, where the source had this left and W holds of what was written.
+pub record HasSeen (words : List (List ℕ)) (left : Option (List ℕ)) (W : List ℕ → Type 0) : Type 0 where
+  pub command : Command
+  pub bytes : List ℕ
+  pub named : command_of words ≡ Some command
+  pub is_seen : IsSeen command left bytes
+  pub written : W bytes
