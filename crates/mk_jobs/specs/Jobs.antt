@@ -1,0 +1,103 @@
+-- A job as operations of the heap that never reuses storage: which one comes next, by the replies so far.
+use Rattle.std.specs.Prelude.{◌≡◌, ◌⊎◌, ℕ, zero, suc, ◌<◌, ◌==◌, true, false, Option, Some, None, List, [], ◌∷◌, ◌++◌, if◌then◌else◌}
+use Rattle.mk_never.specs.{declared.operations.Op.Op, declared.operations.Reply.Reply, declared.values.Value.Value}
+use Rattle.mk_never.specs.{declared.values.Value.TheVariants.{Null, Ptr}, declared.types.Kind.TheVariants.To}
+use Rattle.mk_never.specs.{Admitted.IsOfKind, NeverHeap.{NeverState, Call, reply_of, after_op}}
+use Rattle.mk_jobs.specs.{Plans.{Plan, Hold, Anything, MayPoint, Points, Owns, Owes}, declared.steps.Step.Step}
+use Rattle.mk_jobs.specs.Typing.{hold_of}
+use Rattle.mk_jobs.specs.declared.steps.Step.TheVariants as step
+use Rattle.mk_never.specs.declared.operations.Op.TheVariants as op
+use Rattle.mk_never.specs.declared.operations.Reply.TheVariants as reply
+
+-- an operation, and what it was replied
+pub record Replied : Type 0 where
+  pub op : Op
+  pub reply : Reply
+
+abbrev pub number_replied : Reply → ℕ
+number_replied (reply.Num n) = n
+number_replied _ = 0
+
+-- The operation of a step is asked, is replied so, and leads there. What isn't replied yes leads where no does.
+abbrev pub Asks : {Point : Type 0} → (Point → ℕ → Point) → Step Point → Op → Reply → Point → Type 0
+Asks w (step.New d ty to full) o r t = ((o ≡ op.New d ty false) × (t ≡ to)) ⊎ ((o ≡ op.New d ty true) × (t ≡ full))
+Asks w (step.Free p to) o r t = (o ≡ op.Free p) × (t ≡ to)
+Asks w (step.GetNum q i to) o r t = (o ≡ op.GetNum q i) × (t ≡ w to (number_replied r))
+Asks w (step.SetNum q i n to) o r t = (o ≡ op.SetNum q i n) × (t ≡ to)
+Asks w (step.GetPtr d q i to) o r t = (o ≡ op.GetPtr d q i) × (t ≡ to)
+Asks w (step.SetPtr q i p to) o r t = (o ≡ op.SetPtr q i p) × (t ≡ to)
+Asks w (step.CasPtr q i p x so not_so) o r t =
+    (o ≡ op.CasPtr q i p x) × (((r ≡ reply.Num 1) × (t ≡ so)) ⊎ ((r ≡ reply.Num 1 → ⊥) × (t ≡ not_so)))
+Asks w (step.GetGlobal d g to) o r t = (o ≡ op.GetGlobal d g) × (t ≡ to)
+Asks w (step.SetGlobal g p to) o r t = (o ≡ op.SetGlobal g p) × (t ≡ to)
+Asks w (step.Clear d to) o r t = (o ≡ op.Clear d) × (t ≡ to)
+Asks w (step.Same p q so not_so) o r t =
+    (o ≡ op.Same p q) × (((r ≡ reply.Num 1) × (t ≡ so)) ⊎ ((r ≡ reply.Num 1 → ⊥) × (t ≡ not_so)))
+Asks w (step.IsNull p so not_so) o r t =
+    (o ≡ op.IsNull p) × (((r ≡ reply.Num 1) × (t ≡ so)) ⊎ ((r ≡ reply.Num 1 → ⊥) × (t ≡ not_so)))
+Asks w step.End o r t = ⊥
+
+pub record IsPointerTo (ty : ℕ) (v : Value) : Type 0 where
+  pub number : ℕ
+  pub is : v ≡ Ptr number ty 0
+
+abbrev pub Has : Value → Hold → Type 0
+Has v Anything = Unit {0}
+Has v (MayPoint t) = IsOfKind v (To t 0)
+Has v (Points t) = IsPointerTo t v
+Has v (Owns t) = IsPointerTo t v
+Has v (Owes t) = IsOfKind v (To t 0)
+
+-- the operations of caller k among those of all, with their replies
+abbrev pub own_replied : ℕ → NeverState → List Call → List Replied
+own_replied k n [] = []
+own_replied k n (x ∷ xs) =
+    if x.caller == k then record { op = x.op; reply = reply_of n x.caller x.op }
+    ∷ own_replied k (after_op n x.caller x.op) xs
+    else own_replied k (after_op n x.caller x.op) xs
+
+-- a job, what became of it, and its operations with their replies
+pub record JobRun (Job Done : Type 0) : Type 0 where
+  pub job : Job
+  pub done : Done
+  pub all : List Replied
+
+abbrev pub all_of : {Job Done : Type 0} → List (JobRun Job Done) → List Replied
+all_of [] = []
+all_of (r ∷ rs) = r.all ++ all_of rs
+
+-- the first caller makes the object before its jobs; the others begin with their jobs
+abbrev pub jobs_of_first : ℕ → List Replied → List Replied
+jobs_of_first zero founding = founding
+jobs_of_first (suc k) founding = []
+
+abbrev pub AreBelow : ℕ → List Call → Type 0
+AreBelow callers [] = Unit {0}
+AreBelow callers (x ∷ xs) = (x.caller < callers) × AreBelow callers xs
+
+module _ {Job Done Point : Type 0} (p : Plan Job Done Point) where
+  -- The operations with their replies lead from one point to another.
+  abbrev pub Leads : Point → List Replied → Point → Type 0
+  Leads s [] t = s ≡ t
+  Leads s (x ∷ xs) t = (next : Point) × Asks p.with_number (p.step s) x.op x.reply next × Leads next xs t
+
+  abbrev pub IsJobRun : JobRun Job Done → Type 0
+  IsJobRun r = (t : Point) × Leads (p.starting r.job) r.all t × (p.ended t ≡ Some r.done)
+
+  abbrev pub AreJobRuns : List (JobRun Job Done) → Type 0
+  AreJobRuns [] = Unit {0}
+  AreJobRuns (r ∷ rs) = IsJobRun r × AreJobRuns rs
+
+  -- what the registers hold at a point
+  abbrev pub HoldsAt : (ℕ → Value) → Point → Type 0
+  HoldsAt v s = (r : ℕ) → r < 8 → Has (v r) (hold_of (p.holds s) r)
+
+  -- Each caller below this number does its jobs one after the other, whatever the others do between.
+  pub record IsInterleaved (n : NeverState) (callers : ℕ) (founding : List Replied) (runs : ℕ → List (JobRun Job Done))
+      (calls : List Call) : Type 0 where
+    pub found : Point
+    pub founds : Leads p.founding founding found
+    pub founded : p.step found ≡ step.End
+    pub jobs : (k : ℕ) → AreJobRuns (runs k)
+    pub own : (k : ℕ) → own_replied k n calls ≡ jobs_of_first k founding ++ all_of (runs k)
+    pub exist : AreBelow callers calls

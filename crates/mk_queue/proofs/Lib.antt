@@ -1,0 +1,11 @@
+pub mod Invariant
+pub mod Stays
+pub mod Covered
+pub mod Linked
+pub mod EndsMoved
+pub mod Founded
+pub mod Moving
+pub mod Enqueuing
+pub mod Dequeuing
+pub mod Founding
+pub mod Kept
