@@ -1,6 +1,7 @@
 -- Shared objects that are linked in a row: what leaves their words leaves them linked.
 use Rattle.std.proofs.Common.{ap₂}
-use Rattle.mk_laws.proofs.Vocabulary.{List, NeverState, Null, Ptr, Value, allocation_at, ap, number_of, refl, subst, sym}
+use Rattle.mk_laws.proofs.Vocabulary.{List, NeverState, Null, Ptr, Value, allocation_at, ap, number_of, refl, subst}
+use Rattle.mk_laws.proofs.Vocabulary.{sym}
 use Rattle.mk_laws.proofs.Vocabulary.{word_at, ℕ, [], ◌∙◌, ◌∷◌, ◌≡◌, ◌≢◌, inl, inr, ◌⊎◌}
 use Rattle.mk_jobs.specs.{Keeping.{Public, World}, Laws.IsOneOf, Linked.{AreLinked, numbers_in}}
 

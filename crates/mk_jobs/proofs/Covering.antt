@@ -1,9 +1,10 @@
 -- Operations that leave all that callers may know: those that set a register alone, or reach an object of one caller.
-use Rattle.mk_laws.proofs.Vocabulary.{List, NeverState, Null, Value, allocation_at, ap, arith, get_or, global_at, length}
+use Rattle.mk_laws.proofs.Vocabulary.{List, NeverState, Null, Value, allocation_at, ap, arith, get_or, global_at}
+use Rattle.mk_laws.proofs.Vocabulary.{length}
 use Rattle.mk_laws.proofs.Vocabulary.{refl, subst, sym, words_of, ℕ, ◌∙◌, ◌≡◌, ◌≢◌, ◌⊎◌, cases_eq, inl, inr}
 use Rattle.mk_never.specs.NeverHeap.{Allocation, no_allocation}
 use Rattle.mk_jobs.specs.Keeping.{Covers, Gone, IsShown, Private, Public, Role, Taken, Unborn, World}
-use Rattle.mk_jobs.proofs.{Heaps.{Creates, Frees, Stores}, RoleSteps.Puts}
+use Rattle.mk_jobs.proofs.{Heaps.{Creates, Frees, Stores}, Puts.Puts}
 
 -- Nothing but registers is changed.
 pub record Looks (w w' : World) : Type 0 where
@@ -46,7 +47,8 @@ roles_by {f} {g} {b} {r} puts stays a = by (cases_eq a b)
     by (inr ne) = same (puts.others a ne)
 
 module _ {w w' : World} where
-  covers_by : ((g : ℕ) → global_at w'.n g ≡ global_at w.n g) → ((a : ℕ) → IsShown (w.role a) → words_of w'.n a ≡ words_of w.n a)
+  covers_by : ((g : ℕ) → global_at w'.n g ≡ global_at w.n g) → ((a : ℕ) → IsShown (w.role a)
+      → words_of w'.n a ≡ words_of w.n a)
       → ((a : ℕ) → IsShown (w.role a) → (allocation_at w'.n a).ty ≡ (allocation_at w.n a).ty)
       → ((a : ℕ) → RoleStays (w.role a) (w'.role a)) → Covers w w'
   covers_by globals words types roles = record {
@@ -61,7 +63,8 @@ module _ {w w' : World} where
 
   pub by_look : Looks w w' → Covers w w'
   by_look looks =
-      covers_by looks.globals (λ a h. ap (λ (xs : List Allocation). (get_or xs a no_allocation).words) looks.allocations)
+      covers_by looks.globals (λ a h. ap (λ (xs : List Allocation).
+      (get_or xs a no_allocation).words) looks.allocations)
       (λ a h. ap (λ (xs : List Allocation). (get_or xs a no_allocation).ty) looks.allocations)
       (λ a. same (looks.roles a))
 

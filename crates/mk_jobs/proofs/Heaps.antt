@@ -2,9 +2,11 @@
 use Rattle.std.proofs.Common.{set}
 use Rattle.std.proofs.lemmas.List.{get_or_at}
 use Rattle.mk_laws.proofs.Vocabulary.{false, List, NeverState, Null, Ptr, Value, allocation_at, ap, arith, get_or}
-use Rattle.mk_laws.proofs.Vocabulary.{get_or-set_other, get_or-set_same, global_at, kinds_of, length, no_allocation, refl}
+use Rattle.mk_laws.proofs.Vocabulary.{get_or-set_other, get_or-set_same, global_at, kinds_of, length, no_allocation}
+use Rattle.mk_laws.proofs.Vocabulary.{refl}
 use Rattle.mk_laws.proofs.Vocabulary.{register_at, set_by, suc, sym, with_freed, with_global, with_new, with_register}
-use Rattle.mk_laws.proofs.Vocabulary.{with_word, word_at, words_of, zero, ℕ, [], ◌*◌, ◌++◌, ◌+◌, ◌<◌, ◌∙◌, ◌∷◌, ◌≡◌, ◌≢◌}
+use Rattle.mk_laws.proofs.Vocabulary.{with_word, word_at, words_of, zero, ℕ, [], ◌*◌, ◌++◌, ◌+◌, ◌<◌, ◌∙◌, ◌∷◌, ◌≡◌}
+use Rattle.mk_laws.proofs.Vocabulary.{◌≢◌}
 use Rattle.mk_never.specs.{NeverHeap.Allocation, Types.zero_words}
 
 -- Register d of caller k is set to v.
@@ -42,7 +44,8 @@ pub record Frees (n m : NeverState) : Type 0 where
   pub registers : (k r : ℕ) → register_at m k r ≡ register_at n k r
   pub globals : (g : ℕ) → global_at m g ≡ global_at n g
 
-pub sets : (n : NeverState) (k d : ℕ) (v : Value) → 8 * k + d < length n.registers → Sets k d v n (with_register n k d v)
+pub sets : (n : NeverState) (k d : ℕ) (v : Value) → 8 * k + d < length n.registers
+    → Sets k d v n (with_register n k d v)
 sets n k d v there = record {
   here = get_or-set_same n.registers (8 * k + d) v Null there;
   others = λ r other. get_or-set_other n.registers (8 * k + d) (8 * k + r) v Null (λ e. other (omega arith));
@@ -54,7 +57,7 @@ pub stores : (n : NeverState) (a i : ℕ) (v : Value) → a < length n.allocatio
     → Stores a i v n (with_word n a i v)
 stores n a i v there inside =
     let same = get_or-set_same n.allocations a
-      (record (allocation_at n a) { words = set (words_of n a) i v }) no_allocation there in
+    (record (allocation_at n a) { words = set (words_of n a) i v }) no_allocation there in
     record {
       here = ap (λ (b : Allocation). get_or b.words i Null) same ∙ get_or-set_same (words_of n a) i v Null inside;
       beside = λ j other. ap (λ (b : Allocation). get_or b.words j Null) same

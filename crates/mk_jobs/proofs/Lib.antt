@@ -1,6 +1,7 @@
 pub mod Heaps
-pub mod RoleSteps
+pub mod Puts
 pub mod Operations
 pub mod Covering
 pub mod Asked
 pub mod Chains
+pub mod Clients

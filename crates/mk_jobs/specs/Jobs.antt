@@ -1,7 +1,8 @@
 -- A job as operations of the heap that never reuses storage: which one comes next, by the replies so far.
-use Rattle.std.specs.Prelude.{◌≡◌, ◌⊎◌, ℕ, zero, suc, ◌<◌, ◌==◌, true, false, Option, Some, None, List, [], ◌∷◌, ◌++◌, if◌then◌else◌}
+use Rattle.std.specs.Prelude.{◌≡◌, ◌⊎◌, ℕ, zero, suc, ◌<◌, ◌==◌, true, false, Some, List, [], ◌∷◌, ◌++◌}
+use Rattle.std.specs.Prelude.{if◌then◌else◌}
 use Rattle.mk_never.specs.{declared.operations.Op.Op, declared.operations.Reply.Reply, declared.values.Value.Value}
-use Rattle.mk_never.specs.{declared.values.Value.TheVariants.{Null, Ptr}, declared.types.Kind.TheVariants.To}
+use Rattle.mk_never.specs.{declared.values.Value.TheVariants.Ptr, declared.types.Kind.TheVariants.To}
 use Rattle.mk_never.specs.{Admitted.IsOfKind, NeverHeap.{NeverState, Call, reply_of, after_op}}
 use Rattle.mk_jobs.specs.{Plans.{Plan, Hold, Anything, MayPoint, Points, Owns, Owes}, declared.steps.Step.Step}
 use Rattle.mk_jobs.specs.Typing.{hold_of}
@@ -20,7 +21,8 @@ number_replied _ = 0
 
 -- The operation of a step is asked, is replied so, and leads there. What isn't replied yes leads where no does.
 abbrev pub Asks : {Point : Type 0} → (Point → ℕ → Point) → Step Point → Op → Reply → Point → Type 0
-Asks w (step.New d ty to full) o r t = ((o ≡ op.New d ty false) × (t ≡ to)) ⊎ ((o ≡ op.New d ty true) × (t ≡ full))
+Asks w (step.New d ty to full) o r t =
+    ((o ≡ op.New d ty false) × (t ≡ to)) ⊎ ((o ≡ op.New d ty true) × (t ≡ full))
 Asks w (step.Free p to) o r t = (o ≡ op.Free p) × (t ≡ to)
 Asks w (step.GetNum q i to) o r t = (o ≡ op.GetNum q i) × (t ≡ w to (number_replied r))
 Asks w (step.SetNum q i n to) o r t = (o ≡ op.SetNum q i n) × (t ≡ to)
@@ -36,6 +38,10 @@ Asks w (step.Same p q so not_so) o r t =
 Asks w (step.IsNull p so not_so) o r t =
     (o ≡ op.IsNull p) × (((r ≡ reply.Num 1) × (t ≡ so)) ⊎ ((r ≡ reply.Num 1 → ⊥) × (t ≡ not_so)))
 Asks w step.End o r t = ⊥
+
+abbrev pub IsClear : Op → Type 0
+IsClear (op.Clear d) = d < 8
+IsClear _ = ⊥
 
 pub record IsPointerTo (ty : ℕ) (v : Value) : Type 0 where
   pub number : ℕ
@@ -76,10 +82,13 @@ AreBelow callers [] = Unit {0}
 AreBelow callers (x ∷ xs) = (x.caller < callers) × AreBelow callers xs
 
 module _ {Job Done Point : Type 0} (p : Plan Job Done Point) where
-  -- The operations with their replies lead from one point to another.
+  -- The operations with their replies lead from one point to another. Where nothing is asked any more, a caller may set
+  -- its registers to null.
   abbrev pub Leads : Point → List Replied → Point → Type 0
   Leads s [] t = s ≡ t
-  Leads s (x ∷ xs) t = (next : Point) × Asks p.with_number (p.step s) x.op x.reply next × Leads next xs t
+  Leads s (x ∷ xs) t =
+      ((next : Point) × Asks p.with_number (p.step s) x.op x.reply next × Leads next xs t)
+      ⊎ ((p.step s ≡ step.End) × IsClear x.op × Leads s xs t)
 
   abbrev pub IsJobRun : JobRun Job Done → Type 0
   IsJobRun r = (t : Point) × Leads (p.starting r.job) r.all t × (p.ended t ≡ Some r.done)

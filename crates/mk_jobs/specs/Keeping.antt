@@ -3,7 +3,7 @@ use Rattle.std.specs.Prelude.{◌≡◌, ◌⊎◌, ◌&&◌, ◌||◌, ◌==◌
 use Rattle.std.specs.Prelude.{if◌then◌else◌}
 use Rattle.mk_never.specs.{declared.values.Value.Value, declared.operations.Op.Op, declared.operations.Reply.Reply}
 use Rattle.mk_never.specs.NeverHeap.{Allocation, NeverState, after_op, allocation_at, global_at, register_at, reply_of}
-use Rattle.mk_never.specs.{NeverHeap.{start_of, word_at, words_of}, Typed.IsTyped}
+use Rattle.mk_never.specs.{Laws.StoresTo, NeverHeap.{start_of, word_at, words_of}, Typed.IsTyped}
 use Rattle.mk_jobs.specs.{Plans.{Plan, Hold, Anything, MayPoint, Points, Owns, Owes}, Jobs.{Asks, HoldsAt}, Typing.hold_of}
 use Rattle.mk_jobs.specs.Laws.{IsOneOf, is_pointer_to}
 use Rattle.mk_never.specs.declared.operations.Op.TheVariants as op
@@ -59,7 +59,7 @@ is_owed _ = false
 abbrev pub is_held_no_more : (Hold → Bool) → NeverState → ℕ → ℕ → ℕ → List Hold → List Hold → Bool
 is_held_no_more f n k a r [] gs = false
 is_held_no_more f n k a r (h ∷ hs) gs =
-    (is_pointer_to a (register_at n k r) && (f h && not (f (hold_of gs r)))) || is_held_no_more f n k a (r + 1) hs gs
+    ((f h && not (f (hold_of gs r))) && is_pointer_to a (register_at n k r)) || is_held_no_more f n k a (r + 1) hs gs
 
 -- Who knows what after an operation: what is created is its caller's, what isn't held as private any more is public,
 -- what is owed from now on is taken, and what isn't owed any more is gone.
@@ -69,6 +69,13 @@ role_after w k (op.Free p) hs gs a = if is_pointer_to a (register_at w.n k p) th
 role_after w k o hs gs a =
     if is_held_no_more is_private w.n k a 0 hs gs then Public
     else if is_held_no_more is_owed w.n k a 0 gs hs then Taken k else w.role a
+
+-- What an exchange takes out was public.
+abbrev pub TakesPublic : World → ℕ → Op → List Hold → List Hold → Type 0
+TakesPublic w k (op.CasPtr q i x r) hs gs =
+    is_owed (hold_of gs x) ≡ true → is_owed (hold_of hs x) ≡ false
+    → (a : ℕ) → is_pointer_to a (register_at w.n k x) ≡ true → w.role a ≡ Public
+TakesPublic w k _ hs gs = Unit {0}
 
 -- Each allocation is as its role says.
 pub record Fits (n : NeverState) (a : ℕ) (r : Role) : Type 0 where
@@ -103,7 +110,7 @@ module _ {Job Done Point State : Type 0} (p : Plan Job Done Point) (left_by : St
   abbrev pub first_world : ℕ → World
   first_world callers = record { n = start_of p.types callers; role = λ a. Unborn }
 
-  -- What an operation of caller k has to leave, which leads to t
+  -- What an operation of caller k has to leave, which leads to t. It stores in no object of another caller's own.
   pub record Moves (Rely : ℕ → World → World → Type 0) (Shared : World → State → Type 0)
       (Local : World → ℕ → Point → Option Done → Type 0) (job_at : Point → Option Job) (k : ℕ) (s : Point)
       (u : Option Done) (x : State) (w : World) (o : Op) (t : Point) : Type 0 where
@@ -114,15 +121,16 @@ module _ {Job Done Point State : Type 0} (p : Plan Job Done Point) (left_by : St
     pub local : Local (after w k o s t) k t decided
     pub shared : Shared (after w k o s t) state
     pub rely : Rely k w (after w k o s t)
+    pub takes : TakesPublic w k o (p.holds s) (p.holds t)
+    pub spares : (a i j : ℕ) → StoresTo w.n k o a i → IsOf j (w.role a) → j ≡ k
 
   -- What a client states and shows: what holds of the object, what holds of a caller at a point of its job, decided so
   -- or not yet, and what the callers may rely on of each other.
-  pub record Keeps (first : State) (content : NeverState → List ℕ → State → Type 0) : Type 1 where
-    pub Shared : World → State → Type 0
-    pub Local : World → ℕ → Point → Option Done → Type 0
-    pub Rely : ℕ → World → World → Type 0  -- what an operation of this caller leaves to the others
-    pub job_at : Point → Option Job
+  pub record Keeps (first : State) (content : NeverState → List ℕ → State → Type 0) (Shared : World → State → Type 0)
+      (Local : World → ℕ → Point → Option Done → Type 0) (Rely : ℕ → World → World → Type 0)
+      (job_at : Point → Option Job) : Type 0 where
     pub founding : (callers : ℕ) → Shared (first_world callers) first × Local (first_world callers) 0 p.founding None
+        × (job_at p.founding ≡ None)
     pub begins : (w : World) (k : ℕ) (j : Job) → Local w k (p.starting j) None × (job_at (p.starting j) ≡ Some j)
     pub ends : (w : World) (k : ℕ) (s : Point) (u : Option Done) (d : Done) → Local w k s u → p.ended s ≡ Some d
         → u ≡ Some d

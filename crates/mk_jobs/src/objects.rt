@@ -12,7 +12,9 @@ use std::alloc::Global;
 /// operation of each, and where its answers lead.
 pub trait Object {
     type Job: Copy + Drop + Sync;
+
     type Done: Copy + Drop + Send;
+
     type Point: Copy;
 
     /// What a plain object of one thread is.

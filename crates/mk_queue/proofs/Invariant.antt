@@ -1,7 +1,7 @@
 -- What holds of a queue, and of each caller at its point, at every place of an interleaving.
 use Rattle.mk_laws.proofs.Vocabulary.{List, None, Null, Option, Ptr, Some, Value, allocation_at, global_at, number_of}
 use Rattle.mk_laws.proofs.Vocabulary.{register_at, word_at, ℕ, [], ◌<◌, ◌∷◌, ◌≡◌, ◌≢◌, ◌⊎◌}
-use Rattle.mk_jobs.specs.{Keeping.{Gone, IsShown, Private, Public, Role, Taken, World}, Laws.IsOneOf, Linked.numbers_in}
+use Rattle.mk_jobs.specs.{Keeping.{IsShown, Private, Public, Role, World}, Laws.IsOneOf, Linked.numbers_in}
 use Rattle.mk_jobs.proofs.Chains.{IsChain, IsPart}
 use Rattle.mk_queue.specs.{Points.done_without, declared.{jobs.Done.{Done}, jobs.Job.{Job}, points.Point.{Point}}}
 
@@ -20,6 +20,9 @@ pub record PointsToNode (w : World) (v : Value) : Type 0 where
   pub a : ℕ
   pub is : v ≡ Ptr a 0 0
   pub node : IsNode w a
+
+abbrev pub MayPointToNode : World → Value → Type 0
+MayPointToNode w v = (v ≡ Null) ⊎ PointsToNode w v
 
 -- There are no ends yet.
 pub record IsUnfounded (w : World) (xs : List ℕ) : Type 0 where
@@ -40,28 +43,31 @@ pub record IsQueue (w : World) (xs : List ℕ) : Type 0 where
   pub numbers : numbers_in w.n 0 rest ≡ xs
   pub tail : PointsToNode w (word_at w.n e 1)
   pub all : (a : ℕ) → w.role a ≡ Public → (a ≡ e) ⊎ IsOneOf a (dummy ∷ rest)
-  pub links : (a : ℕ) → IsNode w a → (word_at w.n a 1 ≡ Null) ⊎ PointsToNode w (word_at w.n a 1)
+  pub links : (a : ℕ) → IsNode w a → MayPointToNode w (word_at w.n a 1)
   pub passed : (a : ℕ) → IsNode w a → IsPassed (w.role a) → word_at w.n a 1 ≢ Null
 
 abbrev pub Shared : World → List ℕ → Type 0
 Shared w xs = IsUnfounded w xs ⊎ IsQueue w xs
 
+-- Nodes stay nodes with their numbers, passed ones stay passed, and a link that isn't null stays.
+pub record NodesStay (w w' : World) : Type 0 where
+  pub node : (a : ℕ) → IsNode w a → IsNode w' a
+  pub passed : (a : ℕ) → IsPassed (w.role a) → IsPassed (w'.role a)
+  pub number : (a : ℕ) → IsNode w a → word_at w'.n a 0 ≡ word_at w.n a 0
+  pub link : (a : ℕ) → IsNode w a → word_at w.n a 1 ≢ Null → word_at w'.n a 1 ≡ word_at w.n a 1
+
 -- What an operation of caller j leaves to the others: the global is set by the first alone and then stays, head goes on
--- only from what is passed, nodes stay nodes with their numbers, and a link that isn't null stays.
+-- only from what is passed, and nodes stay.
 pub record Rely (j : ℕ) (w w' : World) : Type 0 where
   pub founder : j ≢ 0 → global_at w'.n 0 ≡ global_at w.n 0
   pub ends : (e : ℕ) → global_at w.n 0 ≡ Ptr e 1 0 → global_at w'.n 0 ≡ Ptr e 1 0
   pub head : (e a : ℕ) → global_at w.n 0 ≡ Ptr e 1 0 → word_at w.n e 0 ≡ Ptr a 0 0
       → (word_at w'.n e 0 ≡ Ptr a 0 0) ⊎ IsPassed (w'.role a)
-  pub passed : (a : ℕ) → IsPassed (w.role a) → IsPassed (w'.role a)
-  pub node : (a : ℕ) → IsNode w a → IsNode w' a
-  pub number : (a : ℕ) → IsNode w a → word_at w'.n a 0 ≡ word_at w.n a 0
-  pub link : (a : ℕ) → IsNode w a → word_at w.n a 1 ≢ Null → word_at w'.n a 1 ≡ word_at w.n a 1
+  pub nodes : NodesStay w w'
 
 -- The first caller founds the queue: there are no ends yet,
-pub record IsFounder (w : World) (k : ℕ) : Type 0 where
-  pub first : k ≡ 0
-  pub none : global_at w.n 0 ≡ Null
+abbrev pub IsFounder : World → ℕ → Type 0
+IsFounder w k = (k ≡ 0) × (global_at w.n 0 ≡ Null)
 
 -- or it has them with a dummy, and so many of their words point to that.
 pub record HasFirst (w : World) (k i : ℕ) : Type 0 where
@@ -118,9 +124,6 @@ pub record IsEnqueuing (w : World) (k : ℕ) (m : Option ℕ) (u : Option Done) 
   pub open_still : u ≡ None
   pub ends : HasEnds w k
   pub own : HasOwn w k m
-
-abbrev pub MayPointToNode : World → Value → Type 0
-MayPointToNode w v = (v ≡ Null) ⊎ PointsToNode w v
 
 -- What holds of a caller at a point, whose job was decided so, or not yet.
 abbrev pub Local : World → ℕ → Point → Option Done → Type 0

@@ -1,42 +1,40 @@
 -- The queue is always explained: what its operations keep.
-use Rattle.mk_laws.proofs.Vocabulary.{List, NeverState, None, Op, Option, Ptr, Some, Value, ap, arith, get_or, global_at}
-use Rattle.mk_laws.proofs.Vocabulary.{refl, subst, sym, word_at, ℕ, [], ◌∙◌, ◌∷◌, ◌≡◌, ◌≢◌, ◌⊎◌, inl, inr, Null}
-use Rattle.mk_jobs.specs.{Keeping.{Keeps, Public, World, first_world}, Laws.IsOneOf}
-use Rattle.mk_jobs.proofs.Chains.{linked, part_of}
+use Rattle.mk_laws.proofs.Vocabulary.{List, Null, Option, Some, ap, inl, inr, refl, word_at, ℕ, [], ◌∙◌, ◌∷◌, ◌≡◌}
+use Rattle.mk_jobs.specs.{Keeping.{Keeps, Public, World}, Laws.IsOneOf}
+use Rattle.mk_jobs.proofs.{Chains.{linked, part_of}, Clients.MovesAt}
 use Rattle.mk_queue.specs.{Points.{ended, queue_plan}, Queue.{HasNumbers, left_by}}
-use Rattle.mk_queue.specs.declared.{jobs.Done.{Done}, jobs.Job.{Job}, points.Point.{Point}}
-use Rattle.mk_queue.proofs.{Covered.covered, Dequeuing.{asking, checking, freeing, heading, peeking, reading, starting}}
-use Rattle.mk_queue.proofs.{Dequeuing.taking, Enqueuing.{filling, following, helping, linking, loading, making, swinging}}
-use Rattle.mk_queue.proofs.{Enqueuing.testing, Founding.{dropping, first_head, first_tail, founding, grounding, placing}}
-use Rattle.mk_queue.proofs.Invariant.{IsQueue, IsUnfounded, Local, Rely, Shared, job_at}
-use Rattle.mk_queue.proofs.{Moving.{Asked, Goes, There}, Stays.stays}
+use Rattle.mk_queue.specs.declared.{jobs.Done.{Done}, points.Point.{Point}}
+use Rattle.mk_queue.proofs.Invariant.{Local, Rely, Shared, job_at}
+use Rattle.mk_queue.proofs.Moving.{asking, checking, client, dropping, filling, first_head, first_tail, following}
+use Rattle.mk_queue.proofs.Moving.{founding, freeing, grounding, heading, helping, linking, loading, making, peeking}
+use Rattle.mk_queue.proofs.Moving.{placing, reading, starting, swinging, taking, testing}
+use Rattle.mk_queue.proofs.{Leaving.covered, Staying.stays}
 
-moves : (callers : ℕ) (w : World) (k : ℕ) (s : Point) (u : Option Done) (x : List ℕ) → There w k callers s
-    → Shared w x → Local w k s u → (o : Op) (t : Point) → Asked w k s o t → Goes w k u x s o t
-moves callers w k Point.Founding u x there = founding there
-moves callers w k Point.Grounding u x there = grounding there
-moves callers w k Point.Dropping u x there = dropping there
-moves callers w k Point.FirstHead u x there = first_head there
-moves callers w k Point.FirstTail u x there = first_tail there
-moves callers w k Point.Placing u x there = placing there
-moves callers w k Point.Founded u x there = λ shared local o t asks. absurd asks
-moves callers w k (Point.Starting j) u x there = starting j there
-moves callers w k (Point.Checking j) u x there = checking j there
-moves callers w k (Point.Making m) u x there = making m there
-moves callers w k (Point.Filling m) u x there = filling m there
-moves callers w k (Point.Loading m) u x there = loading m there
-moves callers w k (Point.Following m) u x there = following m there
-moves callers w k (Point.Testing m) u x there = testing m there
-moves callers w k (Point.Linking m) u x there = linking m there
-moves callers w k Point.Swinging u x there = swinging there
-moves callers w k (Point.Helping m) u x there = helping m there
-moves callers w k Point.Heading u x there = heading there
-moves callers w k Point.Peeking u x there = peeking there
-moves callers w k Point.Asking u x there = asking there
-moves callers w k Point.Taking u x there = taking there
-moves callers w k Point.Freeing u x there = freeing there
-moves callers w k Point.Reading u x there = reading there
-moves callers w k (Point.Ended d) u x there = λ shared local o t asks. absurd asks
+moves : (callers : ℕ) (w : World) (k : ℕ) (s : Point) (u : Option Done) (x : List ℕ) → MovesAt client callers w k u x s
+moves callers w k Point.Founding u x = founding
+moves callers w k Point.Grounding u x = grounding
+moves callers w k Point.Dropping u x = dropping
+moves callers w k Point.FirstHead u x = first_head
+moves callers w k Point.FirstTail u x = first_tail
+moves callers w k Point.Placing u x = placing
+moves callers w k Point.Founded u x = λ there shared local o t asks. absurd asks
+moves callers w k (Point.Starting j) u x = starting j
+moves callers w k (Point.Checking j) u x = checking j
+moves callers w k (Point.Making m) u x = making m
+moves callers w k (Point.Filling m) u x = filling m
+moves callers w k (Point.Loading m) u x = loading m
+moves callers w k (Point.Following m) u x = following m
+moves callers w k (Point.Testing m) u x = testing m
+moves callers w k (Point.Linking m) u x = linking m
+moves callers w k Point.Swinging u x = swinging
+moves callers w k (Point.Helping m) u x = helping m
+moves callers w k Point.Heading u x = heading
+moves callers w k Point.Peeking u x = peeking
+moves callers w k Point.Asking u x = asking
+moves callers w k Point.Taking u x = taking
+moves callers w k Point.Freeing u x = freeing
+moves callers w k Point.Reading u x = reading
+moves callers w k (Point.Ended d) u x = λ there shared local o t asks. absurd asks
 
 ends : (w : World) (k : ℕ) (s : Point) (u : Option Done) (d : Done) → Local w k s u → ended s ≡ Some d → u ≡ Some d
 ends w k (Point.Ended e) u d local is = local ∙ is
@@ -65,21 +63,13 @@ contains w x (inr q) = (
   ]),
 )
 
-none_at_first : (callers : ℕ) → IsUnfounded (first_world queue_plan left_by callers) []
-none_at_first callers = record {
-  global = refl;
-  none_left = refl;
-  none_shared = λ a e. cc e;
-  no_nodes = λ a h. h.shown;
-}
-
-pub queue_keeps : Keeps queue_plan left_by [] HasNumbers
+pub queue_keeps : Keeps queue_plan left_by [] HasNumbers Shared Local Rely job_at
 queue_keeps = record {
-  Shared = Shared;
-  Local = Local;
-  Rely = Rely;
-  job_at = job_at;
-  founding = λ callers. (inl (none_at_first callers), record { first = refl; none = refl });
+  founding = λ callers. (
+    inl (record { global = refl; none_left = refl; none_shared = λ a e. cc e; no_nodes = λ a h. h.shown }),
+    (refl, refl),
+    refl,
+  );
   begins = λ w k j. (refl, refl);
   ends = ends;
   waits = λ callers j k s u w w' other there waits rely local. stays other waits rely s u local;

@@ -1,11 +1,8 @@
 pub mod Invariant
-pub mod Stays
-pub mod Covered
-pub mod Linked
-pub mod EndsMoved
-pub mod Founded
-pub mod Moving
-pub mod Enqueuing
-pub mod Dequeuing
+pub mod Staying
+pub mod Leaving
+pub mod Rows
+pub mod Changing
 pub mod Founding
+pub mod Moving
 pub mod Kept

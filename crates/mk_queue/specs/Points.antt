@@ -1,7 +1,8 @@
 -- The points of a queue's jobs: the operation of each, and what the registers hold there.
 use Rattle.std.specs.Prelude.{◌≡◌, ℕ, List, [], ◌∷◌, Option, Some, None, refl}
+use Rattle.std.proofs.Common.{subst}
 use Rattle.mk_never.specs.declared.types.Kind.{Kind}
-use Rattle.mk_jobs.specs.{Plans.{Plan, Hold, Anything, MayPoint, Points, Owns, Owes}, Typing.IsTyped}
+use Rattle.mk_jobs.specs.{Plans.{Plan, Hold, Anything, MayPoint, Points, Owns, Owes}, Typing.{IsTyped, IsTypedStep}}
 use Rattle.mk_jobs.specs.declared.steps.Step.{Step}
 use Rattle.mk_queue.specs.declared.{jobs.Job.{Job}, jobs.Done.{Done}, points.Point.{Point}}
 use Rattle.mk_queue.specs.declared.points.Point.TheVariants as at
@@ -84,8 +85,25 @@ queue_plan = record {
   holds = holds;
 }
 
+queue_steps_are_typed : (s : Point) → IsTypedStep queue_plan (holds s) (step_of s)
+queue_steps_are_typed (at.Checking (Job.Enqueue n)) = refl
+queue_steps_are_typed (at.Checking Job.Dequeue) = refl
+queue_steps_are_typed at.Reading = (refl, λ n. refl)
+queue_steps_are_typed x0 = refl
+
+abbrev IsNone : Option Done → Type 0
+IsNone None = Unit {0}
+IsNone (Some d) = ⊥
+
+end_asks_nothing : (s : Point) (d : Done) → ended s ≡ Some d → step_of s ≡ Step.End
+end_asks_nothing (at.Ended e) d is = refl
+end_asks_nothing at.Founded d is = refl
+end_asks_nothing _ d is = absurd (subst IsNone is tt)
+
 pub queue_is_typed : IsTyped queue_plan
-queue_is_typed (at.Checking (Job.Enqueue n)) = refl
-queue_is_typed (at.Checking Job.Dequeue) = refl
-queue_is_typed at.Reading = (refl, λ n. refl)
-queue_is_typed x0 = refl
+queue_is_typed = record {
+  steps = queue_steps_are_typed;
+  founding = refl;
+  starting = λ j. refl;
+  ended = end_asks_nothing;
+}

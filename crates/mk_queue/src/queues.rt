@@ -1,7 +1,8 @@
 //! The queue as points: the operation of each, and where its answers lead.
 ghost use Rattle.std.specs.Prelude.{◌≡◌, ℕ, List, [], Option};
 ghost use Rattle.mk_never.specs.NeverHeap.{NeverState};
-ghost use Rattle.mk_queue.specs.{Points.{done_without, queue_plan, queue_is_typed, with_ends}, Queue.{HasNumbers, left_by}};
+ghost use Rattle.mk_queue.specs.Points.{done_without, queue_is_typed, queue_plan, with_ends};
+ghost use Rattle.mk_queue.specs.Queue.{HasNumbers, left_by};
 
 use crate::jobs::{Done, Job};
 use crate::points::Point;
@@ -64,7 +65,9 @@ pub struct Queue;
 
 impl Object for Queue {
     type Job = Job;
+
     type Done = Done;
+
     type Point = Point;
 
     ghost State = { List ℕ };

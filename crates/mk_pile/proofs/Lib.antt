@@ -1,0 +1,7 @@
+pub mod Invariant
+pub mod Staying
+pub mod Exchanged
+pub mod Moving
+pub mod Kept
+pub mod Trial
+pub mod Direct
