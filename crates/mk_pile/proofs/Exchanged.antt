@@ -1,6 +1,7 @@
 -- The top is exchanged for another node, or placed first.
 use Rattle.std.proofs.Common.{ap₂}
-use Rattle.mk_laws.proofs.Vocabulary.{Bool, List, None, Null, Option, Ptr, Some, Value, allocation_at, ap, arith, cases_eq}
+use Rattle.mk_laws.proofs.Vocabulary.{Bool, List, None, Null, Option, Ptr, Some, Value, allocation_at, ap, arith}
+use Rattle.mk_laws.proofs.Vocabulary.{cases_eq}
 use Rattle.mk_laws.proofs.Vocabulary.{cond, eq-eqb, get_or, global_at, inl, inr, no_allocation, number_of, refl, subst}
 use Rattle.mk_laws.proofs.Vocabulary.{sym, word_at, words_of, ℕ, [], ◌∙◌, ◌∷◌, ◌≡◌, ◌≢◌, ◌⊎◌}
 use Rattle.mk_never.specs.NeverHeap.{Allocation}
@@ -11,7 +12,8 @@ use Rattle.mk_pile.specs.{Stack.left_by, declared.{jobs.Done.{Done}, jobs.Job.{J
 use Rattle.mk_pile.proofs.{Invariant.{HasFirst, IsNode, IsStack, IsUnfounded, Rely}, Staying.not_null}
 
 -- The word of the top is stored, and node b gets another role that all may know.
-module _ {w w' : World} {xs : List ℕ} {b : ℕ} {v : Value} {r : Role} (q : IsStack w xs) (stores : Stores q.t 0 v w.n w'.n)
+module _ {w w' : World} {xs : List ℕ} {b : ℕ} {v : Value} {r : Role} (q : IsStack w xs)
+    (stores : Stores q.t 0 v w.n w'.n)
     (puts : Puts b r w.role w'.role) (is_node : (allocation_at w.n b).ty ≡ 0) (shown : IsShown r) where
   apart : (c : ℕ) → (allocation_at w.n c).ty ≡ 0 → c ≢ q.t
   apart c is e = (let x : 0 ≡ 1 = sym is ∙ ap (λ (y : ℕ). (allocation_at w.n y).ty) e ∙ q.top.is_of in cc x)
@@ -27,7 +29,11 @@ module _ {w w' : World} {xs : List ℕ} {b : ℕ} {v : Value} {r : Role} (q : Is
 
   chain_now : (x : Value) (nodes : List ℕ) → IsNotAmong b nodes → IsChain w 0 1 x nodes → IsChain w' 0 1 x nodes
   chain_now x nodes other chain =
-      chain_stays w 0 1 w' x nodes (λ c one h. (part_now 0 c (not_one_of nodes other one) h, word_now c 1 h.is_of)) chain
+      chain_stays w 0 1 w' x nodes (λ c one h. (
+        part_now 0 c
+            (not_one_of nodes other one) h,
+        word_now c 1 h.is_of,
+      )) chain
 
   numbers_now : (x : Value) (nodes : List ℕ) → IsChain w 0 1 x nodes → numbers_in w'.n 0 nodes ≡ numbers_in w.n 0 nodes
   numbers_now x nodes chain = numbers_stay w 0 1 w'.n 0 x nodes (λ c one h. word_now c 0 h.is_of) chain
@@ -74,7 +80,7 @@ module _ {w w' : World} {xs : List ℕ} {b : ℕ} {v : Value} {r : Role} (q : Is
     where
       by : (c : ℕ) → (c ≡ b) ⊎ (c ≢ b) → w'.role c ≡ Public → (c ≡ q.t) ⊎ IsOneOf c (b ∷ q.nodes)
       by c (inl e) is = inr (inl e)
-      by c (inr ne) is = elim (q.all c (sym (puts.others c ne) ∙ is)) [ | inl e ↦ inl e | inr one ↦ inr (inr one) ]
+      by c (inr ne) is = elim (q.all c (sym (puts.others c ne) ∙ is)) [ inl e ↦ inl e | inr one ↦ inr (inr one) ]
 
   -- What is left of the numbers
   pub record Pops : Type 0 where
@@ -92,12 +98,13 @@ module _ {w w' : World} {xs : List ℕ} {b : ℕ} {v : Value} {r : Role} (q : Is
           ap (λ (l : List ℕ). left_by l Job.Pop (Done.Popped y)) e
           ∙ ap (λ (t : Bool). cond t (Some ys) None) (eq-eqb x y same)
 
-      rest : (ns : List ℕ) (c : ℕ) → q.nodes ≡ b ∷ ns → (c ≡ b) ⊎ (c ≢ b) → w'.role c ≡ Public → (c ≡ q.t) ⊎ IsOneOf c ns
+      rest : (ns : List ℕ) (c : ℕ) → q.nodes ≡ b ∷ ns → (c ≡ b) ⊎ (c ≢ b) → w'.role c ≡ Public
+          → (c ≡ q.t) ⊎ IsOneOf c ns
       rest ns c e (inl same) f =
           absurd (let x : Taken k ≡ Public = sym taken_off ∙ sym puts.here ∙ sym (ap w'.role same) ∙ f in cc x)
       rest ns c e (inr ne) f = elim (q.all c (sym (puts.others c ne) ∙ f)) [
         | inl top ↦ inl top
-        | inr one ↦ elim (subst (IsOneOf c) e one) [ | inl same ↦ absurd (ne same) | inr later ↦ inr later ]
+        | inr one ↦ elim (subst (IsOneOf c) e one) [ inl same ↦ absurd (ne same) | inr later ↦ inr later ]
       ]
 
       at : (ns : List ℕ) → q.nodes ≡ b ∷ ns → IsChain w 0 1 (word_at w.n q.t 0) (b ∷ ns) → Pops
@@ -110,7 +117,8 @@ module _ {w w' : World} {xs : List ℕ} {b : ℕ} {v : Value} {r : Role} (q : Is
           nodes = ns;
           global = stores.globals 0 ∙ q.global;
           top = top_now;
-          chain = subst (λ (y : Value). IsChain w' 0 1 y ns) (sym (stores.here ∙ next)) (chain_now _ ns chain.2 chain.3);
+          chain = subst (λ (y : Value). IsChain w' 0 1 y ns) (sym (stores.here
+              ∙ next)) (chain_now _ ns chain.2 chain.3);
           numbers = numbers_now _ ns chain.3;
           all = λ c f. rest ns c e (cases_eq c b) f;
         };

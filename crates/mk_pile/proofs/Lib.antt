@@ -3,5 +3,3 @@ pub mod Staying
 pub mod Exchanged
 pub mod Moving
 pub mod Kept
-pub mod Trial
-pub mod Direct

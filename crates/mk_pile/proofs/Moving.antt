@@ -1,10 +1,13 @@
 -- Each operation of a stack's jobs.
 use Rattle.mk_laws.proofs.Vocabulary.{List, NeverState, None, Null, Num, Op, Option, Ptr, Some, Value, ap, arith, false}
-use Rattle.mk_laws.proofs.Vocabulary.{false≢true, get_or, global_at, inl, inr, kinds_of, length, number_of, refl, register_at}
-use Rattle.mk_laws.proofs.Vocabulary.{subst, suc, sym, true, word_at, words_of, zero, ℕ, [], ◌∙◌, ◌∷◌, ◌≡◌, ◌≢◌, ◌≤◌, ◌⊎◌}
+use Rattle.mk_laws.proofs.Vocabulary.{false≢true, get_or, global_at, inl, inr, kinds_of, length, number_of, refl}
+use Rattle.mk_laws.proofs.Vocabulary.{register_at}
+use Rattle.mk_laws.proofs.Vocabulary.{subst, suc, sym, true, word_at, words_of, zero, ℕ, [], ◌∙◌, ◌∷◌, ◌≡◌, ◌≢◌, ◌≤◌}
+use Rattle.mk_laws.proofs.Vocabulary.{◌⊎◌}
 use Rattle.mk_jobs.specs.Keeping.{IsThere, Private, Public, Taken, World, after}
 use Rattle.mk_jobs.proofs.Clients.{Client, MovesAt, by_exchange, by_freeing, by_load, by_load_global, by_load_number}
-use Rattle.mk_jobs.proofs.Clients.{by_new, by_null, by_store, by_store_global, by_store_number, decides_so, some_not_none}
+use Rattle.mk_jobs.proofs.Clients.{by_new, by_null, by_store, by_store_global, by_store_number, decides_so}
+use Rattle.mk_jobs.proofs.Clients.{some_not_none}
 use Rattle.mk_jobs.proofs.Clients.{takes_public, undecided, was_decided, when_null, when_some}
 use Rattle.mk_jobs.proofs.{Chains.IsChain, Operations.{global_there, register_has}, Puts.puts_one}
 use Rattle.mk_pile.specs.{Points.{done_without, holds, stack_plan}, Stack.left_by}
@@ -163,15 +166,19 @@ module _ {callers : ℕ} {w : World} {k : ℕ} {u : Option Done} {x : List ℕ} 
       let is = local.top.register ∙ ap (λ (a : ℕ). Ptr a 1 0) (sym q.1) in
       by_exchange client u there shared asks is refl (λ same stores.
       let puts = puts_one Public own.register (λ a. refl) in
-      let is_node = (register_has there 1 own.register).is_of in (q.0.top.role, (λ e. absurd (false≢true e)), record {
-        decided = Some Done.Pushed;
-        state = number_of (word_at w.n own.a 0) ∷ x;
-        deciding = decides_so client Done.Pushed local.open_still refl
-            (ap (λ (y : ℕ). Some (y ∷ x)) (sym (own.number m refl)));
-        local = refl;
-        shared = inr (pushed q.0 stores puts is_node tt own.role (own.link _ refl ∙ sym same) own.register refl);
-        rely = exchange_rely q.0 stores puts is_node tt k;
-      })) (λ a. refl) refl (undecided client refl)
+      let is_node = (register_has there 1 own.register).is_of in (
+        q.0.top.role,
+        (λ e. absurd (false≢true e)),
+        record {
+          decided = Some Done.Pushed;
+          state = number_of (word_at w.n own.a 0) ∷ x;
+          deciding = decides_so client Done.Pushed local.open_still refl
+              (ap (λ (y : ℕ). Some (y ∷ x)) (sym (own.number m refl)));
+          local = refl;
+          shared = inr (pushed q.0 stores puts is_node tt own.role (own.link _ refl ∙ sym same) own.register refl);
+          rely = exchange_rely q.0 stores puts is_node tt k;
+        },
+      )) (λ a. refl) refl (undecided client refl)
       (λ same rely alone. forgotten (pushing rely (same 0) (same 1) alone local))
 
   -- A pop loads the uppermost node,
@@ -193,14 +200,17 @@ module _ {callers : ℕ} {w : World} {k : ℕ} {u : Option Done} {x : List ℕ} 
       by (a ∷ l) e chain =
           by_load client u there shared asks is refl (λ a. refl) (undecided client refl) (λ set rely alone. (
             top rely (set.others 0 (λ e. omega arith)) local.1,
-            inr (local.0, record {
-              a = a;
-              register = set.here ∙ chain.0;
-              node = rely.node a (record {
-                shown = subst Rattle.mk_jobs.specs.Keeping.IsShown (sym chain.1.role) tt;
-                is_of = chain.1.is_of;
-              });
-            }),
+            inr (
+              local.0,
+              record {
+                a = a;
+                register = set.here ∙ chain.0;
+                node = rely.node a (record {
+                  shown = subst Rattle.mk_jobs.specs.Keeping.IsShown (sym chain.1.role) tt;
+                  is_of = chain.1.is_of;
+                });
+              },
+            ),
           ))
 
   -- which is null or not,

@@ -1,6 +1,8 @@
 -- What a caller has stays so after an operation on which it may rely, and a stack where all that callers know does.
-use Rattle.mk_laws.proofs.Vocabulary.{List, None, Null, Option, Ptr, Some, Value, ap, arith, get_or, inl, inr, number_of}
-use Rattle.mk_laws.proofs.Vocabulary.{global_at, refl, register_at, subst, sym, word_at, words_of, ℕ, ◌<◌, ◌∙◌, ◌≡◌, ◌≢◌}
+use Rattle.mk_laws.proofs.Vocabulary.{List, None, Null, Option, Ptr, Some, Value, ap, arith, get_or, inl, inr}
+use Rattle.mk_laws.proofs.Vocabulary.{number_of}
+use Rattle.mk_laws.proofs.Vocabulary.{global_at, refl, register_at, subst, sym, word_at, words_of, ℕ, ◌<◌, ◌∙◌, ◌≡◌}
+use Rattle.mk_laws.proofs.Vocabulary.{◌≢◌}
 use Rattle.mk_laws.proofs.Vocabulary.{◌⊎◌}
 use Rattle.mk_jobs.specs.Keeping.{Covers, IsOf, IsShown, Private, Public, Waits, World}
 use Rattle.mk_jobs.proofs.{Chains.{IsChain, IsPart, chain_stays, numbers_stay}, Clients.OwnStays}
@@ -102,10 +104,13 @@ module _ {j k : ℕ} {w w' : World} (other : j ≢ k) (waits : Waits k w w') (re
   stays (Point.Publishing m) u h =
       subst (λ (v : Value). IsPushing w' k (Some m) (Some v) u) (sym (same 2 (omega arith))) (pushes h)
   stays Point.Peeking u h = (h.0, top rely (same 0 (omega arith)) h.1)
-  stays Point.Testing u h = (top rely (same 0 (omega arith)) h.0, elim h.1 [
-    | inl none ↦ inl (same 2 (omega arith) ∙ none.0, none.1)
-    | inr has ↦ inr (has.0, seen rely (same 2 (omega arith)) has.1)
-  ])
+  stays Point.Testing u h = (
+    top rely (same 0 (omega arith)) h.0,
+    elim h.1 [
+      | inl none ↦ inl (same 2 (omega arith) ∙ none.0, none.1)
+      | inr has ↦ inr (has.0, seen rely (same 2 (omega arith)) has.1)
+    ],
+  )
   stays Point.Following u h = (h.0, top rely (same 0 (omega arith)) h.1, seen rely (same 2 (omega arith)) h.2)
   stays Point.Taking u h =
       (h.0, top rely (same 0 (omega arith)) h.1, followed rely (same 2 (omega arith)) (same 3 (omega arith)) h.2)
@@ -139,9 +144,12 @@ module _ {w w' : World} (covers : Covers w w') where
   })
 
   pub covered : (xs : List ℕ) (j : ℕ) → Shared w xs → Shared w' xs × Rely j w w'
-  covered xs j shared = (shared_now shared, record {
-    founder = λ e. covers.globals 0;
-    top = λ t is. covers.globals 0 ∙ is;
-    node = λ a h. record { shown = covers.stays a h.shown; is_of = covers.types a h.shown ∙ h.is_of };
-    words = λ a h. covers.words a h.shown;
-  })
+  covered xs j shared = (
+    shared_now shared,
+    record {
+      founder = λ e. covers.globals 0;
+      top = λ t is. covers.globals 0 ∙ is;
+      node = λ a h. record { shown = covers.stays a h.shown; is_of = covers.types a h.shown ∙ h.is_of };
+      words = λ a h. covers.words a h.shown;
+    },
+  )

@@ -1,7 +1,8 @@
 //! The stack as points: the operation of each, and where its answers lead.
 ghost use Rattle.std.specs.Prelude.{◌≡◌, ℕ, List, [], Option};
 ghost use Rattle.mk_never.specs.NeverHeap.{NeverState};
-ghost use Rattle.mk_pile.specs.{Points.{done_without, stack_is_typed, stack_plan, with_top}, Stack.{HasNumbers, left_by}};
+ghost use Rattle.mk_pile.specs.Points.{done_without, stack_is_typed, stack_plan, with_top};
+ghost use Rattle.mk_pile.specs.Stack.{HasNumbers, left_by};
 
 use crate::jobs::{Done, Job};
 use crate::points::Point;
@@ -59,7 +60,9 @@ pub struct Stack;
 
 impl Object for Stack {
     type Job = Job;
+
     type Done = Done;
+
     type Point = Point;
 
     ghost State = { List ℕ };
@@ -110,7 +113,14 @@ impl Object for Stack {
             Point::Looking(n) => load(UPPERMOST, TOP, FIRST, Point::Linking(n)),
             Point::Linking(n) => store(NODE, LINK, UPPERMOST, Point::Publishing(n)),
             Point::Publishing(n) => {
-                exchange(TOP, FIRST, UPPERMOST, NODE, Point::Ended(Done::Pushed), Point::Looking(n))
+                exchange(
+                    TOP,
+                    FIRST,
+                    UPPERMOST,
+                    NODE,
+                    Point::Ended(Done::Pushed),
+                    Point::Looking(n),
+                )
             }
             Point::Peeking => load(UPPERMOST, TOP, FIRST, Point::Testing),
             Point::Testing => if_null(UPPERMOST, Point::Ended(Done::Empty), Point::Following),
