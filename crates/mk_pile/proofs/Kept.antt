@@ -7,7 +7,8 @@ use Rattle.mk_pile.specs.{Points.{ended, stack_plan}, Stack.{HasNumbers, left_by
 use Rattle.mk_pile.specs.declared.{jobs.Done.{Done}, points.Point.{Point}}
 use Rattle.mk_pile.proofs.Invariant.{Local, Rely, Shared, job_at}
 use Rattle.mk_pile.proofs.Moving.{checking, client, filling, following, founding, freeing, linking, looking, making}
-use Rattle.mk_pile.proofs.{Moving.{peeking, placing, publishing, reading, starting, taking, testing}, Staying.{covered, stays}}
+use Rattle.mk_pile.proofs.Moving.{peeking, placing, publishing, reading, starting, taking, testing}
+use Rattle.mk_pile.proofs.Staying.{covered, stays}
 
 moves : (callers : ℕ) (w : World) (k : ℕ) (s : Point) (u : Option Done) (x : List ℕ) → MovesAt client callers w k u x s
 moves callers w k Point.Founding u x = founding
