@@ -29,3 +29,10 @@ pub mod JobLists
 pub mod JoinedJobs
 pub mod JobRuns
 pub mod EndedRuns
+pub mod Heaps
+pub mod Puts
+pub mod Operations
+pub mod Covering
+pub mod Asked
+pub mod Chains
+pub mod Clients

@@ -10,3 +10,4 @@ pub mod JobLists
 pub mod Engines
 pub mod Joining
 pub mod Runs
+pub mod Linked

@@ -1,0 +1,109 @@
+-- The points of a queue's jobs: the operation of each, and what the registers hold there.
+use Rattle.std.specs.Prelude.{◌≡◌, ℕ, List, [], ◌∷◌, Option, Some, None, refl}
+use Rattle.std.proofs.Common.{subst}
+use Rattle.mk_never.specs.declared.types.Kind.{Kind}
+use Rattle.mk_jobs.specs.{Plans.{Plan, Hold, Anything, MayPoint, Points, Owns, Owes}, Typing.{IsTyped, IsTypedStep}}
+use Rattle.mk_jobs.specs.declared.steps.Step.{Step}
+use Rattle.mk_queue.specs.declared.{jobs.Job.{Job}, jobs.Done.{Done}, points.Point.{Point}}
+use Rattle.mk_queue.specs.declared.points.Point.TheVariants as at
+
+abbrev pub done_without : Job → Done
+done_without (Job.Enqueue n) = Done.Full
+done_without Job.Dequeue = Done.Empty
+
+abbrev pub with_ends : Job → Point
+with_ends (Job.Enqueue n) = at.Making n
+with_ends Job.Dequeue = at.Heading
+
+abbrev pub step_of : Point → Step Point
+step_of at.Founding = Step.New 0 1 at.Grounding at.Founded
+step_of at.Grounding = Step.New 1 0 at.FirstHead at.Dropping
+step_of at.Dropping = Step.Free 0 at.Founded
+step_of at.FirstHead = Step.SetPtr 0 0 1 at.FirstTail
+step_of at.FirstTail = Step.SetPtr 0 1 1 at.Placing
+step_of at.Placing = Step.SetGlobal 0 0 at.Founded
+step_of at.Founded = Step.End
+step_of (at.Starting j) = Step.GetGlobal 0 0 (at.Checking j)
+step_of (at.Checking j) = Step.IsNull 0 (at.Ended (done_without j)) (with_ends j)
+step_of (at.Making n) = Step.New 1 0 (at.Filling n) (at.Ended Done.Full)
+step_of (at.Filling n) = Step.SetNum 1 0 n (at.Loading n)
+step_of (at.Loading n) = Step.GetPtr 2 0 1 (at.Following n)
+step_of (at.Following n) = Step.GetPtr 3 2 1 (at.Testing n)
+step_of (at.Testing n) = Step.IsNull 3 (at.Linking n) (at.Helping n)
+step_of (at.Linking n) = Step.CasPtr 2 1 3 1 at.Swinging (at.Loading n)
+step_of at.Swinging = Step.CasPtr 0 1 2 1 (at.Ended Done.Enqueued) (at.Ended Done.Enqueued)
+step_of (at.Helping n) = Step.CasPtr 0 1 2 3 (at.Loading n) (at.Loading n)
+step_of at.Heading = Step.GetPtr 2 0 0 at.Peeking
+step_of at.Peeking = Step.GetPtr 3 2 1 at.Asking
+step_of at.Asking = Step.IsNull 3 (at.Ended Done.Empty) at.Taking
+step_of at.Taking = Step.CasPtr 0 0 2 3 at.Freeing at.Heading
+step_of at.Freeing = Step.Free 2 at.Reading
+step_of at.Reading = Step.GetNum 3 0 (at.Ended (Done.Dequeued 0))
+step_of (at.Ended d) = Step.End
+
+abbrev pub with_number : Point → ℕ → Point
+with_number (at.Ended (Done.Dequeued x)) n = at.Ended (Done.Dequeued n)
+with_number s n = s
+
+abbrev pub ended : Point → Option Done
+ended (at.Ended d) = Some d
+ended _ = None
+
+-- what registers 0 to 3 hold: the ends, the node that is enqueued, the tail or the head, and its link
+abbrev pub holds : Point → List Hold
+holds at.Grounding = Owns 1 ∷ []
+holds at.Dropping = Owns 1 ∷ []
+holds at.FirstHead = Owns 1 ∷ Owns 0 ∷ []
+holds at.FirstTail = Owns 1 ∷ Owns 0 ∷ []
+holds at.Placing = Owns 1 ∷ Owns 0 ∷ []
+holds (at.Checking j) = MayPoint 1 ∷ []
+holds (at.Making n) = Points 1 ∷ []
+holds (at.Filling n) = Points 1 ∷ Owns 0 ∷ []
+holds (at.Loading n) = Points 1 ∷ Owns 0 ∷ []
+holds (at.Following n) = Points 1 ∷ Owns 0 ∷ MayPoint 0 ∷ []
+holds (at.Testing n) = Points 1 ∷ Owns 0 ∷ MayPoint 0 ∷ MayPoint 0 ∷ []
+holds (at.Linking n) = Points 1 ∷ Owns 0 ∷ MayPoint 0 ∷ MayPoint 0 ∷ []
+holds at.Swinging = Points 1 ∷ Points 0 ∷ MayPoint 0 ∷ []
+holds (at.Helping n) = Points 1 ∷ Owns 0 ∷ MayPoint 0 ∷ Points 0 ∷ []
+holds at.Heading = Points 1 ∷ []
+holds at.Peeking = Points 1 ∷ Anything ∷ MayPoint 0 ∷ []
+holds at.Asking = Points 1 ∷ Anything ∷ MayPoint 0 ∷ MayPoint 0 ∷ []
+holds at.Taking = Points 1 ∷ Anything ∷ MayPoint 0 ∷ Points 0 ∷ []
+holds at.Freeing = Anything ∷ Anything ∷ Owes 0 ∷ Points 0 ∷ []
+holds at.Reading = Anything ∷ Anything ∷ Anything ∷ Points 0 ∷ []
+holds _ = []
+
+abbrev pub queue_plan : Plan Job Done Point
+queue_plan = record {
+  types = (Kind.Num ∷ Kind.To 0 0 ∷ []) ∷ (Kind.To 0 0 ∷ Kind.To 0 0 ∷ []) ∷ [];
+  globals = 1 ∷ [];
+  founding = at.Founding;
+  starting = at.Starting;
+  step = step_of;
+  with_number = with_number;
+  ended = ended;
+  holds = holds;
+}
+
+queue_steps_are_typed : (s : Point) → IsTypedStep queue_plan (holds s) (step_of s)
+queue_steps_are_typed (at.Checking (Job.Enqueue n)) = refl
+queue_steps_are_typed (at.Checking Job.Dequeue) = refl
+queue_steps_are_typed at.Reading = (refl, λ n. refl)
+queue_steps_are_typed x0 = refl
+
+abbrev IsNone : Option Done → Type 0
+IsNone None = Unit {0}
+IsNone (Some d) = ⊥
+
+end_asks_nothing : (s : Point) (d : Done) → ended s ≡ Some d → step_of s ≡ Step.End
+end_asks_nothing (at.Ended e) d is = refl
+end_asks_nothing at.Founded d is = refl
+end_asks_nothing _ d is = absurd (subst IsNone is tt)
+
+pub queue_is_typed : IsTyped queue_plan
+queue_is_typed = record {
+  steps = queue_steps_are_typed;
+  founding = refl;
+  starting = λ j. refl;
+  ended = end_asks_nothing;
+}

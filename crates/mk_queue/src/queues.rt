@@ -1,0 +1,160 @@
+//! The queue as points: the operation of each, and where its answers lead.
+ghost use Rattle.std.specs.Prelude.{◌≡◌, ℕ, List, [], Option};
+ghost use Rattle.mk_never.specs.NeverHeap.{NeverState};
+ghost use Rattle.mk_queue.specs.Points.{done_without, queue_is_typed, queue_plan, with_ends};
+ghost use Rattle.mk_queue.specs.Queue.{HasNumbers, left_by};
+
+use crate::jobs::{Done, Job};
+use crate::points::Point;
+use mk_core::GlobalTable;
+use mk_jobs::{
+    Object, Step, exchange, free, if_null, load, load_global, load_number, new, store,
+    store_global, store_number,
+};
+use mk_never::{Kind, NoMemory, TypeTable};
+use std::alloc::Global;
+
+/// The register that points to the ends, to the node that is enqueued, to the head or tail that was loaded, and to what
+/// its link points to
+const ENDS: u8 = 0;
+
+const NODE: u8 = 1;
+
+const OLD: u8 = 2;
+
+const NEXT: u8 = 3;
+
+/// The global that points to the ends
+const QUEUE: u8 = 0;
+
+/// A node has a number and a link; the ends are the head and the tail.
+const NODE_TYPE: u64 = 0;
+
+const ENDS_TYPE: u64 = 1;
+
+const NUMBER: u64 = 0;
+
+const LINK: u64 = 1;
+
+const HEAD: u64 = 0;
+
+const TAIL: u64 = 1;
+
+/// What a job ends with where there is no queue.
+fn done_without(job: Job) -> Done
+    ensures { result ≡ done_without job }
+{
+    match job {
+        Job::Enqueue(_) => Done::Full,
+        Job::Dequeue => Done::Empty,
+    }
+}
+
+/// Where a job goes on that has found the ends.
+fn with_ends(job: Job) -> Point
+    ensures { result ≡ with_ends job }
+{
+    match job {
+        Job::Enqueue(n) => Point::Making(n),
+        Job::Dequeue => Point::Heading,
+    }
+}
+
+/// A queue of numbers.
+pub struct Queue;
+
+impl Object for Queue {
+    type Job = Job;
+
+    type Done = Done;
+
+    type Point = Point;
+
+    ghost State = { List ℕ };
+
+    ghost plan = { queue_plan };
+
+    ghost first = { [] };
+
+    ghost left_by = { left_by };
+
+    ghost content = { HasNumbers };
+
+    fn types(alloc: Global) -> Result<TypeTable, NoMemory> {
+        let link = Kind::To { ty: 0, offset: 0 };
+        let mut node = Vec::new(alloc);
+        node.push(Kind::Num)?;
+        node.push(link)?;
+        let mut ends = Vec::new(alloc);
+        ends.push(link)?;
+        ends.push(link)?;
+        let mut types = TypeTable::new(alloc);
+        types.add(node)?;
+        types.add(ends)?;
+        Ok(types)
+    }
+
+    fn globals(alloc: Global) -> Result<GlobalTable, NoMemory> {
+        let mut globals = GlobalTable::new(alloc);
+        globals.add(ENDS_TYPE)?;
+        Ok(globals)
+    }
+
+    fn founding() -> Point {
+        Point::Founding
+    }
+
+    fn starting(job: Job) -> Point {
+        Point::Starting(job)
+    }
+
+    fn step(point: Point) -> Step<Point> {
+        use Point::*;
+        match point {
+            Founding => new(ENDS, ENDS_TYPE, Grounding, Founded),
+            Grounding => new(NODE, NODE_TYPE, FirstHead, Dropping),
+            Dropping => free(ENDS, Founded),
+            FirstHead => store(ENDS, HEAD, NODE, FirstTail),
+            FirstTail => store(ENDS, TAIL, NODE, Placing),
+            Placing => store_global(QUEUE, ENDS, Founded),
+            Starting(job) => load_global(ENDS, QUEUE, Checking(job)),
+            Checking(job) => if_null(ENDS, Ended(done_without(job)), with_ends(job)),
+
+            Making(n) => new(NODE, NODE_TYPE, Filling(n), Ended(Done::Full)),
+            Filling(n) => store_number(NODE, NUMBER, n, Loading(n)),
+            Loading(n) => load(OLD, ENDS, TAIL, Following(n)),
+            Following(n) => load(NEXT, OLD, LINK, Testing(n)),
+            Testing(n) => if_null(NEXT, Linking(n), Helping(n)),
+            Linking(n) => exchange(OLD, LINK, NEXT, NODE, Swinging, Loading(n)),
+            Swinging => {
+                let done = Ended(Done::Enqueued);
+                exchange(ENDS, TAIL, OLD, NODE, done, done)
+            }
+            Helping(n) => exchange(ENDS, TAIL, OLD, NEXT, Loading(n), Loading(n)),
+
+            Heading => load(OLD, ENDS, HEAD, Peeking),
+            Peeking => load(NEXT, OLD, LINK, Asking),
+            Asking => if_null(NEXT, Ended(Done::Empty), Taking),
+            Taking => exchange(ENDS, HEAD, OLD, NEXT, Freeing, Heading),
+            Freeing => free(OLD, Reading),
+            Reading => load_number(NEXT, NUMBER, Ended(Done::Dequeued(0))),
+            Founded | Ended(_) => Step::End,
+        }
+    }
+
+    fn with_number(point: Point, n: u64) -> Point {
+        match point {
+            Point::Ended(Done::Dequeued(_)) => Point::Ended(Done::Dequeued(n)),
+            other => other,
+        }
+    }
+
+    fn ended(point: Point) -> Option<Done> {
+        match point {
+            Point::Ended(done) => Some(done),
+            _ => None,
+        }
+    }
+
+    ghost typed = { queue_is_typed };
+}
