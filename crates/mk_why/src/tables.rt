@@ -1,25 +1,29 @@
 //! The tables of a search, and of what a cycle kept.
-ghost use Rattle.std.specs.Prelude.{◌≡◌, ℕ, None, count_by, is_some, length, slice_index_or, vec_len};
+ghost use Rattle.std.specs.Prelude.{◌≡◌, ℕ, None, count_by, false, is_some, length, slice_index_or, vec_len};
 
 use crate::found::{Found, Storage};
 use mk_never::NoMemory;
 use std::alloc::Global;
 
 /// Tables over the heap words, where each allocation stands at its first word: how it was found, and its storage if it
-/// was kept. The queue has the first words of the allocations that were found, in the order in which they were.
+/// was kept. The queue has the first words of the allocations that were found, in the order in which they were. A table
+/// that has nothing isn't emptied again.
 #[derive(Drop)]
 pub(crate) struct Tables {
     pub(crate) found: Vec<Option<Found>>,
     pub(crate) queue: Vec<u64>,
     pub(crate) count: usize,
     pub(crate) kept: Vec<Option<Storage>>,
+    // Whether something may have been kept.
+    pub(crate) keeps_some: bool,
     ghost queues: { vec_len queue ≡ vec_len found },
     ghost keeps: { vec_len kept ≡ vec_len found },
     ghost full: { count_by is_some found.items ≡ count },
+    ghost kept_some: { keeps_some ≡ false → count_by is_some kept.items ≡ 0 },
 }
 
 impl Tables {
-    ghost use Rattle.std.specs.Prelude.{◌<◌, ◌≤◌, ◌*◌, ◌+◌, true, false, Some, IfOk, slice_set};
+    ghost use Rattle.std.specs.Prelude.{◌<◌, ◌≤◌, ◌*◌, ◌+◌, true, Some, IfOk, slice_set};
     ghost use Rattle.mk_why.specs.Searching.{entry_at};
 
     /// Empty tables for a heap of this many pages.
@@ -37,6 +41,7 @@ impl Tables {
             queue,
             count: 0,
             kept,
+            keeps_some: false,
         })
     }
 
@@ -67,6 +72,7 @@ impl Tables {
         ensures kept { self.new.kept.items ≡ slice_set self.old.kept.items base (Some storage) }
         ensures found { self.new.found ≡ self.old.found }
     {
+        self.keeps_some = true;
         self.kept[base as usize] = Some(storage);
     }
 
@@ -76,6 +82,9 @@ impl Tables {
         ensures none { (base : ℕ) → entry_at self.new.found.items base ≡ None }
         ensures empty { self.new.count ≡ 0 }
     {
+        if self.count == 0 {
+            return;
+        }
         forget(&mut self.found);
         self.count = 0;
     }
@@ -86,7 +95,11 @@ impl Tables {
         ensures none { (base : ℕ) → entry_at self.new.kept.items base ≡ None }
         ensures found { self.new.found ≡ self.old.found }
     {
+        if !self.keeps_some {
+            return;
+        }
         forget(&mut self.kept);
+        self.keeps_some = false;
     }
 }
 
