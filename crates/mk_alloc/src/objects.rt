@@ -136,6 +136,20 @@ impl Shape {
         }
     }
 
+    /// The header word of a later page of its run, so far after the first.
+    #[inline(always)]
+    pub(crate) fn later_word(self, distance: u64) -> u64
+        requires sized { IsSized (object_shaped self) }
+        requires later { 1 ≤ distance }
+        requires within { distance < pages_made (object_shaped self) }
+        ensures { result ≡ header_made (object_shaped self) distance }
+    {
+        encode(Header::Later {
+            distance,
+            mapped: true,
+        })
+    }
+
     /// The bits of the cells of its first page.
     pub(crate) fn bits(self) -> u64
         ensures { result ≡ bits_made (object_shaped self) }

@@ -2,8 +2,8 @@
 ghost use Rattle.std.specs.Prelude.{◌≡◌, ◌==◌, true, false};
 ghost use Rattle.mk_core.specs.{Calls.d_of, Words.{header_at, phase_of}};
 ghost use Rattle.mk_caller.specs.{Below.Words.States.{call_of, now_of}, Below.Words.Sweeping.SweepsNothing};
-ghost use Rattle.mk_alloc.specs.Placing.{FitsNowhere, HeldIsExact, IsPlaced, IsServed, IsUnplaced, MayTake, Requests};
-ghost use Rattle.mk_alloc.specs.{Placing.object_for, Shapes.{MayServe, ShapeGoesTo, object_shaped}};
+ghost use Rattle.mk_alloc.specs.Placing.{FitsNowhere, HasCarved, HeldIsExact, IsPlaced, IsServed, IsUnplaced, MayTake};
+ghost use Rattle.mk_alloc.specs.{Placing.{Requests, object_for}, Shapes.{MayServe, ShapeGoesTo, object_shaped}};
 
 use crate::looking::{is_marking, look_at};
 use crate::objects::{Grant, Request, Shape, shape_of};
@@ -12,8 +12,22 @@ use mk_caller::lower::words::{Turn, Words};
 use mk_core::{Tally, Word};
 use mk_geom::Place;
 
+/// Marks the cells that the first page of the place will have, where a cycle marks.
+#[inline(always)]
+fn mark_place(words: &Words, turn: &mut Turn, shape: Shape, place: Place, marking: bool)
+    requires goes { ShapeGoesTo words.now turn.old.pass shape place }
+    requires free { header_at (now_of turn.old.pass).words place.page ≡ 0 }
+    requires marking { marking ≡ (phase_of (now_of turn.old.pass).words == 1) }
+    ensures carved { HasCarved turn.old.pass place 0 turn.new.pass }
+    ensures reached { SweepsNothing turn.old.pass turn.new.pass }
+{
+    if marking {
+        turn.mark(words, place.page, shape.bits());
+    }
+}
+
 /// Makes the free pages of the place a block, or a run. Where a cycle marks, the cells of the first page are marked
-/// before that.
+/// before that. The later pages of a run are all of one kind, so they have a loop of their own.
 fn carve(words: &Words, turn: &mut Turn, shape: Shape, place: Place, marking: bool)
     requires goes { ShapeGoesTo words.now turn.old.pass shape place }
     requires free { header_at (now_of turn.old.pass).words place.page ≡ 0 }
@@ -22,11 +36,10 @@ fn carve(words: &Words, turn: &mut Turn, shape: Shape, place: Place, marking: bo
     ensures reached { SweepsNothing turn.old.pass turn.new.pass }
 {
     let pages = shape.pages();
-    if marking {
-        turn.mark(words, place.page, shape.bits());
-    }
-    for distance in 0..pages {
-        turn.head(words, place.page + distance, shape.header_word(distance));
+    mark_place(words, turn, shape, place, marking);
+    turn.head(words, place.page, shape.header_word(0));
+    for distance in 1..pages {
+        turn.head(words, place.page + distance, shape.later_word(distance));
     }
 }
 

@@ -20,12 +20,11 @@ fn is_mapped(word: u64) -> bool
     ensures { result ≡ is_mapped_run (header_of word) }
 {
     let kind = word % 16;
-    if !matches!(kind, 9 | 10 | 14) {
-        return false;
+    // A run has 64 pages at most, of which one is its head. Most pages of runs are later ones.
+    if kind == 10 {
+        return (1..=63).contains(&(word / 16));
     }
-    // A run has 64 pages at most, of which one is its head.
-    let most = if kind == 10 { 63 } else { 64 };
-    (1..=most).contains(&(word / 16))
+    matches!(kind, 9 | 14) && (1..=64).contains(&(word / 16))
 }
 
 /// The kind of a page with this header word. Mapped runs come before leaf blocks, and what is left is an unmapped run,

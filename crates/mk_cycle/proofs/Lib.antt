@@ -52,6 +52,7 @@ pub mod FirstBits
 pub mod Blackened
 pub mod Clearing
 pub mod FreePages
+mod RestOfRuns
 pub mod Closes
 pub mod DirtyWords
 pub mod ScannedWords

@@ -2,18 +2,22 @@
 -- those still to come, goes on.
 use Rattle.std.proofs.Common.{le-ltb, ltb-false}
 use Rattle.mk_words.proofs.Below.Laws.Vocabulary.{Free, Header, Option, Some, Words, ℕ, and_from, ap, arith, cases_lt}
-use Rattle.mk_words.proofs.Below.Laws.Vocabulary.{eq-eqb, false, header_at, header_in, header_of, inl, inr, lt-ltb, not}
-use Rattle.mk_words.proofs.Below.Laws.Vocabulary.{or_parts, refl, run_count, slice_index, sym, use_under, used_at, ◌+◌}
+use Rattle.mk_words.proofs.Below.Laws.Vocabulary.{Bool, eq-eqb, false, head_page, header_at, header_in, header_of, inl}
+use Rattle.mk_words.proofs.Below.Laws.Vocabulary.{inr, lt-ltb, not}
+use Rattle.mk_words.proofs.Below.Laws.Vocabulary.{or_parts, refl, run_count, slice_index, subst, sym, true, use_under}
+use Rattle.mk_words.proofs.Below.Laws.Vocabulary.{used_at}
+use Rattle.mk_words.proofs.Below.Laws.Vocabulary.{◌+◌}
 use Rattle.mk_words.proofs.Below.Laws.Vocabulary.{◌<◌, ◌∙◌, ◌≡◌, ◌≤◌}
 use Rattle.mk_books.specs.Members.{IsNext, has_freed_cells, is_in_use}
 use Rattle.mk_cycle.proofs.Vocabulary.{Frees, FreesPage, HasFreeCells, IsOccupied, IsSettledPage, IsTurn, PassState}
 use Rattle.mk_cycle.proofs.Vocabulary.{Released, SamePage, below_more, held_below, held_unmarked, now_of}
 use Rattle.mk_cycle.proofs.{Vocabulary.{released_below, released_on}, CountedPages.{counted_more, held_more, held_same}}
 use Rattle.mk_cycle.{proofs.CountedPages.{none_held, nothing_on, same_released, told_same}, proofs.SumsBelow.{sum_past}}
-use Rattle.mk_cycle.proofs.SettledPages.{free_cells_stay, head_elsewhere, no_cells, no_snapshot, none_left}
-use Rattle.mk_cycle.proofs.{SettledPages.{same_occupied, still_settled}, FreeingSteps.{frees_nothing, frees_then}}
+use Rattle.mk_cycle.proofs.SettledPages.{free_cells_stay, head_before, head_elsewhere, no_cells, no_snapshot}
+use Rattle.mk_cycle.proofs.{SettledPages.{none_left, same_occupied, same_settled, still_settled}}
+use Rattle.mk_cycle.proofs.FreeingSteps.{frees_nothing, frees_then}
 use Rattle.mk_geom.{proofs.HeaderLemmas.{word_of-header_of}, specs.PageUses.{is_free_page}}
-use Rattle.mk_cycle.specs.Freeing.{may_be_unsettled}
+use Rattle.mk_cycle.specs.Freeing.{FreesRest, may_be_unsettled}
 
 -- The pages below this one are settled and counted, and the others are as they were; those that also aren't before the
 -- end of a run are occupied.
@@ -99,22 +103,27 @@ module _ {q : PassState} (t : IsTurn q) (n : ℕ) (bare : has_freed_cells (now_o
       → ◌≡◌ {A = Released} (record { count = 0; words = 0; kept = 0 }) (released_on (now_of p).words n)
   nothing_released p same = grind (arith, nothing_on, snapshot_none)
 
+-- What was released below pages without freed cells is what was released below and on them.
+module _ (p : PassState) {q : PassState} (t : IsTurn q) (n m : ℕ) (le : n ≤ m) (bare : (r : ℕ) → n ≤ r → r < m
+    → has_freed_cells (now_of q).words.freed r ≡ false) (same : (r : ℕ) → n ≤ r → SamePage p q r) where
+  nothing_there : (r : ℕ) → n ≤ r → r < m → ◌≡◌ {A = Released} (record { count = 0; words = 0; kept = 0 })
+      (released_on (now_of p).words r)
+  nothing_there r after lt = nothing_released t r (bare r after lt) p (same r after)
+
+  pub counted_past : released_below (now_of p).words n ≡ released_below (now_of p).words m
+  counted_past = same_released _ _
+      (sym (sum_past n m _ le (λ r after lt. sym (ap (λ (x : Released). x.count) (nothing_there r after lt)))))
+      (sym (sum_past n m _ le (λ r after lt. sym (ap (λ (x : Released). x.words) (nothing_there r after lt)))))
+      (sym (sum_past n m _ le (λ r after lt. sym (ap (λ (x : Released). x.kept) (nothing_there r after lt)))))
+
+  pub held_past : held_below (now_of p).words n ≡ held_below (now_of p).words m
+  held_past = sym (sum_past n m _ le (λ r after lt. sym (none_held (now_of p).words r (nothing_there r after lt))))
+
 -- Pages that aren't unsettled are passed over.
 module _ (p : PassState) {q : PassState} (t : IsTurn q) (n m end pages : ℕ) (le : n ≤ m) (few : m ≤ pages)
     (out : (r : ℕ) → n ≤ r → r < m → may_be_unsettled (now_of q).words end r ≡ false) where
   bare_there : (r : ℕ) → n ≤ r → r < m → has_freed_cells (now_of q).words.freed r ≡ false
   bare_there r after lt = (or_parts _ _ (out r after lt)).1
-
-  counted_past : ((r : ℕ) → n ≤ r → SamePage p q r)
-      → released_below (now_of p).words n ≡ released_below (now_of p).words m
-  counted_past same =
-      let w : Words = (now_of p).words in
-      let none : (r : ℕ) → n ≤ r → r < m
-      → ◌≡◌ {A = Released} (record { count = 0; words = 0; kept = 0 }) (released_on w r) =
-      λ r after lt. nothing_released t r (bare_there r after lt) p (same r after) in
-      same_released _ _ (sym (sum_past n m _ le (λ r after lt. sym (ap (λ (x : Released). x.count) (none r after lt)))))
-      (sym (sum_past n m _ le (λ r after lt. sym (ap (λ (x : Released). x.words) (none r after lt)))))
-      (sym (sum_past n m _ le (λ r after lt. sym (ap (λ (x : Released). x.kept) (none r after lt)))))
 
   pub settled_to : {all : Released} {held : ℕ} → AreSettledBelow p q pages n end all held
       → AreSettledBelow p q pages m end all held
@@ -129,10 +138,41 @@ module _ (p : PassState) {q : PassState} (t : IsTurn q) (n m end pages : ℕ) (l
     cells = λ r after lt. before.cells r (omega (arith, le, after)) lt;
     same = λ r after. before.same r (omega (arith, le, after));
     occupied = λ r after far lt. before.occupied r (omega (arith, le, after)) far lt;
-    counted = before.counted ∙ counted_past before.same;
-    holds = before.holds ∙ sym (sum_past n m _ le (λ r after lt. sym (none_held (now_of p).words r (nothing_released
-        t r (bare_there r after lt) p (before.same r after)))));
+    counted = before.counted ∙ counted_past p t n m le bare_there before.same;
+    holds = before.holds ∙ held_past p t n m le bare_there before.same;
   }
+
+-- The later pages of a run were freed.
+
+-- A page before them is as settled as it was.
+settled_before : {q r : PassState} {n m : ℕ} (s : ℕ) → FreesRest n m q r → s < n → IsSettledPage q s → IsSettledPage r s
+settled_before {q} {r} {n} s rest lt settled =
+    let head_le = head_before (header_in (now_of q).words s) s in
+    let here : SamePage q r s = rest.others s (λ le below. omega (arith, lt, le)) in
+    let there : SamePage q r (head_page (now_of q).words s) =
+    rest.others _ (λ le below. omega (arith, lt, le, head_le)) in
+    subst (λ (b : Bool). b ≡ true) (sym (same_settled q r s here there rest.frees.marks)) settled
+
+pub settled_rest : (p : PassState) {q r : PassState} → IsTurn q → (n m : ℕ) {end pages : ℕ} {all : Released} {held : ℕ}
+    → n ≤ m → FreesRest n m q r → AreSettledBelow p q pages n end all held → AreSettledBelow p r pages m end all held
+settled_rest p {q} {r} t n m le rest before = record {
+  frees = frees_then before.frees rest.frees;
+  settled = λ s lt. elim (cases_lt s n) [
+    | inl below ↦ settled_before s rest below (before.settled s below)
+    | inr above ↦ rest.settled s above lt
+  ];
+  cells = λ s after few. free_cells_stay s rest.frees (past s after) (before.cells s (omega (arith, le, after)) few);
+  same = λ s after. past s after ∙ before.same s (omega (arith, le, after));
+  occupied = λ s after far few.
+      let was = before.occupied s (omega (arith, le, after)) far few in
+      same_occupied q r s (past s after) (rest.others _ (λ low high. head_elsewhere t _ s (omega (arith, high, after))
+      (omega (arith, high, after, rest.later _ low high)) was refl)) ∙ was;
+  counted = before.counted ∙ counted_past p t n m le rest.bare before.same;
+  holds = before.holds ∙ held_past p t n m le rest.bare before.same;
+}
+  where
+    past : (s : ℕ) → m ≤ s → SamePage q r s
+    past s after = rest.others s (λ low high. omega (arith, high, after))
 
 -- the next page that may be unsettled: the first, up to the end of a run, and after it the next that has freed cells
 

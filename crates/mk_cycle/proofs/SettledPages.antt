@@ -14,6 +14,7 @@ use Rattle.mk_words.proofs.Below.Laws.Vocabulary.{true≢false, used_at, without
 use Rattle.mk_words.proofs.Below.Laws.Vocabulary.{◌||◌, ◌∙◌, ◌≡◌, ◌≢◌, ◌≤◌, ◌⊎◌}
 use Rattle.mk_words.proofs.Below.Laws.FreePages.{free_pages_have_nothing}
 use Rattle.mk_core.proofs.WordBits.{zero_from_bits}
+use Rattle.mk_core.specs.StopConditions.{has_settled_page}
 use Rattle.mk_cycle.specs.Freeing.{GivesBack, is_occupied_page}
 
 -- Free cells stay so, those of a page whose words are the same, and some of them.
@@ -106,6 +107,11 @@ head_before x0 page = grind arith
 pub same_occupied : (p q : PassState) (r : ℕ) → SamePage p q r → SamePage p q (head_page (now_of p).words r)
     → is_occupied_page (now_of q).words r ≡ is_occupied_page (now_of p).words r
 same_occupied p q r same head_same = grind (arith, same_header, same_used)
+
+pub same_settled : (p q : PassState) (r : ℕ) → SamePage p q r → SamePage p q (head_page (now_of p).words r)
+    → (now_of q).words.marks ≡ (now_of p).words.marks
+    → has_settled_page (now_of q).words r ≡ has_settled_page (now_of p).words r
+same_settled p q r same head_same marks = grind (arith, same_left, same_occupied)
 
 -- A later page of a run isn't past it.
 pub head_elsewhere : {q : PassState} → IsTurn q → (n r : ℕ) → n < r

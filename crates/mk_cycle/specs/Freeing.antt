@@ -1,11 +1,12 @@
 -- After a `release` what was released is wiped and given back, page by page.
-use Rattle.std.specs.Prelude.{◌≡◌, ◌≢◌, ℕ, ◌+◌, ◌*◌, ◌<◌, Bool, true, false, ◌==◌, ◌||◌, nat_lt, not, [], slice_index}
+use Rattle.std.specs.Prelude.{◌≡◌, ◌≢◌, ℕ, ◌+◌, ◌*◌, ◌<◌, ◌≤◌, Bool, true, false, ◌==◌, ◌||◌, nat_lt, not, []}
+use Rattle.std.specs.Prelude.{slice_index}
 use Rattle.mk_geom.specs.{declared.pages.Page.Page, Headers.header_of}
-use Rattle.mk_core.specs.{Bits.has_bit, Cells.{head_page, is_unmapped_header, left_unmarked, words_under}}
+use Rattle.mk_core.specs.{Bits.has_bit, Cells.{head_page, header_in, is_unmapped_header, left_unmarked, words_under}}
 use Rattle.mk_core.specs.{Frames.Steady, Moments.is_held, StopConditions.has_settled_page, Words.{Words, page_of}}
 use Rattle.mk_core.specs.Words.{header_at, quarantine_word, used_at}
 use Rattle.mk_books.specs.Members.{has_freed_cells}
-use Rattle.mk_words.specs.{Below.Laws.Zeros.IsWordOfMapped, Doing.Does}
+use Rattle.mk_words.specs.{Below.Laws.LayoutScene.run_count, Below.Laws.Zeros.IsWordOfMapped, Doing.Does}
 use Rattle.mk_words.specs.States.{PassState, WordsState, world_of, now_of}
 use Rattle.mk_cycle.specs.{EngineLaw.IsTurnAmong, Kinds.is_giving_back, TurnKeeps.LeavesTurn}
 
@@ -109,3 +110,19 @@ IsOccupied p page = is_occupied_page (now_of p).words page ≡ true
 -- It is one of the pages before this end of a run, or has freed cells.
 abbrev pub may_be_unsettled : Words → ℕ → ℕ → Bool
 may_be_unsettled w end page = nat_lt page end || has_freed_cells w.freed page
+
+-- The later pages of a run, from one on and below another, may be freed: no cell is used at its head or released there,
+-- and none of them has freed cells.
+pub record MayFreeRest (head from to : ℕ) (p : PassState) : Type 0 where
+  pub after : head < from
+  pub unused : used_at (now_of p).words head ≡ 0
+  pub none_left : left_unmarked (now_of p).words head ≡ 0
+  pub bare : (r : ℕ) → from ≤ r → r < to → has_freed_cells (now_of p).words.freed r ≡ false
+
+-- They were freed: they are settled, had no freed cells and headed no run, and all other pages are as they were.
+pub record FreesRest (from to : ℕ) (p q : PassState) : Type 0 where
+  pub frees : Frees p q
+  pub others : (r : ℕ) → (from ≤ r → r < to → ⊥) → SamePage p q r
+  pub settled : (r : ℕ) → from ≤ r → r < to → IsSettledPage q r
+  pub bare : (r : ℕ) → from ≤ r → r < to → has_freed_cells (now_of p).words.freed r ≡ false
+  pub later : (r : ℕ) → from ≤ r → r < to → run_count (header_in (now_of p).words r) ≡ 0

@@ -1,16 +1,19 @@
 //! Page by page, what was released is counted and given back, and pages on which nothing is left are freed: in one
 //! pass, which looks at the pages that have freed cells, and at the later pages of their runs.
-ghost use Rattle.std.specs.Prelude.{◌≡◌, ◌<◌, ℕ};
-ghost use Rattle.mk_core.specs.Cells.{head_page, left_unmarked};
+ghost use Rattle.std.specs.Prelude.{◌≡◌, ◌<◌, ◌≤◌, ◌+◌, ◌-◌, ℕ, Some, true, false};
+ghost use Rattle.mk_core.specs.Cells.{head_page, header_in, left_unmarked};
+ghost use Rattle.mk_geom.specs.declared.headers.Header.TheVariants.{Later};
 ghost use Rattle.mk_books.specs.Members.{IsNext};
 ghost use Rattle.mk_words.specs.States.{now_of};
-ghost use Rattle.mk_cycle.specs.{EngineLaw.IsTurnAt, Freeing.{Frees, FreesPage, HasFreeCells, IsOccupied}};
+ghost use Rattle.mk_cycle.specs.{EngineLaw.{IsTurnAmong, IsTurnAt}, Freeing.{Frees, FreesPage, FreesRest}};
+ghost use Rattle.mk_cycle.specs.Freeing.{HasFreeCells, IsOccupied, MayFreeRest};
 ghost use Rattle.mk_cycle.specs.Freeing.{IsSettledPage, MayGiveBackOn, may_be_unsettled};
 ghost use Rattle.mk_cycle.specs.ReleasedPages.{WasReleasedOn, held_below, released_below};
 
 use crate::finishing::Released;
 use crate::freeing::release_cells;
 use crate::reading::ReadHeader;
+use mk_geom::{Header, encode};
 use mk_words::{Turn, Words};
 
 /// What was released, and how many of its words were held until then.
@@ -54,6 +57,63 @@ fn settle_taken(
     let here = release_cells(turn, words, pages, page, header);
     free_unused(turn, words, page, header.head_page(page));
     here
+}
+
+/// Whether a page is one of the unmapped run that is headed so far before it.
+#[inline(always)]
+fn is_later_page(turn: &Turn, head: u64, page: u64) -> bool
+    requires within { page < turn.now.pass.table.config.pages }
+    requires after { head < page }
+    requires near { page < head + 64 }
+    ensures { result ≡ true → header_in (now_of turn.now.pass).words page ≡ Some (Later (page - head) false) }
+{
+    let later = Header::Later {
+        distance: page - head,
+        mapped: false,
+    };
+    turn.page(page).header == encode(later)
+}
+
+/// Frees later pages of an unmapped run, from one on and below another, as far as they are its pages. Returns where it
+/// has ended. No cell is used at the head, and no page has freed cells.
+#[inline(always)]
+fn free_later_pages(turn: &mut Turn, words: &Words, head: u64, from: u64, to: u64) -> u64
+    requires turn { IsTurnAt 4 words.now turn.old.pass }
+    requires within { to ≤ words.now.config.pages }
+    requires near { to ≤ head + 64 }
+    requires some { from ≤ to }
+    requires rest { MayFreeRest head from to turn.old.pass }
+    ensures begun { from ≤ result }
+    ensures ends { result ≤ words.now.config.pages }
+    ensures frees { FreesRest from result turn.old.pass turn.new.pass }
+{
+    for page in from..to {
+        if !is_later_page(turn, head, page) {
+            return page;
+        }
+        turn.head(words, page, 0);
+    }
+    to
+}
+
+/// Frees the later pages of the run of a page that is settled, up to this end, if no cell of it is used. Returns the
+/// first that it left. Nothing was released on a page without freed cells, so it isn't looked at.
+#[inline(always)]
+fn free_rest(turn: &mut Turn, words: &Words, pages: u64, head: u64, end: u64) -> u64
+    requires turn { IsTurnAmong 4 words.now turn.old.pass pages }
+    requires within { head < words.now.config.pages }
+    requires none_left { left_unmarked (now_of turn.old.pass).words head ≡ 0 }
+    ensures begun { head < result }
+    ensures ends { result ≤ words.now.config.pages }
+    ensures frees { FreesRest (head + 1) result turn.old.pass turn.new.pass }
+{
+    words.is_within_limits();
+    let from = head + 1;
+    if end <= from || turn.page(head).used != 0 {
+        return from;
+    }
+    let next = turn.next_quarantined(from).unwrap_or(pages);
+    free_later_pages(turn, words, head, from, end.min(next).min(head + 64))
 }
 
 /// The next page, from this one on, that may be unsettled: up to the end of a run each may be, and after it those that
@@ -103,7 +163,7 @@ pub(crate) fn settle_pages(turn: &mut Turn, words: &Words) -> Settled
         all.kept += here.released.kept;
         held += here.held;
         end = end.max(header.run_end(page));
-        from = page + 1;
+        from = free_rest(turn, words, pages, page, end);
     }
     Settled {
         released: all,

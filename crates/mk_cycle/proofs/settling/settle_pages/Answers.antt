@@ -1,7 +1,8 @@
 use Rattle.mk_words.proofs.Below.Laws.Vocabulary.{Page, ℕ, ap, arith, header_in, in_a_word, run_count, ◌+◌, ◌<◌, ◌∙◌}
 use Rattle.mk_words.proofs.Below.Laws.Vocabulary.{◌≡◌}
 use Rattle.mk_cycle.proofs.{Vocabulary.{PassState, now_of}, PageByPage.{AreSettledBelow, settled_more, settled_none}}
-use Rattle.mk_cycle.proofs.{PageByPage.settled_to, settling.settle_pages.Goals.{After-page-word, In_default}}
+use Rattle.mk_cycle.proofs.PageByPage.{settled_rest, settled_to}
+use Rattle.mk_cycle.proofs.settling.settle_pages.Goals.{After-page-word, In_default}
 use Rattle.mk_cycle.proofs.FreeingSteps.{freed_table}
 use Rattle.mk_cycle.proofs.settling.settle_pages.Goals as goal
 
@@ -46,15 +47,18 @@ loop-page-preserved c =
     let end : c.run_end.result ≡ in_a_word (n + run_count (header_in (now_of q).words n)) = grind arith in
     let furthest = c.max-end.ensures in
     let limits = c.is_within_limits.ensures in
+    let rest = c.free_rest-from.ensures in
+    let past = rest.begun in
     record {
-      begun = omega (arith, within, same_pages);
-      settled = settled_more p pages x.frees c.loop-page.turn.in_order c.max-end.result (omega (arith, furthest))
-          (λ s far lt few. omega (arith, end, furthest, far, few, limits)) c.settle_taken-here.result.released
-          c.settle_taken-here.result.held before x.settled x.told.released x.told.held;
-      count = omega (arith, i.count, x.told.few.count, after);
-      words = omega (arith, i.words, x.told.few.words, after);
-      kept = omega (arith, i.kept, x.told.few.kept, after);
-      few = omega (arith, i.few, x.told.part, x.told.few.words, after);
+      begun = rest.ends;
+      settled = settled_rest p c.settle_taken-here.new.turn.in_order (n + 1) c.free_rest-from.result
+          (omega (arith, past)) rest.frees (settled_more p pages x.frees c.loop-page.turn.in_order c.max-end.result
+          (omega (arith, furthest)) (λ s far lt few. omega (arith, end, furthest, far, few, limits)) c.settle_taken-here.result.released
+          c.settle_taken-here.result.held before x.settled x.told.released x.told.held);
+      count = omega (arith, i.count, x.told.few.count, after, past);
+      words = omega (arith, i.words, x.told.few.words, after, past);
+      kept = omega (arith, i.kept, x.told.few.kept, after, past);
+      few = omega (arith, i.few, x.told.part, x.told.few.words, after, past);
     }
 
 same_pages : (c : In_default) → c.loop-page.turn.pass.table.config.pages ≡ c.args.words.now.config.pages
