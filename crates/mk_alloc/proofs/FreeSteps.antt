@@ -8,7 +8,7 @@ use Rattle.mk_caller.proofs.Below.Laws.Vocabulary.{flight_of, freed_where_it_sta
 use Rattle.mk_caller.proofs.Below.Laws.Vocabulary.{heads_run, if◌then◌else◌, is_freed, is_run_cell, is_some}
 use Rattle.mk_caller.proofs.Below.Laws.Vocabulary.{is_undecided_free, map, not, or_else, others_are_held, pointed_cell}
 use Rattle.mk_caller.proofs.Below.Laws.Vocabulary.{progress_freed, quarantine_word, refl, run_of_cell, sees_double}
-use Rattle.mk_caller.proofs.Below.Laws.Vocabulary.{set-get_or, slice_index, slice_set, target, true, world_behind, []}
+use Rattle.mk_caller.proofs.Below.Laws.Vocabulary.{set-get_or, slice_index, slice_set, subst, sym, target, true, world_behind, []}
 use Rattle.mk_caller.proofs.Below.Laws.Vocabulary.{◌%◌, ◌&&◌, ◌*◌, ◌+◌, ◌-◌, ◌/◌, ◌<◌, ◌^◌, ◌||◌, ◌∙◌, ◌≡◌}
 use Rattle.mk_alloc.proofs.ObjectVocabulary.{Acts, CallIsAt, FreesOnce, HasFreed, IsAsLeft, IsEnabledTo, IsFreedAt}
 use Rattle.mk_alloc.proofs.ObjectVocabulary.{IsOutOfStop, IsTurn, MayFree, PassState, WordsState, answers_full, call_of}
@@ -194,7 +194,7 @@ quar_behind c cell {value} {w} {v} (OfCaller k lt) kept low at clear is small =
 
 -- the word that is made of both halves of the one that was found
 pub freed_word_made : (f s i : ℕ) → f < 2 ^ 32 → i < 32 → has_bit f i ≡ false → {quar : ℕ} → quar ≡ quarantine_word f s
-    → 4294967296 * (quar / 4294967296) + bit_or (quar % 4294967296) (1 * 2 ^ i % 2 ^ 64) ≡ quarantine_word (f + 2 ^ i) s
+    → bit_or (quar % 4294967296) (1 * 2 ^ i % 2 ^ 64) + 4294967296 * (quar / 4294967296) ≡ quarantine_word (f + 2 ^ i) s
 freed_word_made f s i lt near clear is = grind (arith, one_bit_more)
 
 pub freed_half : (f i : ℕ) → f < 2 ^ 32 → i < 32 → has_bit f i ≡ false → f + 2 ^ i < 2 ^ 32
@@ -212,7 +212,7 @@ module _ {w : WordsState} {p : PassState} {cell : Cell} {quar : ℕ} (free : May
   may = free.may
 
   abbrev stored : ℕ
-  stored = 4294967296 * (quar / 4294967296) + bit_or (quar % 4294967296) (1 * 2 ^ cell.index % 2 ^ 64)
+  stored = bit_or (quar % 4294967296) (1 * 2 ^ cell.index % 2 ^ 64) + 4294967296 * (quar / 4294967296)
 
   abbrev f : ℕ
   f = slice_index (now_of p).words.freed cell.page
@@ -235,8 +235,15 @@ module _ {w : WordsState} {p : PassState} {cell : Cell} {quar : ℕ} (free : May
   low_there : {v : World} → IsAsLeft p.seat (world_of p) v → IsOutOfStop v.now
   low_there {v} kept = out_of_stop (now_of p) v.now (ap (λ (x : Steady). x.phase) kept.steady) may.phase
 
-  pub quarantine_fits : stored < 2 ^ 64
-  quarantine_fits = let high = small.1 in omega (arith, made, half)
+  pub quarantine_half : bit_or (quar % 4294967296) (1 * 2 ^ cell.index % 2 ^ 64) < 4294967296
+  quarantine_half =
+      let low : f < 2 ^ 32 = small.0 in
+      let found = free.found in
+      let same : quar % 4294967296 ≡ f = omega (arith, found, low) in
+      let more : bit_or f (1 * 2 ^ cell.index % 2 ^ 64) ≡ f + 2 ^ cell.index =
+      one_bit_more f cell.index (omega arith) may.live in
+      subst (λ (n : ℕ). n < 4294967296)
+      (sym (ap (λ (n : ℕ). bit_or n (1 * 2 ^ cell.index % 2 ^ 64)) same ∙ more)) half
 
   pub quarantine_may : (not (heads_run (header_in (now_of p).words cell.page)) || others_are_held p.table.config.callers
       (now_of p).words p.seat) ≡ true → IsEnabledTo p (Step.Quar cell.page stored)

@@ -1,10 +1,10 @@
 use Rattle.mk_words.proofs.Below.Laws.Vocabulary.{Step, ℕ, ap, gives_back, has_bit, header_of, quarantine_word, refl}
-use Rattle.mk_words.proofs.Below.Laws.Vocabulary.{subst, sym, true, words_under, ◌-◌, ◌/◌, ◌^◌, ◌∙◌, ◌≡◌}
-use Rattle.mk_cycle.proofs.Vocabulary.{Acts, AreFreeCells, GivesNothingBack, IsTurnAt, bit_and, now_of}
+use Rattle.mk_words.proofs.Below.Laws.Vocabulary.{subst, sym, true, without, words_under, ◌%◌, ◌-◌, ◌/◌, ◌^◌, ◌∙◌, ◌≡◌}
+use Rattle.mk_cycle.proofs.Vocabulary.{Acts, AreFreeCells, GivesNothingBack, IsTurnAt, bit_and, drops, now_of}
 use Rattle.mk_cycle.proofs.GiveBack.{GivesCells, drops_here, gives_all, gives_here, gone_too, turn_d}
 use Rattle.mk_cycle.proofs.GivingSteps.{look_frees, none_then, quar_allowed, used_allowed}
 use Rattle.mk_cycle.proofs.SettledPages.{some_free, still_free}
-use Rattle.mk_cycle.proofs.freeing.give_back.Goals.{After-look_among-used, After-used, After-wipe_released}
+use Rattle.mk_cycle.proofs.freeing.give_back.Goals.{After-look_among-used, After-used, After-wipe_released, After-word}
 use Rattle.mk_cycle.proofs.{FreeingSteps.freed_turn, MayAct.calm_admitted, PageSteps.same_used}
 use Rattle.mk_cycle.proofs.freeing.give_back.Goals as goal
 
@@ -68,6 +68,10 @@ used-requires-clause-enabled c =
     (c.look_among-used.ensures.reads ∙ same_used p c.look_among-used.new.turn.pass _ (first.same _)) c.requires.gone
     (ap (λ (n : ℕ). words_under (header_of n)) c.requires.may.is_header) c.wipe_released.ensures.zeros)
 
+dropped : (c : After-word) → c.word.result ≡ quarantine_word (without (c.args.quarantine % 2 ^ 32) c.args.gone)
+    (c.args.quarantine / 2 ^ 32 - c.args.gone)
+dropped c = cc (c.word.ensures, c.without-2.ensures, c.of-freed.ensures.freed, c.of-freed.ensures.snapshot)
+
 pub quar-requires-clause-one_table : goal.quar-requires-clause-one_table
 quar-requires-clause-one_table c = (turn_d (given (goal.at.quar-requires-clause-one_table c).After-used)).one_table
 
@@ -75,7 +79,8 @@ pub quar-requires-clause-enabled : goal.quar-requires-clause-enabled
 quar-requires-clause-enabled c =
     let x = given (goal.at.quar-requires-clause-enabled c).After-used in
     quar_allowed c.used.new.self.in_order (turn_d x) _ _ c.requires.may.within
-    (cc (c.without-freed.ensures, drops_here x))
+    (subst (λ (n : ℕ). drops (now_of c.used.new.self.pass).words c.args.page (n % 2 ^ 32) (n / 2 ^ 32) ≡ true)
+    (sym (dropped (goal.at.quar-requires-clause-enabled c).After-word)) (drops_here x))
 
 pub quar-requires-clause-admitted : goal.quar-requires-clause-admitted
 quar-requires-clause-admitted c =
@@ -85,5 +90,4 @@ quar-requires-clause-admitted c =
 pub returns : goal.returns
 returns c =
     gives_all (given (goal.at.returns c).After-used) (subst (λ (n : ℕ). Acts c.used.new.self.pass
-    (Step.Quar c.args.page (quarantine_word n (c.args.quarantine / 2 ^ 32 - c.args.gone))) c.quar.new.self.pass)
-    c.without-freed.ensures c.quar.ensures)
+    (Step.Quar c.args.page n) c.quar.new.self.pass) (dropped (goal.at.returns c).After-word) c.quar.ensures)

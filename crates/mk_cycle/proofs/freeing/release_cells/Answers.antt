@@ -1,5 +1,5 @@
 -- A page's quarantine and mark words are looked at once each, and say what is released on it.
-use Rattle.mk_words.proofs.Below.Laws.Vocabulary.{ap, header_at, sym, ◌/◌, ◌^◌, ◌∙◌, ◌≡◌}
+use Rattle.mk_words.proofs.Below.Laws.Vocabulary.{ap, header_at, sym, without, ℕ, ◌∙◌, ◌≡◌}
 use Rattle.mk_cycle.proofs.Vocabulary.{GivesNothingBack, PassState, Released, left_unmarked, now_of, released_on}
 use Rattle.mk_cycle.proofs.CountedPages.{counted_on, held_by_header, snapshot_told, told_none}
 use Rattle.mk_cycle.proofs.SettledPages.{free_cells_stay, gives_none, gives_then, marked_gone, none_left_on}
@@ -12,13 +12,14 @@ returns-then-snapshot-eq0-clause-told c =
     let x = c.look-quarantine.ensures in
     told_none (now_of c.args.turn.now.pass).words _
     (sym (snapshot_told _ c.look-quarantine.result c.look-quarantine.new.turn.in_order x.frees x.reads)
-    ∙ c.if-snapshot-eq0.true)
+    ∙ sym c.of-snapshot.ensures.snapshot ∙ c.if-snapshot-eq0.true)
 
 pub returns-then-snapshot-eq0-clause-gives : goal.returns-then-snapshot-eq0-clause-gives
 returns-then-snapshot-eq0-clause-gives c =
     let x = c.look-quarantine.ensures in
     gives_none _ x.frees
-    (none_left_on _ c.look-quarantine.result c.look-quarantine.new.turn.in_order x.reads c.if-snapshot-eq0.true)
+    (none_left_on _ c.look-quarantine.result c.look-quarantine.new.turn.in_order x.reads
+    (sym c.of-snapshot.ensures.snapshot ∙ c.if-snapshot-eq0.true))
 
 -- with both words
 both : (c : After-without-gone) → GivesNothingBack c.args.turn.now.pass c.look-marks.new.turn.pass
@@ -34,8 +35,9 @@ gone : (c : After-without-gone)
 gone c =
     let x = c.look-quarantine.ensures in
     let y = c.look-marks.ensures in
-    c.without-gone.ensures ∙ marked_gone _ c.look-quarantine.result c.look-marks.result
-    c.look-quarantine.new.turn.in_order y.frees x.reads y.reads
+    c.without-gone.ensures ∙ ap (λ (n : ℕ). without n c.look-marks.result) c.of-snapshot.ensures.snapshot
+    ∙ marked_gone _ c.look-quarantine.result c.look-marks.result c.look-quarantine.new.turn.in_order y.frees x.reads
+    y.reads
 
 counted : (c : After-without-gone)
     → c.released_cells-released.result ≡ released_on (now_of c.args.turn.now.pass).words c.args.page
@@ -44,9 +46,10 @@ counted c =
     let x = c.look-quarantine.ensures in
     let y = c.look-marks.ensures in
     let r = c.released_cells-released.ensures in
-    counted_on c.args.page (c.look-quarantine.result / 2 ^ 32) c.look-marks.result c.args.header.now
+    counted_on c.args.page c.of-snapshot.result.snapshot c.look-marks.result c.args.header.now
     c.released_cells-released.result (both c) (none_at_once b)
-    (snapshot_told c.args.page c.look-quarantine.result c.look-quarantine.new.turn.in_order x.frees x.reads) y.reads
+    (c.of-snapshot.ensures.snapshot
+    ∙ snapshot_told c.args.page c.look-quarantine.result c.look-quarantine.new.turn.in_order x.frees x.reads) y.reads
     (header c) r.count r.words r.kept
 
 told : (c : After-without-gone) → WasReleasedOn (now_of c.args.turn.now.pass).words c.args.page

@@ -1,4 +1,4 @@
-use Rattle.mk_words.proofs.Below.Laws.Vocabulary.{Word, eq-eqb, ne_eqb, slice_index, sym, ◌∙◌, ◌≡◌}
+use Rattle.mk_words.proofs.Below.Laws.Vocabulary.{Word, slice_index, sym, ◌∙◌, ◌≡◌}
 use Rattle.mk_words.proofs.PointedCells.{found_there}
 use Rattle.mk_cycle.proofs.HeldGates.{found_held, gate_look_allowed, gate_within, held_now, may_hold_still, such_then}
 use Rattle.mk_cycle.proofs.gates.hold_gate.Goals.{After-look}
@@ -19,19 +19,19 @@ found g c =
     sym (found_there c.args.turn.now.pass c.look.new.self.pass (Word.Gate c.args.caller) c.look.result
     c.look.ensures.finds)
 
-pub returns-then-look-eq-HELD-clause-steps : goal.returns-then-look-eq-HELD-clause-steps
-returns-then-look-eq-HELD-clause-steps g c = looked g (goal.at.returns-then-look-eq-HELD-clause-steps g c).After-look
+pub returns-then-is_in-clause-steps : goal.returns-then-is_in-clause-steps
+returns-then-is_in-clause-steps g c = looked g (goal.at.returns-then-is_in-clause-steps g c).After-look
 
-pub returns-then-look-eq-HELD-clause-held : goal.returns-then-look-eq-HELD-clause-held
-returns-then-look-eq-HELD-clause-held g c =
-    let x = (goal.at.returns-then-look-eq-HELD-clause-held g c).After-look in
-    held_now c.look.new.self.pass c.args.caller (found g x) ∙ eq-eqb _ 2 c.if-look-eq-HELD.true
+pub returns-then-is_in-clause-held : goal.returns-then-is_in-clause-held
+returns-then-is_in-clause-held g c =
+    let x = (goal.at.returns-then-is_in-clause-held g c).After-look in
+    held_now c.look.new.self.pass c.args.caller (found g x) ∙ sym c.is_in.ensures ∙ c.if-is_in.true
 
-pub returns-then-look-eq-HELD-clause-was : goal.returns-then-look-eq-HELD-clause-was
-returns-then-look-eq-HELD-clause-was g c =
-    let x = (goal.at.returns-then-look-eq-HELD-clause-was g c).After-look in
+pub returns-then-is_in-clause-was : goal.returns-then-is_in-clause-was
+returns-then-is_in-clause-was g c =
+    let x = (goal.at.returns-then-is_in-clause-was g c).After-look in
     found_held (gate_within c.args.turn.now c.requires) c.look.ensures.acts (found g x)
-    ∙ eq-eqb _ 2 c.if-look-eq-HELD.true
+    ∙ sym c.is_in.ensures ∙ c.if-is_in.true
 
 pub wait_and_hold-requires-clause-may : goal.wait_and_hold-requires-clause-may
 wait_and_hold-requires-clause-may g c =
@@ -40,7 +40,7 @@ wait_and_hold-requires-clause-may g c =
 pub wait_and_hold-requires-clause-not_held : goal.wait_and_hold-requires-clause-not_held
 wait_and_hold-requires-clause-not_held g c =
     let x = (goal.at.wait_and_hold-requires-clause-not_held g c).After-look in
-    held_now c.look.new.self.pass c.args.caller (found g x) ∙ ne_eqb _ 2 c.if-look-eq-HELD.false
+    held_now c.look.new.self.pass c.args.caller (found g x) ∙ sym c.is_in.ensures ∙ c.if-is_in.false
 
 pub returns-clause-steps : goal.returns-clause-steps
 returns-clause-steps g c =
@@ -50,4 +50,4 @@ pub returns-clause-was : goal.returns-clause-was
 returns-clause-was g c =
     let x = (goal.at.returns-clause-was g c).After-look in
     found_held (gate_within c.args.turn.now c.requires) c.look.ensures.acts (found g x)
-    ∙ ne_eqb _ 2 c.if-look-eq-HELD.false
+    ∙ sym c.is_in.ensures ∙ c.if-is_in.false

@@ -23,4 +23,4 @@ returns-else-header-eq0-clause-some c =
     let d = c.look-header in
     a_cell c.lowest_bit.result c.requires.between a.ensures.moves a.ensures.shows b.ensures.moves d.ensures.moves
     d.ensures.shows c.if-header-eq0.false
-    (subst (λ (i : ℕ). has_bit i c.lowest_bit.result ≡ true) c.without-bits.ensures c.lowest_bit.ensures)
+    (subst (λ (i : ℕ). has_bit i c.lowest_bit.result ≡ true) c.without-bits.ensures c.lowest_bit.ensures.one)

@@ -12,7 +12,7 @@ pub list_cells-requires-clause-snapshot : goal.list_cells-requires-clause-snapsh
 list_cells-requires-clause-snapshot c =
     let same = c.look_at-marks.ensures.on.view ∙ c.look_at-quarantine.ensures.on.view
     ∙ c.look_at-header.ensures.on.view in
-    snapshot_read c.args.stop.now c.args.page c.look_at-quarantine.result
+    c.of.ensures.snapshot ∙ snapshot_read c.args.stop.now c.args.page c.look_at-quarantine.result
     (c.look_at-quarantine.ensures.found
     ∙ ap (λ (v : View). slice_index v.words.freed c.args.page + 2 ^ 32 * slice_index v.words.snapshot c.args.page)
     c.look_at-header.ensures.on.view) ∙ sym (ap (λ (v : View). slice_index v.words.snapshot c.args.page) same)
