@@ -56,3 +56,7 @@ pub mod KeptAllocations
 pub mod LittleHeld
 pub mod OpenFrees
 pub mod Quarters
+pub mod Deeds
+pub mod DeedParts
+pub mod DeedBounds
+pub mod DeedFulls

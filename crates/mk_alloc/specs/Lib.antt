@@ -21,3 +21,5 @@ pub mod Retired
 pub mod Bounds
 pub mod GivenBack
 pub mod KeptAllocations
+pub mod Deeds
+pub mod DeedLaws

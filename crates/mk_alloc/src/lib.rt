@@ -4,6 +4,7 @@
 #![tactic(auto)]
 
 mod cycles;
+pub mod deed_laws;
 mod freeing;
 mod fulls;
 mod gates;

@@ -1,16 +1,17 @@
 -- Nobody waits in a ring.
-use Rattle.mk_laws.proofs.Vocabulary.{Bool, Caller, Config, Event, Holds, Host, IsHistory, List, Marker, Moment, None}
-use Rattle.mk_laws.proofs.Vocabulary.{Op, OfHistories, Option, Protocol, Seat, Some, Stage, Step, ℕ, and_parts, arith}
-use Rattle.mk_laws.proofs.Vocabulary.{at_rest, cases_lt, comes_next, false, flight_of, get_or_past, group_of, inl, inr}
-use Rattle.mk_laws.proofs.Vocabulary.{is_in, is_open_to, is_under_turn, left, ltb-true, marker_of, not, not-true, refl}
-use Rattle.mk_laws.proofs.Vocabulary.{slice_index, subst, sym, true, true≢false, eqb-false, ◌+◌, ◌&&◌, ◌∙◌, ◌<◌, ◌≡◌}
-use Rattle.mk_laws.proofs.{Vocabulary.{◌⊎◌, earlier_part_is_history, ◌++◌}, CallsGoOn.{InCallAt, in_call_at}}
-use Rattle.mk_laws.proofs.{CallsGoOn.seven_left, NextSteps.{at_enter, at_no_take, at_take, of_turn}}
-use Rattle.mk_laws.{proofs.{Protocols.lists_keep_the_protocol, Stages.is_turn_stage}, proofs.StepsAside.{rests_within}}
-use Rattle.mk_laws.proofs.{EarlierCalls.earlier_calls_are_admitted, StepsAside.{leaves_its_call, marker_quits}}
-use Rattle.mk_core.specs.Readings.{is_idle}
+use Rattle.mk_laws.proofs.Vocabulary.{Bool, Caller, Config, Event, Flight, Holds, Host, IsHistory, List, Marker, Moment}
+use Rattle.mk_laws.proofs.Vocabulary.{None, Op, OfHistories, Option, Protocol, Seat, Some, Stage, Step, ℕ, and_parts}
+use Rattle.mk_laws.proofs.Vocabulary.{arith, at_rest, cases_lt, comes_next, false, flight_of, get_or_past, group_of}
+use Rattle.mk_laws.proofs.Vocabulary.{inl, inr, ap, is_in, is_open_to, is_under_turn, left, ltb-true, marker_of, not}
+use Rattle.mk_laws.proofs.Vocabulary.{not-true, refl, slice_index, subst, sym, true, true≢false, eqb-false, ◌+◌, ◌&&◌}
+use Rattle.mk_laws.proofs.Vocabulary.{◌∙◌, ◌<◌, ◌≡◌, ◌⊎◌, earlier_part_is_history, ◌++◌}
+use Rattle.mk_laws.proofs.{CallsGoOn.{InCallAt, in_call_at, seven_left}, NextSteps.{at_enter, at_no_take, at_take}}
+use Rattle.mk_laws.proofs.{NextSteps.of_turn, Protocols.lists_keep_the_protocol, Stages.is_turn_stage}
+use Rattle.mk_laws.{proofs.StepsAside.{rests_within, leaves_its_call, marker_quits}, specs.Waiting.{needs_markers_out}}
+use Rattle.mk_laws.proofs.EarlierCalls.{earlier_calls_are_admitted}
+use Rattle.mk_core.specs.Readings.{is_idle, is_in_call}
 use Rattle.mk_laws.specs.Waiting.{CallsInFlightAreAdmitted, ComesTo, IsKeptBy, NobodyWaitsInARing}
-use Rattle.mk_laws.specs.Waiting.{NobodyEverWaitsInARing, StepsAside, WaitsFor, needs_markers_out}
+use Rattle.mk_laws.specs.Waiting.{NobodyEverWaitsInARing, RestingCallsAreAdmitted, StepsAside, WaitsFor}
 
 -- a caller that is in a call outside the turn, and a marker that is in
 data OutOfTurn (m : Moment) : Seat → Type 0 where
@@ -145,8 +146,14 @@ module _ {c : Config} {es : List Event} (h : IsHistory c es) where
     ];
   }
 
+pub resting_calls_are_admitted : RestingCallsAreAdmitted
+resting_calls_are_admitted c es rest k lt call still =
+    absurd (true≢false (sym call ∙ ap (λ (f : Flight). is_in_call f) (rest k lt).call))
+
 pub nobody_ever_waits_in_a_ring : OfHistories NobodyEverWaitsInARing
 nobody_ever_waits_in_a_ring c es h ad front more is =
     let parts : IsHistory c (front ++ more) = subst (IsHistory c) is h in
     nobody_waits (earlier_part_is_history c front more parts)
     (earlier_calls_are_admitted c front more parts (subst (CallsInFlightAreAdmitted c) is ad))
+
+pub ruleset nobody_waits_in_a_ring_facts = (nobody_ever_waits_in_a_ring, resting_calls_are_admitted)

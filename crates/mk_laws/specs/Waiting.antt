@@ -91,7 +91,12 @@ pub record NobodyWaitsInARing (c : Config) (es : List Event) : Type 0 where
       (s t u v : Seat) → WaitsFor c (left c es).now s t → WaitsFor c (left c es).now t u
       → WaitsFor c (left c es).now u v → ⊥
 
--- It is so at each moment of a history, if the calls in flight at its end are admitted: always, where all seats rest.
+-- They are where all callers rest.
+abbrev pub RestingCallsAreAdmitted : Type 0
+RestingCallsAreAdmitted = (c : Config) (es : List Event)
+    → ((k : ℕ) → k < c.callers → Rests (left c es).now (Caller k)) → CallsInFlightAreAdmitted c es
+
+-- So it is at each moment of a history, if the calls in flight at its end are admitted.
 abbrev pub NobodyEverWaitsInARing : Config → List Event → Type 0
 NobodyEverWaitsInARing c es = CallsInFlightAreAdmitted c es → (front more : List Event) → es ≡ front ++ more
     → NobodyWaitsInARing c front

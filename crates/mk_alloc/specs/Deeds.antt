@@ -1,0 +1,105 @@
+-- What happens to the storage of a heap, in deeds of seven kinds: what quarantine costs, and why a New is full.
+use Rattle.std.specs.Prelude.{◌≡◌, ℕ, ◌+◌, ◌*◌, ◌≤◌, Bool, true, false, ◌&&◌, not, ◌==◌, if◌then◌else◌, List, [], ◌∷◌}
+use Rattle.std.specs.{Prelude.{◌++◌, map, filter, sum_by}, List.list_any}
+use Rattle.mk_never.specs.{declared.operations.Op.TheVariants.New, NeverHeap.Call, Types.kinds_of}
+use Rattle.mk_core.specs.{declared.config.Config.Config, NewPlaces.object_of}
+use Rattle.mk_core.specs.Allocations.{FitsAmongAllocations, PlacedAllocation, fresh_words_of, held_by_allocations}
+use Rattle.mk_core.specs.Allocations.{is_mapped, storage_words}
+
+-- An allocation is named by the heap word at which it begins: among those that aren't released no other begins there.
+pub data Deed : Type 0 where
+  -- A call is decided. The flag of a New says whether it was full.
+  Asked : Call → Deed
+  -- An object of this type is granted,
+  Grants : (base ty : ℕ) → Deed
+  -- the allocation here is freed,
+  Frees : (base : ℕ) → Deed
+  -- and these are released: their storage may be used again.
+  Releases : (bases : List ℕ) → Deed
+  -- A cycle begins, and ends, and somebody's turn ends.
+  Begins Ends TurnEnds : Deed
+
+abbrev pub begins_at : ℕ → PlacedAllocation → Bool
+begins_at base a = not a.released && (a.base == base)
+
+abbrev pub begins_at_one : List ℕ → PlacedAllocation → Bool
+begins_at_one bases a = not a.released && list_any (λ base. a.base == base) bases
+
+-- the allocations after a deed, where they were these before it
+abbrev pub after_deed : Deed → List PlacedAllocation → List PlacedAllocation
+after_deed (Deed.Grants base ty) xs =
+    xs ++ record { base = base; ty = ty; freed = false; fresh = false; released = false } ∷ []
+after_deed (Deed.Frees base) xs =
+    map (λ (a : PlacedAllocation). if begins_at base a then record a { freed = true; fresh = true } else a) xs
+after_deed (Deed.Releases bases) xs =
+    map (λ (a : PlacedAllocation). if begins_at_one bases a then record a { released = true } else a) xs
+after_deed Deed.Begins xs = map (λ (a : PlacedAllocation). record a { fresh = false }) xs
+after_deed _ xs = xs
+
+unfoldable pub storage_from : List PlacedAllocation → List Deed → List PlacedAllocation
+storage_from xs [] = xs
+storage_from xs (d ∷ ds) = storage_from (after_deed d xs) ds
+
+-- The allocations that deeds leave.
+abbrev pub storage_after : List Deed → List PlacedAllocation
+storage_after ds = storage_from [] ds
+
+-- the storage words that releases gave back since the last cycle began: after a deed, where they were n before it
+abbrev pub back_after : Config → List PlacedAllocation → ℕ → Deed → ℕ
+back_after c xs n Deed.Begins = 0
+back_after c xs n (Deed.Releases bases) =
+    n + sum_by (storage_words c) (filter (λ a. is_mapped c a && begins_at_one bases a) xs)
+back_after c xs n _ = n
+
+unfoldable pub back_from : Config → List PlacedAllocation → ℕ → List Deed → ℕ
+back_from c xs n [] = n
+back_from c xs n (d ∷ ds) = back_from c (after_deed d xs) (back_after c xs n d) ds
+
+abbrev pub ends_turn : Deed → Bool
+ends_turn Deed.TurnEnds = true
+ends_turn _ = false
+
+abbrev pub begins_cycle : Deed → Bool
+begins_cycle Deed.Begins = true
+begins_cycle _ = false
+
+-- It holds of what was done before, whenever a turn ends.
+abbrev pub AtTurnEnds : (List Deed → Type 0) → List Deed → Type 0
+AtTurnEnds claim ds = (front more : List Deed) → ds ≡ front ++ Deed.TurnEnds ∷ more → claim front
+
+-- Four times what was freed since the last cycle began is at most what is held and was given back since,
+abbrev pub QuarterWithGivenBack : Config → List Deed → Type 0
+QuarterWithGivenBack c ds =
+    4 * fresh_words_of c (storage_after ds) ≤ held_by_allocations c (storage_after ds) + back_from c [] 0 ds
+
+abbrev pub QuarterAtTurnEnds : Config → List Deed → Type 0
+QuarterAtTurnEnds c ds = AtTurnEnds (QuarterWithGivenBack c) ds
+
+-- and at most what is held alone,
+abbrev pub QuarterOfHeld : Config → List Deed → Type 0
+QuarterOfHeld c ds = 4 * fresh_words_of c (storage_after ds) ≤ held_by_allocations c (storage_after ds)
+
+-- where no turn ended between the begin of the last cycle and what it released.
+abbrev pub ReleasesInTurnOfBegin : List Deed → Type 0
+ReleasesInTurnOfBegin ds =
+    (before since marking rest : List Deed) (bases : List ℕ) → ds ≡ before ++ Deed.Begins ∷ since
+    → list_any begins_cycle since ≡ false → since ≡ marking ++ Deed.Releases bases ∷ rest
+    → list_any ends_turn marking ≡ false
+
+-- In the turn that these deeds end in, a cycle began, released and ended.
+pub record HasWholeCycle (ds : List Deed) : Type 0 where
+  pub before : List Deed
+  pub marking : List Deed
+  pub bases : List ℕ
+  pub freeing : List Deed
+  pub behind : List Deed
+  pub is : ds ≡ before ++ Deed.Begins ∷ (marking ++ Deed.Releases bases ∷ (freeing ++ Deed.Ends ∷ behind))
+  pub in_one_turn : list_any ends_turn (marking ++ (freeing ++ behind)) ≡ false
+
+-- Each New that is full came after a whole cycle of its own turn, and its object fits nowhere.
+abbrev pub FullsHaveCauses : Config → List Deed → Type 0
+FullsHaveCauses c ds =
+    (front more : List Deed) (k d ty : ℕ)
+    → ds ≡ front ++ Deed.Asked (record { caller = k; op = New d ty true }) ∷ more → HasWholeCycle front
+    × (FitsAmongAllocations c (object_of (kinds_of c.types ty)).words (object_of (kinds_of c.types ty)).leaf
+    (storage_after front) → ⊥)
