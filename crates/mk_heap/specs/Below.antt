@@ -5,3 +5,5 @@ pub use Rattle.mk_alloc.specs.Below.Callers as Callers
 pub use Rattle.mk_marker.specs as Markers
 pub use Rattle.mk_alloc.specs.Below.Cycles as Cycles
 pub use Rattle.mk_alloc.specs as Objects
+pub use Rattle.mk_core.specs as Core
+pub use Rattle.mk_never.specs as Never

@@ -14,11 +14,17 @@ mod marking;
 mod paces;
 mod reports;
 
+// What a program needs of the crates below, so that it imports this one alone
 pub use dispatching::{answer_to, answer_when_open};
 pub use gathering::with_first;
 pub use heaps::Heap;
 pub use hosts::Host;
 pub use last_turns::take_last_turns;
 pub use marking::beside_markers;
+pub use mk_alloc::lower::callers::{Caller, Refusal};
+pub use mk_alloc::lower::cycles::{Engine, MostlyEngine, StopEngine};
+pub use mk_alloc::{Double, Freed, Full, free_object, new_object};
+pub use mk_core::{Answer, Config, GlobalTable};
+pub use mk_never::{Kind, NoMemory, Op, TypeTable};
 pub use paces::{NoPace, Pace};
 pub use reports::Report;
