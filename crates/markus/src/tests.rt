@@ -200,13 +200,17 @@ fn run_at<P: Pace + Sync, R: Threads + Wait + Sync>(
     Ok((status, sink.bytes().to_vec(alloc)?))
 }
 
+/// The words, the text and what is written, of a row of `RUNS`.
+fn run_said(row: &str) -> Option<(&str, &str, &str)> {
+    let (_name, rest) = row.split_once(" | ")?;
+    let (asked, rest) = rest.split_once(" | ")?;
+    let (text, ending) = rest.split_once(" -> ")?;
+    Some((asked, text, ending))
+}
+
 /// Whether a row of `RUNS` goes as it says.
 fn goes<R: Threads + Wait + Sync>(rt: &R, alloc: Global, row: &str) -> Result<bool, Fail> {
-    let columns: Vec<&str> = row.split(" | ").collect(alloc)?;
-    let [_name, asked, rest] = columns.as_slice() else {
-        return Ok(false);
-    };
-    let Some((text, ending)) = rest.split_once(" -> ") else {
+    let Some((asked, text, ending)) = run_said(row) else {
         return Ok(false);
     };
     let words: Vec<&str> = asked.split(' ').collect(alloc)?;

@@ -250,27 +250,63 @@ number registers | heap 1 1/script s/ | num |  | 8 |  | line 11: limit numbers 9
 blocks in each other | heap 1 1/script s/ | if |  | 32 | ENDS | line 35: limit depth 33
 ";
 
-/// Whether a limit is kept.
-fn is_kept<R: Threads + Wait + Sync>(rt: &R, alloc: Global, row: &str) -> Result<bool, Fail> {
-    let parts: Vec<&str> = row.split(" | ").collect(alloc)?;
-    let [_name, front, word, end, greatest, back, line] = parts.as_slice() else {
-        return Ok(false);
-    };
-    let Some(greatest) = mk_script::parse_number(greatest.as_bytes()) else {
-        return Ok(false);
-    };
-    let greatest = (greatest as usize).min(64);
-    let front = behind(alloc, "", front)?;
-    let ends = "end\n".repeat(alloc, 32)?;
-    let mut text = declaring(alloc, front.as_str(), word, greatest, end)?;
-    if *back == "ENDS" {
-        text.push_str(ends.as_str())?;
-    } else {
-        text.push_str(behind(alloc, "", back)?.as_str())?;
+/// What a row of `LIMITS` says, after its name.
+#[derive(Clone, Copy)]
+struct Limit<'a> {
+    front: &'a str,
+    word: &'a str,
+    end: &'a str,
+    greatest: usize,
+    back: &'a str,
+    line: &'a str,
+}
+
+fn limit_said(row: &str) -> Option<Limit> {
+    let (_name, rest) = row.split_once(" | ")?;
+    let (front, rest) = rest.split_once(" | ")?;
+    let (word, rest) = rest.split_once(" | ")?;
+    let (end, rest) = rest.split_once(" | ")?;
+    let (greatest, rest) = rest.split_once(" | ")?;
+    let (back, line) = rest.split_once(" | ")?;
+    let greatest = mk_script::parse_number(greatest.as_bytes())?;
+    Some(Limit {
+        front,
+        word,
+        end,
+        greatest: (greatest as usize).min(64),
+        back,
+        line,
+    })
+}
+
+/// What stands after the lines that declare names: 32 lines `end`, or other lines.
+fn lines_after(alloc: Global, back: &str) -> Result<String, AllocError> {
+    if back == "ENDS" {
+        return "end\n".repeat(alloc, 32);
     }
-    let more = declaring(alloc, front.as_str(), word, greatest + 1, end)?;
-    let fine = is_told(rt, alloc, "print", text.as_str(), "fine")?;
-    Ok(fine && is_told(rt, alloc, "print", more.as_str(), line)?)
+    behind(alloc, "", back)
+}
+
+/// Whether a limit is kept: so many lines are fine, and one more isn't.
+fn is_kept<R: Threads + Wait + Sync>(rt: &R, alloc: Global, row: &str) -> Result<bool, Fail> {
+    let Some(limit) = limit_said(row) else {
+        return Ok(false);
+    };
+    let front = behind(alloc, "", limit.front)?;
+    let back = lines_after(alloc, limit.back)?;
+    let mut text = declaring(alloc, front.as_str(), limit.word, limit.greatest, limit.end)?;
+    text.push_str(back.as_str())?;
+    if !is_told(rt, alloc, "print", text.as_str(), "fine")? {
+        return Ok(false);
+    }
+    let more = declaring(
+        alloc,
+        front.as_str(),
+        limit.word,
+        limit.greatest + 1,
+        limit.end,
+    )?;
+    Ok(is_told(rt, alloc, "print", more.as_str(), limit.line)?)
 }
 
 #[test]
@@ -278,25 +314,37 @@ fn limits_are_kept(rt: HostRuntime) -> Result<(), Fail> {
     for row in LIMITS.lines() {
         assert!(rt; is_kept(&rt, rt.alloc(), row)?, "{row}");
     }
+    Ok(())
+}
 
-    // A name is found before a limit.
+#[test]
+fn a_name_is_found_before_a_limit(rt: HostRuntime) -> Result<(), Fail> {
     let mut text = declaring(rt.alloc(), "heap 1 1\n", "type", 64, " n")?;
     text.push_str("type x5 n")?;
     assert!(rt; is_told(&rt, rt.alloc(), "print", text.as_str(), "line 66: twice")?);
+    Ok(())
+}
 
+/// Whether this line is said of a text of so many spaces.
+fn is_told_of_spaces<R: Threads + Wait + Sync>(
+    rt: &R,
+    alloc: Global,
+    command: &str,
+    spaces: usize,
+    line: &str,
+) -> Result<bool, AllocError> {
+    let text = " ".repeat(alloc, spaces)?;
+    is_told(rt, alloc, command, text.as_str(), line)
+}
+
+#[test]
+fn bytes_are_limited(rt: HostRuntime) -> Result<(), Fail> {
     for command in ["print", "replay"] {
-        let text = " ".repeat(rt.alloc(), 1_048_576)?;
-        assert!(rt; is_told(&rt, rt.alloc(), command, text.as_str(), "line 1: header")?);
-        let text = " ".repeat(rt.alloc(), 1_048_577)?;
-        assert!(rt;
-            is_told(
-                &rt,
-                rt.alloc(),
-                command,
-                text.as_str(),
-                "line 0: limit bytes 1048577"
-            )?
-        );
+        let fits = is_told_of_spaces(&rt, rt.alloc(), command, 1_048_576, "line 1: header")?;
+        assert!(rt; fits, "{command}");
+        let line = "line 0: limit bytes 1048577";
+        let is_long = is_told_of_spaces(&rt, rt.alloc(), command, 1_048_577, line)?;
+        assert!(rt; is_long, "{command}");
     }
     Ok(())
 }

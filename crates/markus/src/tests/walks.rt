@@ -32,20 +32,19 @@ struct Refusals<'a> {
 }
 
 /// What a line of refused events says; none for another line, and for one that doesn't say what it shows.
-fn refusals_in<'a>(alloc: Global, line: &'a str) -> Result<Option<Refusals<'a>>, AllocError> {
-    let Some((asked, shown)) = line.split_once(" -- ") else {
-        return Ok(None);
-    };
-    let words: Vec<&str> = asked.splitn(3, ' ').collect(alloc)?;
-    match words.as_slice() {
-        [condition, seat, events] if "1234567".contains(*condition) => Ok(Some(Refusals {
-            condition: *condition,
-            seat: *seat,
-            events: *events,
-            shown,
-        })),
-        _ => Ok(None),
+fn refusals_in(line: &str) -> Option<Refusals> {
+    let (asked, shown) = line.split_once(" -- ")?;
+    let (condition, rest) = asked.split_once(' ')?;
+    let (seat, events) = rest.split_once(' ')?;
+    if !"1234567".contains(condition) {
+        return None;
     }
+    Some(Refusals {
+        condition,
+        seat,
+        events,
+        shown,
+    })
 }
 
 /// The line that is said of a schedule, and what is written.
@@ -93,7 +92,7 @@ fn astray<R: Threads + Wait + Sync>(
 ) -> Result<Option<String>, Fail> {
     let mut made = format!(in alloc; "{}schedule\n", walk.scripts)?;
     for line in walk.lines.lines() {
-        if let Some(refusals) = refusals_in(alloc, line)? {
+        if let Some(refusals) = refusals_in(line) {
             let found = not_refused(rt, alloc, made.as_str(), &refusals)?;
             if found.is_some() {
                 return Ok(found);
