@@ -308,7 +308,6 @@ run --why
 run --sweep --why
 run --markers 1
 run --markers 1 --why
-run --report
 ";
 
 /// A program runs once, whichever way: there is one `before` and one `answered` for each of the six instructions. Where
