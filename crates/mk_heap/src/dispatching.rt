@@ -116,7 +116,7 @@ pub fn answer_when_open<R: Wait>(rt: &R, caller: &mut Caller, op: Op) -> Answer
 /// Carries out an operation that takes no turn, and returns its answer; none where its gate is held. A New and a Free
 /// are put off. Nothing of it waits, so that the answer is at hand where the call is made.
 #[inline(always)]
-fn answer_at_once(caller: &mut Caller, op: Op) -> Option<Answer>
+pub fn answer_at_once(caller: &mut Caller, op: Op) -> Option<Answer>
     requires home { caller.old.home ≡ true }
     requires admitted { StaysAdmitted caller.old.pass op }
     ensures home { caller.new.home ≡ true }
@@ -136,7 +136,7 @@ fn answer_at_once(caller: &mut Caller, op: Op) -> Option<Answer>
 /// Carries out an operation that is put off: a New or a Free in a turn, and another once its gate is open. Its kind is
 /// told before all else, so that it is known where the call was made.
 #[inline(always)]
-fn answer_put_off<E: Engine, R: Threads + Wait + Sync>(
+pub fn answer_put_off<E: Engine, R: Threads + Wait + Sync>(
     rt: &R,
     caller: &mut Caller,
     engine: &mut E,

@@ -15,7 +15,7 @@ mod paces;
 mod reports;
 
 // What a program needs of the crates below, so that it imports this one alone
-pub use dispatching::{answer_to, answer_when_open};
+pub use dispatching::{answer_at_once, answer_put_off, answer_to, answer_when_open};
 pub use gathering::with_first;
 pub use heaps::Heap;
 pub use hosts::Host;

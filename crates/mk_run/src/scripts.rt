@@ -13,7 +13,7 @@ use mk_check::{Checked, Feed, Text, is_refusal};
 use mk_core::Answer;
 use mk_heap::lower::callers::Caller;
 use mk_heap::lower::cycles::Engine;
-use mk_heap::{Pace, answer_to};
+use mk_heap::{Pace, answer_at_once, answer_put_off};
 use mk_never::NoMemory;
 use std::alloc::Global;
 use std::sync::Wait;
@@ -113,7 +113,10 @@ pub fn run_script<E: Engine, P: Pace, R: Threads + Wait + Sync>(
     'instructions: while let Some(op) = feed.op() {
         let instruction = counts.ops;
         pace.before(k, instruction);
-        let answer = answer_to(rt, caller, &mut engine, op);
+        let answer = match answer_at_once(caller, op) {
+            Some(answer) => answer,
+            None => answer_put_off(rt, caller, &mut engine, op),
+        };
         pace.answered(k, instruction);
         take_answer(alloc, &mut feed, &mut counts, answer)?;
     }
