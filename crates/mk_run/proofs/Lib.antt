@@ -9,3 +9,4 @@ pub mod Headline
 pub mod ObservedRuns
 pub mod KeptScripts
 pub mod Vocabulary
+pub mod AtOnceOrLater

@@ -113,6 +113,7 @@ pub fn run_script<E: Engine, P: Pace, R: Threads + Wait + Sync>(
     'instructions: while let Some(op) = feed.op() {
         let instruction = counts.ops;
         pace.before(k, instruction);
+        // Matched here and not by `answer_to`, so that each kind of answer goes on to the script by a way of its own.
         let answer = match answer_at_once(caller, op) {
             Some(answer) => answer,
             None => answer_put_off(rt, caller, &mut engine, op),

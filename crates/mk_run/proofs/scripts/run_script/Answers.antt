@@ -2,8 +2,11 @@ use Rattle.mk_laws.proofs.Vocabulary.{ap, arith, subst, sym, [], ◌∙◌, ◌�
 use Rattle.mk_run.proofs.Vocabulary.{IsChecked, PassState, StaysAdmitted, answers_in, keeps_then, rules}
 use Rattle.mk_run.proofs.ScriptCalls.{asked_stays_admitted, exists_on, follows_now, has_room, refused_within}
 use Rattle.mk_run.proofs.ScriptCalls.{runs_on, seat_is}
-use Rattle.mk_run.{proofs.scripts.run_script.Goals.In-Some, specs.Scripts.script_of}
-use Rattle.mk_heap.proofs.{Below.Cycles.Begun.nothing_begun, Below.Words.Sweeping.nothing_sweeps, Dispatched.then_seen}
+use Rattle.mk_run.proofs.AtOnceOrLater.{IsAnsweredAs, answered_at_once, answered_later}
+use Rattle.mk_run.proofs.scripts.run_script.Goals.{In-None, In-Some, Joined-answer_at_once, in-None}
+use Rattle.mk_run.{proofs.scripts.run_script.Goals.in-Some-answer_at_once, specs.Scripts.script_of}
+use Rattle.mk_heap.proofs.{Below.Cycles.Begun.nothing_begun, Below.Words.Sweeping.nothing_sweeps}
+use Rattle.mk_heap.proofs.Dispatched.{put_off_waits, stays_admitted_after, then_seen}
 use Rattle.mk_run.proofs.scripts.run_script.Goals as goal
 
 -- the script's next operation is admitted
@@ -20,16 +23,48 @@ next_admitted g c =
     (seat_is p k run.is (c.instructions.caller.in_order c.instructions.invariant.home) c.requires.number) c.in-Some.op
     (sym (c.in-Some.ensures.next program k _ run.fed.feed)) checked c.requires.script c.requires.config
 
-pub answer_to-answer-requires-clause-admitted : goal.answer_to-answer-requires-clause-admitted
-answer_to-answer-requires-clause-admitted g c κs within =
-    next_admitted g (goal.at.answer_to-answer-requires-clause-admitted g c).In-Some
+pub answer_at_once-requires-clause-admitted : goal.answer_at_once-requires-clause-admitted
+answer_at_once-requires-clause-admitted g c =
+    next_admitted g (goal.at.answer_at_once-requires-clause-admitted g c).In-Some
 
-pub answer_to-answer-requires-clause-may : goal.answer_to-answer-requires-clause-may
-answer_to-answer-requires-clause-may g c κs within =
-    let is = c.instructions.invariant.running.is in
+-- the operation is answered, at once or later
+joined : (g : _) (c : Joined-answer_at_once g) → IsAnsweredAs g.E.Engine.on g.E.Engine.sweeps g.E.Engine.begins
+    c.instructions.caller.pass c.in-Some.op c.match-answer_at_once.answer c.match-answer_at_once.caller
+joined g c =
+    let q = c.answer_at_once.new.caller in
+    let now = c.answer_at_once.ensures in
+    elim c.match-answer_at_once.branch [
+      | in-Some-answer_at_once w ↦
+          rw (w.caller-is, w.answer-is)
+          (answered_at_once q now.home w.in-Some-answer_at_once.ensures.answers now.beside)
+      | in-None w ↦
+          let later = w.answer_put_off-answer in
+          rw (w.caller-is, w.answer-is) (answered_later q later.new.caller w.in-None.ensures.put_off
+          later.ensures.home later.ensures.answers later.ensures.keeps)
+    ]
+
+-- what the pass is where an operation was put off
+put_off : (g : _) (c : In-None g)
+    → c.answer_at_once.new.caller.pass ≡ record c.args.caller.now.pass { seen = c.answer_at_once.new.caller.pass.seen }
+put_off g c =
+    let p = c.args.caller.now.pass in
+    let q = c.instructions.caller.pass in
+    then_seen p q c.answer_at_once.new.caller.pass c.instructions.invariant.running.is
+    (put_off_waits c.in-None.ensures.put_off).is
+
+pub answer_put_off-answer-requires-clause-admitted : goal.answer_put_off-answer-requires-clause-admitted
+answer_put_off-answer-requires-clause-admitted g c κs within =
+    stays_admitted_after c.in-Some.op
+    (next_admitted g (goal.at.answer_put_off-answer-requires-clause-admitted g c).In-Some)
+    (put_off_waits c.in-None.ensures.put_off)
+
+pub answer_put_off-answer-requires-clause-may : goal.answer_put_off-answer-requires-clause-may
+answer_put_off-answer-requires-clause-may g c κs within =
+    let x = goal.at.answer_put_off-answer-requires-clause-may g c in
+    let is = put_off g x.In-None in
     record {
-      home = c.instructions.invariant.home;
-      exists = exists_on c.args.caller.now.pass c.instructions.caller.pass c.args.k c.args.program.now
+      home = c.answer_at_once.ensures.home;
+      exists = exists_on c.args.caller.now.pass c.answer_at_once.new.caller.pass c.args.k c.args.program.now
           is c.requires.number c.requires.script c.requires.config;
       alone = subst (λ (q : PassState). q.seats ≡ q.seat ∷ []) (sym is) c.requires.alone;
       made_for = c.instructions.invariant.made_for ∙ c.requires.ready.engine
@@ -50,17 +85,21 @@ instructions-preserved g c =
     let program = c.args.program.now in
     let k = c.args.k in
     let run = c.instructions.invariant.running in
+    let j = joined g (goal.at.instructions-preserved g c).Joined-answer_at_once in
     let after = script_of c.take_answer.new.feed c.take_answer.new.counts in
     let on = runs_on run
     (seat_is p k run.is (c.instructions.caller.in_order c.instructions.invariant.home) c.requires.number) c.in-Some.op
-    (sym (c.in-Some.ensures.next program k (answers_in p.table.config k q.seen) run.fed.feed)) after
-    c.answer_to-answer.ensures.answers c.in_ok-take_answer.ensures.takes in
+    (sym (c.in-Some.ensures.next program k (answers_in p.table.config k q.seen) run.fed.feed)) after j.answers
+    c.in_ok-take_answer.ensures.takes in
     record {
-      home = c.answer_to-answer.ensures.home;
+      home = j.home;
       running = on;
-      made_for = c.answer_to-answer.ensures.made_for ∙ c.instructions.invariant.made_for;
+      made_for = elim c.match-answer_at_once.branch [
+        | in-Some-answer_at_once w ↦ rw w.engine-is c.instructions.invariant.made_for
+        | in-None w ↦ cc (w.engine-is, w.answer_put_off-answer.ensures.made_for, c.instructions.invariant.made_for)
+      ];
       refused = refused_within on.fed;
-      keeps = keeps_then run.is c.instructions.invariant.keeps c.answer_to-answer.ensures.keeps;
+      keeps = keeps_then run.is c.instructions.invariant.keeps j.keeps;
     }
 
 pub returns-in_err-take_answer : goal.returns-in_err-take_answer
@@ -70,17 +109,18 @@ returns-in_err-take_answer g c =
     let program = c.args.program.now in
     let k = c.args.k in
     let run = c.instructions.invariant.running in
-    let answers = c.answer_to-answer.ensures.answers in
+    let j = joined g (goal.at.returns-in_err-take_answer g c).Joined-answer_at_once in
+    let r = c.match-answer_at_once.caller.pass in
     record {
-      home = c.answer_to-answer.ensures.home;
-      pass = then_seen p q c.answer_to-answer.new.caller.pass run.is answers.is;
+      home = j.home;
+      pass = then_seen p q r run.is j.answers.is;
       follows =
           follows_now run
           (seat_is p k run.is (c.instructions.caller.in_order c.instructions.invariant.home) c.requires.number)
-          c.in-Some.op (sym (c.in-Some.ensures.next program k _ run.fed.feed)) answers;
+          c.in-Some.op (sym (c.in-Some.ensures.next program k _ run.fed.feed)) j.answers;
       ends = search rules;
       text = search rules;
-      keeps = keeps_then run.is c.instructions.invariant.keeps c.answer_to-answer.ensures.keeps;
+      keeps = keeps_then run.is c.instructions.invariant.keeps j.keeps;
     }
 
 pub instructions-init : goal.instructions-init
