@@ -137,4 +137,5 @@ module _ {sweeps : Bool} {begins : Config → Seat → List Event → List Event
   turn_keeps_yet {o} {p = p} {taken} {done} g inside =
       kinds_then {kinds = is_take} (λ x h. grind arith) (taking_does p (Some o) taken g.took.own g.took.takes)
       (then_leaves (only_seen taken done g.on.does.more g.on.does.is) inside
-      (kinds_keep {kinds = is_give} (λ x h. grind arith) (does_once g.gives refl)) (step_holds (own_before g.gives) g.gives refl))
+      (kinds_keep {kinds = is_give} (λ x h. grind arith) (does_once g.gives refl))
+      (step_holds (own_before g.gives) g.gives refl))

@@ -30,8 +30,7 @@ fn finish_older<E: Engine, R: Threads + Wait + Sync>(
     }
 }
 
-/// Begins a cycle, after one that is on, and finishes it unless the engine keeps on. It isn't inlined, so what it moves
-/// costs nothing where no cycle is due.
+/// Begins a cycle, after one that is on, and finishes it unless the engine keeps on.
 #[inline(never)]
 fn run_cycle<E: Engine, R: Threads + Wait + Sync>(
     rt: &R,
@@ -54,8 +53,7 @@ fn run_cycle<E: Engine, R: Threads + Wait + Sync>(
     }
 }
 
-/// Runs a cycle that is due. What it hands over and gets back has its room here: a free that isn't due pays nothing
-/// for it.
+/// Runs a cycle that is due. Few frees are.
 #[inline(always)]
 fn run_apart<E: Engine, R: Threads + Wait + Sync>(
     rt: &R,

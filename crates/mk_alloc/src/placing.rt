@@ -89,8 +89,7 @@ fn serve_now(words: &Words, turn: &mut Turn, grant: Grant)
     serve(words, turn, grant, marking, held);
 }
 
-/// Grants the object, which no block has a free cell for or which is large, at its place. Returns false where nothing
-/// fits. It isn't inlined: an object that goes into a block needs few registers without it.
+/// Grants an object for which no block has a free cell, or which is large, at its place. Returns false if nothing fits.
 #[inline(never)]
 fn place_apart(words: &Words, turn: &mut Turn, register: u8, shape: Shape) -> bool
     requires one_table { turn.old.pass.table ≡ words.now }
@@ -119,8 +118,7 @@ fn place_apart(words: &Words, turn: &mut Turn, register: u8, shape: Shape) -> bo
     }
 }
 
-/// Grants the object of a New at its place. Returns false where nothing fits. It is inlined, so that no registers are
-/// saved for it.
+/// Grants the object of a New at its place. Returns false if nothing fits.
 #[inline(always)]
 pub fn place_object(words: &Words, turn: &mut Turn, request: Request) -> bool
     requires one_table { turn.old.pass.table ≡ words.now }

@@ -76,8 +76,8 @@ fn free_stopped(words: &Words, turn: &mut Turn, cell: Cell, quar: u64, count: u6
     due(fresh, held)
 }
 
-/// Frees a large object, whose run has this many pages, once all other callers are in no call. Returns whether that is
-/// due. It isn't inlined: a small object needs few registers without it.
+/// Frees a large object, whose run has this many pages, once all other callers are in no call. Returns whether a cycle
+/// is due.
 #[inline(never)]
 fn free_run<R: Wait>(
     rt: &R,

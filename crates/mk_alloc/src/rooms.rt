@@ -96,8 +96,7 @@ fn place_behind_cycle<E: Engine, R: Threads + Wait + Sync>(
     finish_and_place(rt, words, turn, request, engine)
 }
 
-/// Makes room for the object, which fits nowhere, and grants it if it can be made to fit. It isn't inlined, so what it
-/// moves costs nothing where the object fits.
+/// Makes room for the object, which fits nowhere, and grants it if it can be made to fit.
 #[cold]
 #[inline(never)]
 pub(crate) fn make_room<E: Engine, R: Threads + Wait + Sync>(

@@ -39,8 +39,7 @@ fn are_zero(
     all == 0
 }
 
-/// Wipes a group of words of the run, which stand on this page of it. It isn't inlined, since few groups need it. It
-/// takes the group's number and not its first word, so the loop over groups keeps no word number beside an address.
+/// Wipes a group of words of the run, which are on this page of it. Few groups have a word that isn't 0.
 #[inline(never)]
 fn wipe_words(words: &Words, turn: &mut Turn, pages: u64, run: RunPages, part: u64, group: u64)
     requires { MayWipeGroup words.now turn.old.pass pages run part group }

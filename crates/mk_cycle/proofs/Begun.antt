@@ -197,7 +197,8 @@ module _ (begins : Config → Seat → List Event → List Event → Type 0) (p 
       let start : m.others ≡ before = sym (first ∙ append-nil m.others) in
       subst (λ (l : List Event). IsBegunUpTo true begins c p.seat (p.seen ++ (before ++ x ∷ [])) l) tail
       (subst (λ (l : List Event). IsBegunUpTo true begins c p.seat (p.seen ++ (l ++ x ∷ [])) part.more) start
-      (subst (λ (y : Event). IsBegunUpTo true begins c p.seat (p.seen ++ (m.others ++ y ∷ [])) part.more) head part_done))
+      (subst (λ (y : Event). IsBegunUpTo true begins c p.seat (p.seen ++ (m.others ++ y ∷ [])) part.more)
+      head part_done))
   here x before (y ∷ ys) behind of_kind is first second =
       let tail : part.more ≡ ys ++ x ∷ behind = cc in
       absurd (no_more (record { before = ys; event = x; behind = behind; is = tail; of_kind = of_kind }) is)
@@ -249,13 +250,18 @@ module _ (begins : Config → Seat → List Event → List Event → Type 0) whe
       let own_released = has_on r.closed m.released released own_closed in
       let own_opened = has_on m.released m.opened opened own_released in
       let own_freed = has_on m.opened m.freed freed own_opened in
-      begun_then begins p m.held q held (does_begin_none begins holds_gates p m.held (begins_none holds_gates refl) m.holds)
-      (begun_then begins m.held r.closing q closing (does_begin_none begins closes_marks m.held r.closing
-      (begins_none closes_marks refl) r.marks.does) (begun_then begins r.closing r.closed q closed
-      (step_begins_none begins r.closing r.closed Step.Close own_closing r.close refl) (begun_then begins r.closed m.released q
-      released (step_begins_none begins r.closed m.released Step.Release own_closed r.release refl) (begun_then begins m.released
-      m.opened q opened (does_begin_none begins is_open m.released m.opened (begins_none is_open refl) m.opens) (begun_then begins
-      m.opened m.freed q freed
+      begun_then begins p m.held q held
+      (does_begin_none begins holds_gates p m.held (begins_none holds_gates refl) m.holds)
+      (begun_then begins m.held r.closing q closing
+      (does_begin_none begins closes_marks m.held r.closing (begins_none closes_marks refl) r.marks.does)
+      (begun_then begins r.closing r.closed q closed
+      (step_begins_none begins r.closing r.closed Step.Close own_closing r.close refl)
+      (begun_then begins r.closed m.released q released
+      (step_begins_none begins r.closed m.released Step.Release own_closed r.release refl)
+      (begun_then begins m.released m.opened q opened
+      (does_begin_none begins is_open m.released m.opened (begins_none is_open refl) m.opens)
+      (begun_then begins m.opened m.freed q freed
       (does_begin_none begins is_giving_back m.opened m.freed (begins_none is_giving_back refl) m.frees)
-      (begun_then begins m.freed m.ended q ended (step_begins_none begins m.freed m.ended Step.End own_freed m.end refl)
+      (begun_then begins m.freed m.ended q ended
+      (step_begins_none begins m.freed m.ended Step.End own_freed m.end refl)
       (does_begin_none begins sets_tallies m.ended q (begins_none sets_tallies refl) m.behind)))))))

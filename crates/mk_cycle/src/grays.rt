@@ -24,8 +24,7 @@ fn first_of(cells: u64, header: u64) -> Option<u64>
     (index < cells_under(header)).then_some(index)
 }
 
-/// The first gray cell of a page with these gray bits. It isn't inlined, since few pages have any when they are
-/// searched.
+/// The first gray cell of a page with these gray bits. Few pages have any when they are searched.
 #[inline(never)]
 fn gray_among(table: Table, stop: &mut Stopped, page: u64, grays: u64) -> Option<Noted>
     requires may { MayTrace table.words.now stop.old.pass }

@@ -49,7 +49,7 @@ fn mark_under(stop: &mut Stopped, work: &mut Worklist, table: Table, header: u64
 }
 
 /// Marks what the hand points into, in this page. Most pages are blocks for objects with pointers: then what is noted
-/// of the cell, if it wasn't marked yet, is returned, and stays in registers. Else it goes to the list.
+/// of the cell, if it wasn't marked yet, is returned. Otherwise it goes to the list.
 #[inline(always)]
 fn mark_pointed(
     table: Table,

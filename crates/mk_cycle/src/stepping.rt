@@ -39,8 +39,8 @@ pub(crate) fn look_at_root(table: Table, stop: &mut Stopped, x: Word) -> u64
     stop.look_among(table.words, table.pages, x)
 }
 
-/// Looks at a word of a gray cell of this many words, whose value is then the hand, if it isn't 0. It stands on
-/// this page of the cell.
+/// Looks at a word of a gray cell of this many words, whose value is then the hand, if it isn't 0. It is on this page
+/// of the cell.
 #[tactic(auto, using(crate::proofs::StopSteps::word_near))]
 #[inline(always)]
 pub(crate) fn look_at_word(table: Table, stop: &mut Stopped, gray: Noted, part: u64, i: u64) -> u64

@@ -1,4 +1,5 @@
-use Rattle.mk_alloc.proofs.{Vocabulary.{PassState, ap, ◌∙◌}, UnsweptTurns.{finish_keeps, keeps_yet, older_same, then_leaves, yet_then}}
+use Rattle.mk_alloc.proofs.Vocabulary.{PassState, ap, ◌∙◌}
+use Rattle.mk_alloc.proofs.UnsweptTurns.{finish_keeps, keeps_yet, older_same, then_leaves, yet_then}
 use Rattle.mk_alloc.proofs.cycles.run_cycle.Goals.{After-begin_cycle}
 use Rattle.mk_alloc.specs.Underway.{KeepsYet}
 use Rattle.mk_cycle.proofs.HeldFirst.{finish_holds}

@@ -9,8 +9,7 @@ use crate::feeding::tree::{Frame, Node, Sequel, Sequels, Tree};
 use mk_core::Answer;
 
 impl Running {
-    /// Leaves the innermost block for this node, if it asks for an operation. Returns whether that is so. It is seldom
-    /// called: most rounds aren't the last.
+    /// Leaves the innermost block for this node, if it asks for an operation. Returns whether it does.
     #[inline(never)]
     fn close_to_op(&mut self, tree: &Tree, next: usize) -> bool
         requires { next < length tree.now }
@@ -118,7 +117,7 @@ impl Running {
     }
 
     /// Takes an answer and goes on to the next operation, also where other lines come before it. Returns whether it
-    /// does. It is seldom called: mostly none do.
+    /// does. Few answers are such.
     #[inline(never)]
     fn go_on_further(&mut self, tree: &Tree, answer: Answer) -> bool
         requires may { MayTake tree.now answer self.old }

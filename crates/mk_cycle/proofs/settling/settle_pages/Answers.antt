@@ -53,8 +53,9 @@ loop-page-preserved c =
       begun = rest.ends;
       settled = settled_rest p c.settle_taken-here.new.turn.in_order (n + 1) c.free_rest-from.result
           (omega (arith, past)) rest.frees (settled_more p pages x.frees c.loop-page.turn.in_order c.max-end.result
-          (omega (arith, furthest)) (λ s far lt few. omega (arith, end, furthest, far, few, limits)) c.settle_taken-here.result.released
-          c.settle_taken-here.result.held before x.settled x.told.released x.told.held);
+          (omega (arith, furthest)) (λ s far lt few. omega (arith, end, furthest, far, few, limits))
+          c.settle_taken-here.result.released c.settle_taken-here.result.held before x.settled x.told.released
+          x.told.held);
       count = omega (arith, i.count, x.told.few.count, after, past);
       words = omega (arith, i.words, x.told.few.words, after, past);
       kept = omega (arith, i.kept, x.told.few.kept, after, past);
