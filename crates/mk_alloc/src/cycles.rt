@@ -1,4 +1,4 @@
-//! The cycle that a free begins where it is due.
+//! The cycle that a free begins if one is due.
 ghost use Rattle.std.specs.Prelude.{◌≡◌};
 ghost use Rattle.mk_alloc.specs.DueCycles.{EndsOlder, RunsCycle, RunsIfDue};
 ghost use Rattle.mk_alloc.specs.Underway.{KeepsYet, MayRunCycle, PassKeeps};

@@ -1,4 +1,4 @@
-//! The deeds of a history, seven kinds in place of all its events: facts alone, with no code.
+//! The deeds of a history, seven kinds in place of all its events: facts, without code.
 ghost use Rattle.mk_alloc.specs.DeedLaws.{BoundsAreOverDeeds, DeedsGiveBack, DeedsLeaveTheStorage, DeedsSayWhyFull};
 
 /// The allocations that the deeds of a history leave are its own, and they give back what it gave back.

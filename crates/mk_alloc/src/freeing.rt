@@ -13,9 +13,9 @@ use mk_never::Op;
 use std::sync::Wait;
 use std::thread::Threads;
 
-/// Frees the object that a register points to, if it isn't null. Where that is due, a cycle begins, and ends in the
-/// call unless the engine keeps on. Directly after a `begin` the engine does its part. An object that is freed already
-/// is refused as `Double`.
+/// Frees the object that a register points to, if it isn't null. If a cycle is due, it begins, and ends in the call
+/// unless the engine keeps on. Directly after a `begin` the engine does its part. An object that is freed already is
+/// refused as `Double`.
 pub fn free_object<E: Engine, R: Threads + Wait + Sync>(
     rt: &R,
     caller: &mut Caller,

@@ -1,4 +1,4 @@
-//! What calls leave of the turns before: facts alone, with no code.
+//! What calls leave of the turns before: facts, without code.
 ghost use Rattle.mk_alloc.specs.Laws.{StayExactBehindCalls, StayExactWhereHeld, StayExactBehindTurns};
 ghost use Rattle.mk_alloc.specs.Laws.{StayExactBehindOthers, CallsSweepNothing, SweepNothingWhereHeld};
 

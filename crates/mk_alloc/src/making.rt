@@ -25,9 +25,8 @@ pub struct Full {
     pub census: Census,
 }
 
-/// Makes room for the object, which fits nowhere, and grants it. Where it can't be made to fit the New is answered
-/// Full, and the counts of that moment are returned. Their room is this function's own, so that a New whose object fits
-/// at once doesn't pay for it.
+/// Makes room for the object, which fits nowhere, and grants it. If it can't be made to fit, the New is answered Full,
+/// and the counts of that moment are returned.
 #[inline(always)]
 fn make_room_or_count<E: Engine, R: Threads + Wait + Sync>(
     rt: &R,
@@ -52,9 +51,8 @@ fn make_room_or_count<E: Engine, R: Threads + Wait + Sync>(
     (turn, Some(census))
 }
 
-/// Sets a register to a new object of a type, whose words are 0. Where nothing fits, a cycle that is on is finished,
-/// and then one more is begun and finished, before the answer is `Full`. Directly after a `begin` the engine does its
-/// part.
+/// Sets a register to a new object of a type, whose words are 0. If nothing fits, a cycle that is on is finished, and
+/// then one more is begun and finished, before the answer is `Full`. Directly after a `begin` the engine does its part.
 pub fn new_object<E: Engine, R: Threads + Wait + Sync>(
     rt: &R,
     caller: &mut Caller,

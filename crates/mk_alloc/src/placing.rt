@@ -12,7 +12,7 @@ use mk_caller::lower::words::{Turn, Words};
 use mk_core::{Tally, Word};
 use mk_geom::Place;
 
-/// Marks the cells that the first page of the place will have, where a cycle marks.
+/// Marks the cells that the first page of the place will have, if a cycle marks.
 #[inline(always)]
 fn mark_place(words: &Words, turn: &mut Turn, shape: Shape, place: Place, marking: bool)
     requires goes { ShapeGoesTo words.now turn.old.pass shape place }
@@ -26,8 +26,8 @@ fn mark_place(words: &Words, turn: &mut Turn, shape: Shape, place: Place, markin
     }
 }
 
-/// Makes the free pages of the place a block, or a run. Where a cycle marks, the cells of the first page are marked
-/// before that. The later pages of a run are all of one kind, so they have a loop of their own.
+/// Makes the free pages of the place a block, or a run. If a cycle marks, the cells of the first page are marked before
+/// that. The later pages of a run are all of one kind, so they have a loop of their own.
 fn carve(words: &Words, turn: &mut Turn, shape: Shape, place: Place, marking: bool)
     requires goes { ShapeGoesTo words.now turn.old.pass shape place }
     requires free { header_at (now_of turn.old.pass).words place.page ≡ 0 }
@@ -43,7 +43,7 @@ fn carve(words: &Words, turn: &mut Turn, shape: Shape, place: Place, marking: bo
     }
 }
 
-/// Makes the place's pages ready, where they are free.
+/// Makes the place's pages ready, if they are free.
 #[inline(always)]
 fn make_ready(words: &Words, turn: &mut Turn, shape: Shape, place: Place, free: bool, marking: bool)
     requires goes { ShapeGoesTo words.now turn.old.pass shape place }

@@ -123,8 +123,8 @@ fn free_found<R: Wait>(rt: &R, words: &Words, turn: &mut Turn, target: Target, q
     }
 }
 
-/// Frees the object that a register points to: it is quarantined, and where it is large its pages are unmapped and its
-/// words wiped while all other callers are in no call. Where the register is null nothing is freed. An object that is
+/// Frees the object that a register points to: it is quarantined, and if it is large its pages are unmapped and its
+/// words wiped while all other callers are in no call. If the register is null nothing is freed. An object that is
 /// freed already is refused as `Double`.
 pub fn retire_object<R: Threads + Wait + Sync>(
     rt: &R,

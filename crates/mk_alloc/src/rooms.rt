@@ -1,4 +1,4 @@
-//! Room for the object of a New: where it fits nowhere, cycles are finished and begun.
+//! Room for the object of a New: if it fits nowhere, cycles are finished and begun.
 ghost use Rattle.std.specs.Prelude.{◌≡◌, false};
 ghost use Rattle.mk_caller.specs.{Below.Words.States.now_of, Below.Words.Sweeping.SweepsNothing};
 ghost use Rattle.mk_alloc.specs.Placing.{OnlyLooks};
@@ -15,7 +15,7 @@ use mk_cycle::{Engine, begin_cycle, finish_cycle};
 use std::sync::Wait;
 use std::thread::Threads;
 
-/// Grants the object where it fits.
+/// Grants the object if it fits.
 #[inline(always)]
 pub(crate) fn try_place(words: &Words, turn: &mut Turn, request: Request) -> bool
     requires { SeeksRoom words.now turn.old.pass request }
@@ -27,7 +27,7 @@ pub(crate) fn try_place(words: &Words, turn: &mut Turn, request: Request) -> boo
     place_object(words, turn, request)
 }
 
-/// Finishes the cycle that is on, and grants the object where it fits then.
+/// Finishes the cycle that is on, and grants the object if it fits then.
 #[cold]
 #[inline(never)]
 fn finish_and_place<E: Engine, R: Threads + Wait + Sync>(
@@ -52,7 +52,7 @@ fn finish_and_place<E: Engine, R: Threads + Wait + Sync>(
     (turn, placed)
 }
 
-/// Grants the object, which fits nowhere, where it fits after the cycle that is on.
+/// Grants the object, which fits nowhere, if it fits after the cycle that is on.
 fn place_behind_older<E: Engine, R: Threads + Wait + Sync>(
     rt: &R,
     words: &Words,
@@ -74,7 +74,7 @@ fn place_behind_older<E: Engine, R: Threads + Wait + Sync>(
     finish_and_place(rt, words, turn, request, engine)
 }
 
-/// Begins and finishes a cycle, and grants the object where it fits then.
+/// Begins and finishes a cycle, and grants the object if it fits then.
 #[cold]
 #[inline(never)]
 fn place_behind_cycle<E: Engine, R: Threads + Wait + Sync>(

@@ -52,7 +52,7 @@ fn free_from(page: u64) -> Place
     }
 }
 
-/// The first free page, as a place, where fewer pages are resident than may be.
+/// The first free page, as a place, if fewer pages are resident than may be.
 fn free_place(turn: &Turn, limit: u64) -> Option<Place>
     ensures { result
         ≡ (if nat_lt (resident_pages (uses_of_pages (now_of turn.now.pass).words.pages)) limit
@@ -95,7 +95,7 @@ fn seek_large(words: &Words, turn: &Turn, count: u64) -> Option<Place>
     }
 }
 
-/// The place of an object of this shape, where it goes into a block that stands.
+/// The place of an object of this shape, if a block has a free cell for it.
 #[inline(always)]
 pub(crate) fn seek_cell(words: &Words, turn: &Turn, shape: Shape) -> Option<Place>
     requires one_table { turn.now.pass.table ≡ words.now }

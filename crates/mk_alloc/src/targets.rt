@@ -61,8 +61,7 @@ pub(crate) fn find_cell(words: &Words, turn: &mut Turn, value: u64) -> Target
     Target { cell, header }
 }
 
-/// Looks at the quarantine word of the page of a Free's target. Where the target is freed already, that decides the
-/// Free.
+/// Looks at the quarantine word of the page of a Free's target. If the target is freed already, that decides the Free.
 pub(crate) fn look_at_quarantine(words: &Words, turn: &mut Turn, cell: Cell) -> u64
     requires one_table { turn.old.pass.table ≡ words.now }
     requires loaded { IsLoaded turn.old.pass }

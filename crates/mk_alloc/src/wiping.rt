@@ -14,7 +14,7 @@ const GROUP: u64 = 8;
 /// How many groups a page has.
 const PAGE_GROUPS: u64 = PAGE_WORDS / GROUP;
 
-/// Looks at a group of words of the run, which stand on this page of it. Returns true only where all are 0.
+/// Looks at a group of words of the run, which are on this page of it. Returns true only if all are 0.
 #[inline(always)]
 fn are_zero(
     words: &Words,
@@ -56,7 +56,7 @@ fn wipe_words(words: &Words, turn: &mut Turn, pages: u64, run: RunPages, part: u
     }
 }
 
-/// Wipes what isn't 0 of a group of words of the run, which stand on this page of it.
+/// Wipes what isn't 0 of a group of words of the run, which are on this page of it.
 #[inline(always)]
 fn wipe_group(words: &Words, turn: &mut Turn, pages: u64, run: RunPages, part: u64, group: u64)
     requires { MayWipeGroup words.now turn.old.pass pages run part group }
@@ -68,7 +68,7 @@ fn wipe_group(words: &Words, turn: &mut Turn, pages: u64, run: RunPages, part: u
     wipe_words(words, turn, pages, run, part, group);
 }
 
-/// Wipes what isn't 0 of two groups of words of the run, which stand on this page of it.
+/// Wipes what isn't 0 of two groups of words of the run, which are on this page of it.
 #[inline(always)]
 fn wipe_two_groups(words: &Words, turn: &mut Turn, pages: u64, run: RunPages, part: u64, group: u64)
     requires { MayWipeGroups words.now turn.old.pass pages run part group 2 }
@@ -79,7 +79,7 @@ fn wipe_two_groups(words: &Words, turn: &mut Turn, pages: u64, run: RunPages, pa
     wipe_group(words, turn, pages, run, part, group + 1);
 }
 
-/// Wipes what isn't 0 of four groups of words of the run, which stand on this page of it.
+/// Wipes what isn't 0 of four groups of words of the run, which are on this page of it.
 #[inline(always)]
 fn wipe_four_groups(
     words: &Words,

@@ -37,7 +37,7 @@ leaves_begun step.Want = true
 leaves_begun step.Give = true
 leaves_begun _ = false
 
--- In a list the seat does nothing but hold gates, until it wants the close or gives its turn back. Where the list ends
+-- In a list the seat does nothing but hold gates, until it wants the close or gives its turn back. If the list ends
 -- before that, the answer is `yet`.
 unfoldable pub only_holds : Bool → Seat → List Event → Bool
 only_holds yet s [] = yet
@@ -101,6 +101,6 @@ EachIsBegunYet begins p q = EachIsBegunUpTo true begins p q
 abbrev pub CyclesAreBegun : (Config → Seat → List Event → List Event → Type 0) → Config → List Event → Type 0
 CyclesAreBegun begins c es = (b : At is_begin es) → IsBegunFirst begins c b.event.seat (through b) b.behind
 
--- Nothing but holding gates stands between each `begin` of the history and the wish to close, or the turn's `give`.
+-- There is nothing but holding gates between each `begin` of the history and the wish to close, or the turn's `give`.
 abbrev pub CyclesHoldGatesFirst : Config → List Event → Type 0
 CyclesHoldGatesFirst c es = CyclesAreBegun DoesNothing c es

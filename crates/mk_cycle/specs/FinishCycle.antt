@@ -27,7 +27,7 @@ pub record MakesFinish (p q : PassState) : Type 0 where
   pub end : Makes freed step.End ended
   pub behind : Does sets_tallies ended q
 
--- The cycle has ended, and no gate is held. What was left unmarked is released, and all else stands as it did.
+-- The cycle has ended, and no gate is held. What was left unmarked is released, and all else is as it was.
 pub record FinishesCycle (p q : PassState) : Type 0 where
   pub makes : MakesFinish p q
   pub pass : q ≡ record p { seen = q.seen }

@@ -155,7 +155,7 @@ pub record RootsPointWell (pages : ℕ) (w : Words) : Type 0 where
   pub registers : (i : ℕ) → points_well pages w (slice_index w.registers i) ≡ true
   pub globals : (g : ℕ) → points_well pages w (slice_index w.globals g) ≡ true
 
--- Where the page is dirty, nothing of it is black.
+-- If the page is dirty, nothing of it is black.
 pub record DirtyIsUnscanned (w : Words) (page : ℕ) : Type 0 where
   pub own : slice_index w.dirty page ≢ 0 → slice_index w.blacks page ≡ 0
   pub head : slice_index w.dirty page ≢ 0 → slice_index w.blacks (head_page w page) ≡ 0
@@ -179,7 +179,7 @@ pub record IsCleaner (w v : Words) : Type 0 where
 abbrev pub IsUnmarked : Words → ℕ → Type 0
 IsUnmarked w p = (k : ℕ) → k < cells_under (header_in w p) → has_bit (slice_index w.marks p) k ≡ false
 
--- No cell turns gray but for this one, where it was white.
+-- No cell turns gray but for this one, if it was white.
 abbrev pub GraysOne : Words → Cell → Bool → Words → Type 0
 GraysOne w cell was_white v =
     (pages : ℕ) (one : Cell) → IsGray pages v one → IsGray pages w one ⊎ ((was_white ≡ true) × (one ≡ cell))

@@ -36,7 +36,7 @@ pub record IsAmong (cells : List Noted) (cell : Cell) : Type 0 where
   pub among : Contains cells noted
   pub is : noted.cell ≡ cell
 
--- All cells are noted so, and where the notes are whole, each gray cell is one of them.
+-- All cells are noted so, and if the notes are whole, each gray cell is one of them.
 pub record AreNoted (pages : ℕ) (w : Words) (notes : Notes) : Type 0 where
   pub each : All (IsNoted pages w) notes.cells
   pub grays : notes.is_whole ≡ true → (cell : Cell) → IsGray pages w cell → IsAmong notes.cells cell

@@ -31,7 +31,7 @@ fn mark_in_stop(table: Table, stop: &mut Stopped, work: &mut Worklist)
 }
 
 /// Wants the close, waits for the markers, and marks in the stop until the marks may be closed. Every engine may call
-/// it: where nothing is marked before the stop, no page has a black cell.
+/// it: if nothing is marked before the stop, no page has a black cell.
 pub fn close_marks<R: Wait>(rt: &R, words: &Words, stop: &mut Stopped, work: &mut Worklist)
     requires one_table { stop.old.pass.table ≡ words.now }
     requires ready { HolderIsLoaded stop.old.pass }

@@ -60,7 +60,7 @@ fn clean_if_dirty(table: Table, stop: &mut Stopped, page: u64)
 }
 
 /// Clears all dirty words. The cells of dirty pages, and the runs with such a page, are scanned again. It goes from
-/// page in use to page in use: no free page is dirty. Returns true only where no cell is marked.
+/// page in use to page in use: no free page is dirty. Returns true only if no cell is marked.
 pub(crate) fn clean_dirty(table: Table, stop: &mut Stopped) -> bool
     requires may { MayTrace table.words.now stop.old.pass }
     ensures on { MarksOn stop.old stop.new }

@@ -40,8 +40,8 @@ fn give_back(
     turn.quar(words, page, left.word());
 }
 
-/// Gives back the released cells of a page with this header word, and returns what was released on it. Where its
-/// snapshot is empty, no more is looked at.
+/// Gives back the released cells of a page with this header word, and returns what was released on it. If its snapshot
+/// is empty, no more is looked at.
 #[inline(always)]
 pub(crate) fn release_cells(
     turn: &mut Turn,

@@ -45,7 +45,7 @@ fn gray_among(table: Table, stop: &mut Stopped, page: u64, grays: u64) -> Option
     })
 }
 
-/// The gray bits of a page. Its black word is looked at only where a cell is marked.
+/// The gray bits of a page. Its black word is looked at only if a cell is marked.
 #[inline(always)]
 fn gray_bits(table: Table, stop: &mut Stopped, page: u64) -> u64
     requires may { MayTrace table.words.now stop.old.pass }
@@ -118,8 +118,8 @@ fn gray_noted(table: Table, stop: &mut Stopped, work: &mut Worklist) -> Option<N
     None
 }
 
-/// A gray cell, from the page on where the last one was found, and then from the first page up to it. None where no
-/// page has any.
+/// A gray cell, from the page on where the last one was found, and then from the first page up to it. None if no page
+/// has any.
 fn gray_somewhere(table: Table, stop: &mut Stopped, from: u64) -> Option<Noted>
     requires may { MayTrace table.words.now stop.old.pass }
     ensures looks { LooksOn stop.old stop.new }
@@ -136,8 +136,8 @@ fn gray_somewhere(table: Table, stop: &mut Stopped, from: u64) -> Option<Noted>
     gray_between(table, stop, 0, from.min(table.pages))
 }
 
-/// A gray cell: one of the list, or else one that is found page by page, unless the list was whole. None where no page
-/// has any.
+/// A gray cell: one of the list, or one that is found page by page, unless the list was whole. None if no page has
+/// any.
 #[inline(always)]
 fn another_gray(table: Table, stop: &mut Stopped, work: &mut Worklist) -> Option<Noted>
     requires may { MayTrace table.words.now stop.old.pass }
@@ -161,7 +161,7 @@ fn another_gray(table: Table, stop: &mut Stopped, work: &mut Worklist) -> Option
     Some(gray)
 }
 
-/// A gray cell: the one that was noted last, or else another. None where no page has any.
+/// A gray cell: the one that was noted last, if there is one, or another. None if no page has any.
 #[inline(always)]
 pub(crate) fn next_gray(
     table: Table,

@@ -1,4 +1,4 @@
-//! Laws of tracing: facts alone, with no code.
+//! Laws of tracing: facts, without code.
 ghost use Rattle.mk_cycle.specs.Grays.{ReachedMarksSweepNothing};
 
 /// Steps by the rule of tracing in the stop make no sweeping mark.

@@ -43,7 +43,7 @@ impl Noted {
         Some(Noted { cell, words })
     }
 
-    /// The cell that has a word of a page, which is a block of this class for objects with pointers. None where the
+    /// The cell that has a word of a page, which is a block of this class for objects with pointers. None if the
     /// word is in the block's tail.
     #[inline(always)]
     pub(crate) fn in_block(class: u64, page: u64, word: u64) -> Option<Noted>

@@ -60,7 +60,7 @@ fn mark_registers(table: Table, stop: &mut Stopped, work: &mut Worklist)
     }
 }
 
-/// Looks at a group of globals, from this one on. Returns true only where all are before the heap, as null is.
+/// Looks at a group of globals, from this one on. Returns true only if all are before the heap, as null is.
 fn are_before_heap(table: Table, stop: &mut Stopped, first: u64) -> bool
     requires may { MayTrace table.words.now stop.old.pass }
     requires group { first + 8 ≤ 64 }

@@ -16,11 +16,11 @@ use mk_words::Stopped;
 /// The words of a cell are groups of this many, and at most seven more.
 const GROUP: u64 = 8;
 
-/// How many groups of a cell stand on a page.
+/// How many groups of a cell are on a page.
 const PAGE_GROUPS: u64 = PAGE_WORDS / GROUP;
 
-/// Looks at a group of words of a gray cell, from this one on, which stand on this page of the cell. Returns true only
-/// where all are before the heap, as null is.
+/// Looks at a group of words of a gray cell, from this one on, which are on this page of the cell. Returns true only if
+/// all are before the heap, as null is.
 #[inline(always)]
 fn are_before_heap(table: Table, stop: &mut Stopped, gray: Noted, part: u64, first: u64) -> bool
     requires may { MayTrace table.words.now stop.old.pass }
@@ -39,8 +39,8 @@ fn are_before_heap(table: Table, stop: &mut Stopped, gray: Noted, part: u64, fir
     all < HEAP_START
 }
 
-/// Looks at the words of a gray cell that stands on one page, from this word on, where a cell was noted before. What
-/// one points into is marked before the next. Returns what was noted last.
+/// Looks at the words of a gray cell that is on one page, from this word on, after another cell was noted. What one
+/// points into is marked before the next is looked at. Returns what was noted last.
 #[inline(always)]
 fn scan_rest(
     table: Table,
@@ -64,9 +64,9 @@ fn scan_rest(
     last
 }
 
-/// Looks at each word of a gray cell that stands on one page, and marks what it points into. The loop ends with the
-/// first cell that is noted, so that it carries none: most cells point into one such cell, or none. Returns what was
-/// noted last.
+/// Looks at each word of a gray cell that is on one page, and marks what it points into. The loop ends with the first
+/// cell that is noted, so it has none to keep: most cells point into one such cell, or none. Returns what was noted
+/// last.
 #[inline(always)]
 fn scan_few(table: Table, stop: &mut Stopped, work: &mut Worklist, gray: Noted) -> Option<Noted>
     requires may { MayTrace table.words.now stop.old.pass }
@@ -86,7 +86,7 @@ fn scan_few(table: Table, stop: &mut Stopped, work: &mut Worklist, gray: Noted) 
     None
 }
 
-/// Looks at so many words of a gray cell, from one on, which stand on this page of the cell, and marks what they point
+/// Looks at so many words of a gray cell, from one on, which are on this page of the cell, and marks what they point
 /// into.
 #[inline(always)]
 fn scan_from(
@@ -111,7 +111,7 @@ fn scan_from(
     }
 }
 
-/// Looks at the words of a group of a gray cell, which stand on this page of the cell, and marks what they point into.
+/// Looks at the words of a group of a gray cell, which are on this page of the cell, and marks what they point into.
 #[inline(always)]
 fn scan_group(
     table: Table,
@@ -135,7 +135,7 @@ fn scan_group(
     scan_from(table, stop, work, gray, part, first, GROUP);
 }
 
-/// Looks at each word of the groups of a gray cell that stand on one page of it, and marks what it points into.
+/// Looks at each word of the groups of a gray cell that are on one page of it, and marks what it points into.
 #[inline(always)]
 fn scan_part(table: Table, stop: &mut Stopped, work: &mut Worklist, gray: Noted, part: u64)
     requires may { MayTrace table.words.now stop.old.pass }
@@ -151,7 +151,7 @@ fn scan_part(table: Table, stop: &mut Stopped, work: &mut Worklist, gray: Noted,
     }
 }
 
-/// Looks at each word of a gray cell of at least eight words that stands on one page, and marks what it points into.
+/// Looks at each word of a gray cell of at least eight words that is on one page, and marks what it points into.
 #[inline(always)]
 fn scan_near(table: Table, stop: &mut Stopped, work: &mut Worklist, gray: Noted)
     requires may { MayTrace table.words.now stop.old.pass }

@@ -96,7 +96,7 @@ pub(crate) fn clear_black(table: Table, stop: &mut Stopped, page: u64)
     stop.unblack(table.words, page);
 }
 
-/// Clears a page's dirty word, where nothing of the page is black.
+/// Clears a page's dirty word. Nothing of the page is black.
 #[tactic(auto, using(crate::proofs::MaySteps::may_undirty_page, crate::proofs::Stilled::undirty_words))]
 pub(crate) fn undirty_page(table: Table, stop: &mut Stopped, page: u64)
     requires may { MayTrace table.words.now stop.old.pass }

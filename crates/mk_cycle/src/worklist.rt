@@ -6,8 +6,8 @@ use mk_never::NoMemory;
 use std::alloc::Global;
 
 /// The cells that were marked last and aren't scanned yet, as far as there is room. One that finds no room is
-/// forgotten, and found again where its owner looks for gray cells page by page, from the page where it found the last
-/// one. A list that is whole has each gray cell, so its owner needn't look for others.
+/// forgotten, and found again when the list's owner looks for gray cells page by page, from the page where it found the
+/// last one. A list that is whole has each gray cell, so its owner needn't look for others.
 #[derive(Drop)]
 pub struct Worklist {
     cells: Vec<Noted>,
@@ -30,7 +30,7 @@ impl Worklist {
         })
     }
 
-    /// Forgets all cells. The list is whole where there is no gray cell.
+    /// Forgets all cells. The list is whole if there is no gray cell.
     pub(crate) fn forget(&mut self, is_whole: bool)
         ensures none { self.new.cells.items ≡ [] }
         ensures whole { self.new.is_whole ≡ is_whole }

@@ -26,7 +26,7 @@ fn blacken_if_marked(words: &Words, stop: &mut Stopped, marked: bool, cell: Cell
     stop.black(words, cell.page, bit(cell.index));
 }
 
-/// Blackens the marked ones among a page's cells, where there are this many and these are its marks.
+/// Blackens the marked ones among a page's cells, of which there are this many. These are the page's marks.
 fn blacken_cells(words: &Words, stop: &mut Stopped, page: u64, count: u64, marks: u64)
     requires one_table { stop.old.pass.table ≡ words.now }
     requires sweeping { IsSweeping stop.old.pass }

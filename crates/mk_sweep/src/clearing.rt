@@ -18,7 +18,7 @@ pub(crate) fn unblack_all(words: &Words, stop: &mut Stopped)
     }
 }
 
-/// Clears all dirty words, where nothing is black.
+/// Clears all dirty words. Nothing is black.
 pub(crate) fn undirty_all(words: &Words, stop: &mut Stopped)
     requires one_table { stop.old.pass.table ≡ words.now }
     requires sweeping { IsSweeping stop.old.pass }

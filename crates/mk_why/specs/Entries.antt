@@ -1,4 +1,4 @@
--- Chains, followed back through the tables, and the entries that are made of them. Private functions alone cite these
+-- Chains, followed back through the tables, and the entries that are made of them. Only private functions cite these
 -- words.
 use Rattle.std.specs.Prelude.{◌≡◌, ℕ, ◌+◌, ◌*◌, ◌<◌, true, List, [], ◌∷◌, ◌++◌, length, map, nat_lt, reverse}
 use Rattle.std.specs.{Prelude.{slice_index, Option, Some, None, ⊤, if◌then◌else◌}, List.Contains}

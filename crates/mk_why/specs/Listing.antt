@@ -1,4 +1,4 @@
--- The kept allocations of a view, in a table. `Why` cites `IsTold`; all other words private functions alone cite.
+-- The kept allocations of a view, in a table. `Why` cites `IsTold`; only private functions cite the other words.
 use Rattle.std.specs.Prelude.{◌≡◌, ℕ, true, List, length, Option, Some}
 use Rattle.mk_geom.specs.Addresses.{address_of}
 use Rattle.mk_core.specs.{declared.config.Config.Config, Allocations.{placed_at, storage_words}}
@@ -26,7 +26,7 @@ pub record IsListed (kept : List (Option Storage)) (base : ℕ) : Type 0 where
   pub storage : Storage
   pub there : entry_at kept base ≡ Some storage
 
--- More was listed, of kept allocations alone.
+-- More was listed, and only kept allocations.
 pub record ListsOn (c : Config) (v : View) (r s : Tables) : Type 0 where
   pub size : length s.kept.items ≡ length r.kept.items
   pub of_kept : AreOfKept c v s.kept.items

@@ -1,4 +1,4 @@
--- The search for chains, breadth first: what its tables say of a view. Private functions alone cite these words.
+-- The search for chains, breadth first: what its tables say of a view. Only private functions cite these words.
 use Rattle.std.specs.Prelude.{◌≡◌, ℕ, ◌+◌, ◌-◌, ◌*◌, ◌/◌, ◌%◌, ◌<◌, ◌≤◌, nat_lt, if◌then◌else◌, true, false, List}
 use Rattle.std.specs.Prelude.{length, slice_index, slice_index_or, Option, Some, None}
 use Rattle.mk_geom.specs.StorageWords.{IsWordOf}

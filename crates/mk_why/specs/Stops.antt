@@ -1,5 +1,5 @@
 -- What stays still in the stop, after the inner engine's marks. `Why` cites `view_of`, `IsToldBefore` and
--- `IsClosedBefore`; all other words private functions alone cite.
+-- `IsClosedBefore`; only private functions cite the other words.
 use Rattle.std.specs.Prelude.{◌≡◌, ℕ, Bool, true, false, List, []}
 use Rattle.mk_core.specs.{declared.events.Step.Step, declared.config.Config.Config}
 use Rattle.mk_core.specs.{Allocations.{PlacedAllocation, placed_at}, History.World, Moments.nothing_done}

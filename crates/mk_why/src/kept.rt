@@ -15,7 +15,7 @@ pub struct Kept {
     pub address: u64,
     /// The words of its storage.
     pub words: u64,
-    /// Where the chain begins, or None where no chain leads to the object. With tracing it was then marked by a word
+    /// Where the chain begins, or None if no chain leads to the object. With tracing it was then marked by a word
     /// that is gone now; with a sweep perhaps by a word of an object to which nothing leads.
     pub root: Option<Root>,
     /// The addresses of the heap words through which the chain leads. The root's word points into the object that has

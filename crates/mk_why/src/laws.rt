@@ -1,4 +1,4 @@
-//! Laws of chains: facts alone, with no code.
+//! Laws of chains: facts, without code.
 ghost use Rattle.mk_why.specs.SweptChains.{ChainsAreSwept};
 
 /// Every allocation to which there is a chain is swept, so that a sweep keeps it.

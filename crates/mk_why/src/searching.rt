@@ -61,7 +61,7 @@ fn search_root(words: &Words, stop: &mut Stopped, tables: &mut Tables, root: Roo
     note_value(words, stop, tables, value, Found { way, links: 0 });
 }
 
-/// The root of this number, where this many callers' registers come before the globals.
+/// The root of this number. The registers of this many callers come before the globals.
 fn root_numbered(callers: u64, number: u64) -> Root
     requires { callers ≤ 16 }
     ensures { result ≡ root_numbered callers number }

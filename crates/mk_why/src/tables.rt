@@ -5,7 +5,7 @@ use crate::found::{Found, Storage};
 use mk_never::NoMemory;
 use std::alloc::Global;
 
-/// Tables over the heap words, where each allocation stands at its first word: how it was found, and its storage if it
+/// Tables over the heap words, which have each allocation at its first word: how it was found, and its storage if it
 /// was kept. The queue has the first words of the allocations that were found, in the order in which they were. A table
 /// that has nothing isn't emptied again.
 #[derive(Drop)]
