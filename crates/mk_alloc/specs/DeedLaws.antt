@@ -10,6 +10,7 @@ use Rattle.mk_alloc.specs.{Bounds.QuarantineIsBounded, Deeds.{AtTurnEnds, Deed, 
 use Rattle.mk_alloc.specs.{Deeds.{QuarterOfHeld, ReleasesInTurnOfBegin, back_from, storage_after}, GivenBack.given_back}
 use Rattle.mk_core.specs.declared.events.Step.TheVariants as step
 
+-- The allocation of a cell is freed, if there is a cell.
 abbrev pub frees_at : Words → Option Cell → List Deed
 frees_at w (Some cell) = Deed.Frees (first_word w cell) ∷ []
 frees_at w None = []
@@ -33,6 +34,7 @@ done_by c w f _ = []
 abbrev pub deeds_by : Config → World → Event → List Deed
 deeds_by c w e = map Deed.Asked (asked (call_decided c w.now e)) ++ done_by c w (flight_of w.now e.seat) e.step
 
+-- the deeds of events that come after this world
 unfoldable pub deeds_from : Config → World → List Event → List Deed
 deeds_from c w [] = []
 deeds_from c w (e ∷ es) = deeds_by c w e ++ deeds_from c (world_behind c w e) es
@@ -41,10 +43,11 @@ deeds_from c w (e ∷ es) = deeds_by c w e ++ deeds_from c (world_behind c w e) 
 abbrev pub deeds_of : Config → List Event → List Deed
 deeds_of c es = deeds_from c (first_world c) es
 
--- which leave its allocations, and give back what it gave back.
+-- which leave its allocations,
 abbrev pub DeedsLeaveTheStorage : Type 0
 DeedsLeaveTheStorage = (c : Config) (es : List Event) → storage_after (deeds_of c es) ≡ (left c es).allocations
 
+-- and as many words are given back.
 abbrev pub DeedsGiveBack : Type 0
 DeedsGiveBack = (c : Config) (es : List Event) → back_from c [] 0 (deeds_of c es) ≡ given_back c es
 

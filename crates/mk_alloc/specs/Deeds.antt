@@ -19,9 +19,11 @@ pub data Deed : Type 0 where
   -- A cycle begins, and ends, and somebody's turn ends.
   Begins Ends TurnEnds : Deed
 
+-- an unreleased allocation that begins at this heap word
 abbrev pub begins_at : ℕ → PlacedAllocation → Bool
 begins_at base a = not a.released && (a.base == base)
 
+-- one that begins at one of these
 abbrev pub begins_at_one : List ℕ → PlacedAllocation → Bool
 begins_at_one bases a = not a.released && list_any (λ base. a.base == base) bases
 
@@ -36,6 +38,7 @@ after_deed (Deed.Releases bases) xs =
 after_deed Deed.Begins xs = map (λ (a : PlacedAllocation). record a { fresh = false }) xs
 after_deed _ xs = xs
 
+-- the allocations after deeds, where they were these before the first
 unfoldable pub storage_from : List PlacedAllocation → List Deed → List PlacedAllocation
 storage_from xs [] = xs
 storage_from xs (d ∷ ds) = storage_from (after_deed d xs) ds
@@ -51,14 +54,17 @@ back_after c xs n (Deed.Releases bases) =
     n + sum_by (storage_words c) (filter (λ a. is_mapped c a && begins_at_one bases a) xs)
 back_after c xs n _ = n
 
+-- what was given back after deeds, where it was so much before the first
 unfoldable pub back_from : Config → List PlacedAllocation → ℕ → List Deed → ℕ
 back_from c xs n [] = n
 back_from c xs n (d ∷ ds) = back_from c (after_deed d xs) (back_after c xs n d) ds
 
+-- it ends a turn
 abbrev pub ends_turn : Deed → Bool
 ends_turn Deed.TurnEnds = true
 ends_turn _ = false
 
+-- it begins a cycle
 abbrev pub begins_cycle : Deed → Bool
 begins_cycle Deed.Begins = true
 begins_cycle _ = false
@@ -72,6 +78,7 @@ abbrev pub QuarterWithGivenBack : Config → List Deed → Type 0
 QuarterWithGivenBack c ds =
     4 * fresh_words_of c (storage_after ds) ≤ held_by_allocations c (storage_after ds) + back_from c [] 0 ds
 
+-- whenever a turn ends,
 abbrev pub QuarterAtTurnEnds : Config → List Deed → Type 0
 QuarterAtTurnEnds c ds = AtTurnEnds (QuarterWithGivenBack c) ds
 
