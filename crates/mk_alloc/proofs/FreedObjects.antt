@@ -25,7 +25,8 @@ use Rattle.mk_caller.proofs.Below.Laws.InvariantHistories.{allocations_stand, to
 use Rattle.mk_caller.proofs.{Below.Laws.KnownWorlds.{KnownWorld, known_world}, Below.Laws.GrantMoves.pointer_cell}
 use Rattle.mk_caller.proofs.{Below.Laws.ImagesKept.base_at, Below.Laws.Ready.Ready, Below.Laws.RegMoves.flight}
 use Rattle.mk_caller.proofs.Below.Laws.Settled.{unreleased_are_apart}
-use Rattle.mk_caller.specs.{Below.Laws.ImagePremises.IsLaidOut, Below.Laws.SettledPages.StandsUsed}
+use Rattle.mk_caller.proofs.Below.Laws.ImagePremises.{IsLaidOut}
+use Rattle.mk_caller.specs.Below.Laws.SettledPages.{StandsUsed}
 use Rattle.mk_alloc.proofs.ObjectVocabulary.{IsBase, IsFreeAt, IsOutOfStop, IsTurn, PassState, call_of, freed_and_fresh}
 use Rattle.mk_alloc.proofs.ObjectVocabulary.{held_by_allocations, histories_keep_the_invariant, loaded_free, now_of}
 use Rattle.mk_alloc.proofs.{ObjectVocabulary.{value_of, world_of}, HeldFreed.{freed_one, held_part, held_set}}

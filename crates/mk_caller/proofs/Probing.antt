@@ -12,7 +12,7 @@ use Rattle.mk_words.proofs.Below.Laws.OtherCalls.{never_continues, registers_are
 use Rattle.mk_words.proofs.Below.Laws.ProbesStill.{pages_tell, ready}
 use Rattle.mk_words.proofs.Below.Laws.Reached.{mapped_met, unmapped_target}
 use Rattle.mk_words.proofs.{Below.Laws.Stages.{calls_stand, is_call_stage}, Below.Laws.Standings.{InCall, standing}}
-use Rattle.mk_words.specs.Below.Laws.Images.{has_q, has_some_q}
+use Rattle.mk_words.specs.Below.Laws.LoadedRegisters.{has_q, has_some_q}
 use Rattle.mk_caller.proofs.{Enabling.met_is_small, OneStep.own_seat, WordsMet.access_meets}
 use Rattle.mk_caller.specs.{States.{caller_of_pass, never_of, value_of}, Causes.{Probes, ProbesAWord}}
 use Rattle.mk_caller.specs.Moves.{IsUnderway, is_access}

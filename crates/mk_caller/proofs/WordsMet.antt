@@ -7,7 +7,7 @@ use Rattle.mk_words.proofs.Below.Laws.Vocabulary.{left, lt-ltb, never_behind, q_
 use Rattle.mk_words.proofs.Below.Laws.Vocabulary.{true, ◌%◌, ◌*◌, ◌+◌, ◌/◌, ◌<◌, ◌↔◌, ◌∙◌, ◌≡◌}
 use Rattle.mk_words.proofs.{Below.Laws.ImagesKept.base_at, Below.Laws.LastEvents.stands, Below.Laws.Pairs.shows_plain}
 use Rattle.mk_words.proofs.{Below.Laws.ProbesStill.ready, Below.Laws.Ready.image_zero}
-use Rattle.mk_words.specs.Below.Laws.Images.{has_q, has_some_q}
+use Rattle.mk_words.specs.Below.Laws.LoadedRegisters.{has_q, has_some_q}
 use Rattle.mk_core.specs.Ranges.{is_word_met}
 use Rattle.mk_caller.specs.{Moves.is_access, States.Admits, States.value_of}
 use Rattle.mk_words.specs.{CallSteps.register_of, States.PassState, States.call_of}

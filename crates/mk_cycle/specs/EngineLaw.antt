@@ -4,7 +4,7 @@ use Rattle.mk_never.specs.declared.operations.Op.{Op}
 use Rattle.mk_core.specs.{declared.events.Event.Event, declared.events.Word.Word, declared.seats.Flight.Flight}
 use Rattle.mk_core.specs.declared.seats.Stage.{Stage}
 use Rattle.mk_core.specs.{Words.phase_of, ClosedMarks.MarksAreClosed}
-use Rattle.mk_words.specs.{Below.Laws.Protocol.has_place, Doing.{Does, count_done}}
+use Rattle.mk_words.specs.{Below.Laws.SettledPages.has_place, Doing.{Does, count_done}}
 use Rattle.mk_words.specs.{States.{PassState, WordsState, world_of, now_of, call_of}, Steps.{IsEnabledTo, Makes}}
 use Rattle.mk_cycle.specs.{Kinds.{is_want, begins_marking, closes_marks}, TurnKeeps.{LeavesTurn, KeepsGates, IsGone}}
 use Rattle.mk_cycle.specs.TurnKeeps.{unchanged, but_phase}

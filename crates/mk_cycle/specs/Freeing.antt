@@ -6,7 +6,7 @@ use Rattle.mk_core.specs.{Bits.has_bit, Cells.{head_page, header_in, is_unmapped
 use Rattle.mk_core.specs.{Frames.Steady, Moments.is_held, StopConditions.has_settled_page, Words.{Words, page_of}}
 use Rattle.mk_core.specs.Words.{header_at, quarantine_word, used_at}
 use Rattle.mk_books.specs.Members.{has_freed_cells}
-use Rattle.mk_words.specs.{Below.Laws.LayoutScene.run_count, Below.Laws.Zeros.IsWordOfMapped, Doing.Does}
+use Rattle.mk_words.specs.{Below.Laws.{RunCounts.run_count, FreeWords.IsWordOfMapped}, Doing.Does}
 use Rattle.mk_words.specs.States.{PassState, WordsState, world_of, now_of}
 use Rattle.mk_cycle.specs.{EngineLaw.IsTurnAmong, Kinds.is_giving_back, TurnKeeps.LeavesTurn}
 

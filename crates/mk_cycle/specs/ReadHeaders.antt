@@ -2,7 +2,7 @@
 use Rattle.std.specs.Prelude.{◌≡◌, ℕ, ◌≤◌, Bool, Option, Some}
 use Rattle.mk_geom.specs.{declared.headers.Header.Header, declared.headers.Header.TheVariants.Later, Headers.header_of}
 use Rattle.mk_core.specs.Cells.{is_unmapped_header, words_under}
-use Rattle.mk_words.specs.Below.Laws.LayoutScene.{run_count}
+use Rattle.mk_words.specs.Below.Laws.RunCounts.{run_count}
 
 -- how far a later page is from the head of its run
 abbrev pub distance_under : Option Header → ℕ

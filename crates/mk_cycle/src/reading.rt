@@ -3,7 +3,7 @@
 ghost use Rattle.std.specs.Prelude.{◌≡◌, ◌+◌, ◌*◌, ◌≤◌};
 ghost use Rattle.mk_core.specs.{Cells.{is_unmapped_header, words_under}, Counts.in_a_word};
 ghost use Rattle.mk_geom.specs.{Addresses.head_page_under, Headers.header_of};
-ghost use Rattle.mk_words.specs.Below.Laws.LayoutScene.{run_count};
+ghost use Rattle.mk_words.specs.Below.Laws.RunCounts.{run_count};
 
 use mk_geom::{Header, PAGE_WORDS, class_words, decode};
 use std::marker::Model;

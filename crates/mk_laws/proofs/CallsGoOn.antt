@@ -4,7 +4,8 @@ use Rattle.mk_laws.proofs.Vocabulary.{is_unmapped_header, onward, refused, Momen
 use Rattle.mk_laws.proofs.Vocabulary.{arith, comes_next, false, found, group_of, is_under_turn, not, progress, true}
 use Rattle.mk_laws.proofs.Vocabulary.{◌&&◌, ◌+◌, and_parts, not-true, ◌↔◌, ◌≡◌, ◌≤◌, at_rest}
 use Rattle.mk_core.specs.{Calls.is_same_stage, Readings.is_idle}
-use Rattle.mk_laws.specs.{Protocol.has_stage, Waiting.is_undecided}
+use Rattle.mk_laws.proofs.Protocol.{has_stage}
+use Rattle.mk_laws.specs.Waiting.{is_undecided}
 
 -- The step at a stage of a call.
 abbrev pub next_at : Stage → Step

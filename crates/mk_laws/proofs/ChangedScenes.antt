@@ -4,7 +4,7 @@ use Rattle.mk_laws.proofs.Vocabulary.{IsWordOfMapped, MayHold, OfFreedRun, OfMap
 use Rattle.mk_laws.proofs.Vocabulary.{Step, Words, World, ZeroScene, ℕ, and_parts, arith, false, has_bit, is_phase}
 use Rattle.mk_laws.proofs.Vocabulary.{is_released_there, placed_at, refl, set_by, slice_index, slice_set, subst, sym}
 use Rattle.mk_laws.proofs.{Vocabulary.{true≢false, without, zero_scene_with, ◌∙◌, ◌≡◌, ◌≢◌}, Known.Known}
-use Rattle.mk_laws.{proofs.Released.{IsStanding, all_stand}, specs.ZeroLaws.{ZeroPremises}}
+use Rattle.mk_laws.proofs.{Released.{IsStanding, all_stand}, ZeroLaws.ZeroPremises}
 use Rattle.mk_core.proofs.RegisterAccesses.{LeavesTable}
 
 -- all that is known of the world before

@@ -8,7 +8,7 @@ use Rattle.mk_laws.proofs.Vocabulary.{header_in, heads_run, inl, inr, mul-le, pa
 use Rattle.mk_laws.proofs.Vocabulary.{run_count, slice_index, storage_of, storage_words, sym, true, word_points}
 use Rattle.mk_laws.proofs.Vocabulary.{words_under, ◌*◌, ◌+◌, ◌-◌, ◌/◌, ◌<◌, ◌∙◌, ◌≡◌, ◌≢◌, ◌≤◌, ◌⊎◌}
 use Rattle.mk_core.proofs.PointedPages.{pointed_head}
-use Rattle.mk_laws.{proofs.FoundHeaders.free_shows, specs.Kept.LaterPagesAreKnown, specs.WholeRuns.RunsAreWhole}
+use Rattle.mk_laws.proofs.{FoundHeaders.free_shows, Kept.LaterPagesAreKnown, LaterPages.RunsAreWhole}
 
 -- A number is in only one of equal parts.
 pub one_part : (size i j n : ℕ) → i * size ≤ n → n < i * size + size → j * size ≤ n → n < j * size + size → i ≡ j

@@ -11,7 +11,7 @@ use Rattle.mk_laws.proofs.{Vocabulary.◌≤◌, Basics.{Before, Meets, WorldBeh
 use Rattle.mk_laws.proofs.{Basics.releasing_leaves, LayoutHistories.{in_order_at_first, known_before, order_behind}}
 use Rattle.mk_laws.proofs.{Granted.pushed_new, Known.along_enabled, LayoutByKind.fresh_cells}
 use Rattle.mk_laws.proofs.{QuarantineByKind.frees_here, QuarantineChanges.{FreesHere, before_change}}
-use Rattle.mk_laws.specs.Snapshots.{SnapshotsAreOfCycles}
+use Rattle.mk_laws.proofs.CycleSnapshotLaws.{SnapshotsAreOfCycles}
 
 -- freed, and not after the last `begin`
 abbrev is_freed_before : PlacedAllocation → Bool

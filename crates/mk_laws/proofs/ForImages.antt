@@ -19,8 +19,8 @@ use Rattle.mk_laws.proofs.{Serving.{apart_across, apart_left, own_claim, placed_
 use Rattle.mk_laws.proofs.{TellImages.zeros_tell_the_images, Unmapping.shares_run}
 use Rattle.mk_core.proofs.{GrantedAllocations.{placed_headers, placed_stands}, PointedAllocations.base_points}
 use Rattle.mk_core.specs.NewPlaces.{place_stands}
-use Rattle.mk_laws.specs.{ImagePremises.IsFreedRun, RunGates.HoldsRunGates}
-use Rattle.mk_laws.specs.ImagePremises as images
+use Rattle.mk_laws.proofs.{ImagePremises.IsFreedRun, HeldRunGates.HoldsRunGates}
+use Rattle.mk_laws.proofs.ImagePremises as images
 
 -- Unreleased allocations of one cell are one.
 

@@ -18,9 +18,9 @@ use Rattle.mk_laws.proofs.Vocabulary.{small_pages, small_words, subst, sym, true
 use Rattle.mk_laws.proofs.Vocabulary.{unmapped_header, unmapped_is_unmapped, used_at, words_made, words_under, ◌*◌, ◌+◌}
 use Rattle.mk_laws.proofs.{Vocabulary.{◌-◌, ◌<◌, ◌∙◌, ◌≡◌, ◌≢◌}, Basics.{Behind, Known, Meets, either_phase}}
 use Rattle.mk_laws.proofs.{Basics.{headers_kind, is_head, new_holds}, KeptGuard.{NewCellsAreGuarded, goes_same}}
-use Rattle.mk_laws.{proofs.Wells.{IsWell, bare_guarded}, specs.Kept.{PlaceIsBare, RunHasObject}}
-use Rattle.mk_geom.{proofs.ClassTable.{some_cells}, specs.Addresses.{cell_under, word_at_address}}
-use Rattle.mk_core.{proofs.{ObjectHeaders.{same_cells, same_words}, PageSteps.Unmaps}, specs.NewPlaces.{bits_made}}
+use Rattle.mk_laws.proofs.{Wells.{IsWell, bare_guarded}, Kept.{PlaceIsBare, RunHasObject}}
+use Rattle.mk_geom.{proofs.ClassTable.some_cells, specs.Addresses.{cell_under, word_at_address}}
+use Rattle.mk_core.{proofs.{ObjectHeaders.{same_cells, same_words}, PageSteps.Unmaps}, specs.NewPlaces.bits_made}
 use Rattle.mk_core.proofs.{PointedPages.{found_under, lies_under}, ServingSteps.Carves, WordBits.without_none}
 
 -- It finds no header on its page, marked cells and words 0; or it unmaps, which shows what was shown.

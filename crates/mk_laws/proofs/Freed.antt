@@ -19,7 +19,7 @@ use Rattle.mk_laws.proofs.Serving.{apart_joined, apart_left, apart_right, own_cl
 use Rattle.mk_laws.proofs.{Unmapping.{layout_changed, shares_run}, LayoutReadings.one_claim}
 use Rattle.mk_laws.proofs.{Released.{IsStanding, all_stand}, Releasing.layout_ended}
 use Rattle.mk_core.proofs.CellsOfAllocations.{stands_in_no_other}
-use Rattle.mk_laws.specs.{LayoutScene.IsUnmappedHeaderOf, Terrain.IsCellOf}
+use Rattle.mk_laws.proofs.{LayoutScene.IsUnmappedHeaderOf, Terrain.IsCellOf}
 
 -- While the phase isn't releasing, no cell is released, whatever the snapshot, the freed cells and the marks.
 pub unreleasing : (c : Config) (o : Object) (marks other : List ℕ) (t : Ground) (freed snapshot : List ℕ)

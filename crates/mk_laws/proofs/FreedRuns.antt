@@ -21,7 +21,7 @@ use Rattle.mk_laws.proofs.ProtocolMoves.{Enters, Gives, GoesOn, Holds, Leaves, M
 use Rattle.mk_laws.proofs.{CallSorts.literal, FramesHolders.acts_as_holder, GrantMoves.pointer_cell}
 use Rattle.mk_laws.proofs.{ImagesBefore.page_in, ImagesMoves.IsLonger, Orderly.holders_flight, Orderly.same_holder}
 use Rattle.mk_laws.proofs.{Sorts.moves, Standings.Resting, Standings.Standing, Standings.UnderTurn}
-use Rattle.mk_laws.specs.Mirrors.{OwnsFreedRun, PointsAtRun}
+use Rattle.mk_laws.proofs.Mirrors.{OwnsFreedRun, PointsAtRun}
 
 -- Only a Free that is decided unmaps a run, and that call holds the turn.
 

@@ -20,7 +20,7 @@ use Rattle.mk_laws.proofs.{ImagesBefore.{first_in, is_gone, words_are}, ImagesMo
 use Rattle.mk_never.specs.{NeverHeap.free_reply, declared.operations.Reply.Reply}
 use Rattle.mk_core.proofs.GrantedAllocations.{placed_headers, placed_stands}
 use Rattle.mk_core.specs.{Cells.is_in_run, TurnConditions.{is_in_gone_run, may_wipe}}
-use Rattle.mk_laws.specs.ImagePremises.{OfFreedRun, OfMapped, OfReleased}
+use Rattle.mk_laws.proofs.ImagePremises.{OfFreedRun, OfMapped, OfReleased}
 use Rattle.mk_laws.proofs.Vocabulary.{with_freed as never_freed, word_points, words_of, [], ◌&&◌, ◌*◌, ◌+◌, ◌-◌, ◌/◌}
 
 -- Allocations that change one by one, and stay at their places.

@@ -28,11 +28,12 @@ use Rattle.mk_laws.proofs.{Phases.{is_phase_step, phase_stays}, Wells.{IsWell, b
 use Rattle.mk_geom.specs.StorageWords.{cell_of_storage}
 use Rattle.mk_core.proofs.{PointedAllocations.marked_where_its_cell_is, WordBits.{bit_for_has, bit_of_cell}}
 use Rattle.mk_core.proofs.{WordBits.{bit_of_power, bits_added, more_bits}, PointedPages.cell_within}
-use Rattle.mk_core.{proofs.StandingAllocations.{cell_is_known}, specs.declared.seats.Presence.TheVariants.{Out}}
+use Rattle.mk_core.{proofs.StandingAllocations.cell_is_known, specs.declared.seats.Presence.TheVariants.Out}
 use Rattle.mk_core.specs.{Accesses.scan_bit, Cells.words_point_well, ClosedMarks.is_marked_allocation}
 use Rattle.mk_core.specs.{MarkerConditions.is_markers_word, StopConditions.blackens}
-use Rattle.mk_laws.specs.Kept.{CloseFindsMarksClosed, EventsKeepTheMarks, GuardPremisesAtFirst, MarkingGuards}
-use Rattle.mk_laws.specs.{Kept.{MarksStandBehindLists, StandsMapped, StoppedMarksAreClosed}, Guard.{Guard, MarksStand}}
+use Rattle.mk_laws.proofs.Kept.{CloseFindsMarksClosed, EventsKeepTheMarks, GuardPremisesAtFirst, MarkingGuards}
+use Rattle.mk_laws.proofs.{Kept.{MarksStandBehindLists, StandsMapped, StoppedMarksAreClosed}, Guard.Guard}
+use Rattle.mk_laws.proofs.Guard.{MarksStand}
 
 -- What the markers are in the middle of stands after an event that keeps what is guarded.
 

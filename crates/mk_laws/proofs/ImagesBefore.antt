@@ -14,7 +14,7 @@ use Rattle.mk_laws.proofs.Vocabulary.{unmapped_is_unmapped, word_points, words_o
 use Rattle.mk_laws.proofs.{Vocabulary.{◌∙◌, ◌≡◌, ◌≢◌, ◌≤◌}, ImagesKept.exists_placed, Known.operands_of}
 use Rattle.mk_laws.proofs.{KnownWorlds.KnownWorld, Reached.PagesShow, Ready.Ready, Standings.{InCall, standing}}
 use Rattle.mk_core.proofs.{ObjectHeaders.part_heads_run, StandingAllocations.cell_ends_within}
-use Rattle.mk_laws.specs.ImagePremises.{IsLaidOut}
+use Rattle.mk_laws.proofs.ImagePremises.{IsLaidOut}
 
 -- A large allocation that was freed is unmapped.
 abbrev pub is_gone : Config → PlacedAllocation → Bool

@@ -25,9 +25,10 @@ use Rattle.mk_laws.proofs.{ImagesMoves.{Stores, bases_grow}, EventSorts.goes, Pa
 use Rattle.mk_never.{proofs.Parts.{admitted_split, after_append, replies_append}, specs.{Reach.LeadsTo, Types.zero_of}}
 use Rattle.mk_never.proofs.{Sameness.{equal_from_same, same_from_equal}, Later.calls_stay, Reached.reached_is_in}
 use Rattle.mk_never.proofs.TypedCalls.{calls_keep, start_is_typed}
-use Rattle.mk_core.{proofs.{ChangedAllocations.granted_at, Histories.enabled_more}, specs.History.{never_first}}
-use Rattle.mk_laws.specs.Laws.{HistoriesCompareValues, HistoriesMirrorNever, HistoriesRefineNever, HistoriesTellOthers}
-use Rattle.mk_laws.specs.{Laws.ReachedIsUnreleased, Images.AreTwins, SafeSets.HasSafeSet}
+use Rattle.mk_core.{proofs.{ChangedAllocations.granted_at, Histories.enabled_more}, specs.History.never_first}
+use Rattle.mk_laws.proofs.ImageLaws.{HistoriesCompareValues, HistoriesMirrorNever, HistoriesRefineNever}
+use Rattle.mk_laws.proofs.ImageLaws.{HistoriesTellOthers}
+use Rattle.mk_laws.proofs.{ImageLaws.ReachedIsUnreleased, Images.AreTwins, SafeSets.HasSafeSet}
 
 -- There is a safe set after each move, and the two lists of allocations still go together.
 

@@ -15,7 +15,7 @@ use Rattle.mk_laws.proofs.Vocabulary.{words_of, [], ◌%◌, ◌*◌, ◌++◌, 
 use Rattle.mk_laws.proofs.ImagesMoves.{Decides, Flies, Frees, Grants, Move, Owes, Pays, Releases, Renews, Rests, Shares}
 use Rattle.mk_laws.proofs.{ImagesMoves.{Stores, Wipes, Writes}, Pairs.{bare_carries, bare_owes_nothing, bare_unprobed}}
 use Rattle.mk_laws.proofs.Pairs.{carries_same, image_more, met_same, put_carries, set_both, shows_other, shows_owed}
-use Rattle.mk_laws.{proofs.Pairs.{shows_plain}, specs.Images.{AreImages}}
+use Rattle.mk_laws.proofs.{Pairs.shows_plain, Images.AreImages}
 use Rattle.mk_never.{proofs.{Edits.exists, Stores.this_word}, specs.Types.{zero_of, zero_words}}
 use Rattle.mk_core.proofs.ChangedAllocations.{granted_at}
 use Rattle.std.proofs.{Math.ListN.get_or-map as get_or-map-default, lemmas.List.get_or_at}

@@ -16,11 +16,13 @@ use Rattle.mk_laws.proofs.{FreedRuns.never_after, RunGates.run_gates_behind, Say
 use Rattle.mk_laws.proofs.{TellImages.images_tell_the_zeros, ZerosHistories.{zeros_at_first, zeros_behind}}
 use Rattle.mk_core.specs.{Exchanges.ExchangesCompareValues, History.RefinesNever}
 use Rattle.mk_laws.specs.Theorems.{AllocationsAreDisjoint, AllocationsStand, ClosesFindMarksClosed}
-use Rattle.mk_laws.specs.Theorems.{EventsKeepTheInvariant, FirstFitFindsThePlace, GuardsBlackCells, InvariantAtFirst}
-use Rattle.mk_laws.specs.Theorems.{KeepsTheReach, MarksStayClosed, PagesShowTheStorage}
-use Rattle.mk_laws.specs.ImagePremises as images
-use Rattle.mk_laws.specs.Kept as guard
-use Rattle.mk_laws.specs.ZeroLaws as zeros
+use Rattle.mk_laws.proofs.InvariantLaws.{EventsKeepTheInvariant, InvariantAtFirst}
+use Rattle.mk_laws.specs.Theorems.{FirstFitFindsThePlace, GuardsBlackCells}
+use Rattle.mk_laws.specs.Theorems.{KeepsTheReach, PagesShowTheStorage}
+use Rattle.mk_laws.proofs.InvariantLaws.{MarksStayClosed}
+use Rattle.mk_laws.proofs.ImagePremises as images
+use Rattle.mk_laws.proofs.Kept as guard
+use Rattle.mk_laws.proofs.ZeroLaws as zeros
 
 module _ (c : Config) (w : World) (n : NeverState) (known : KnownWorld c w) (all : Invariant c w n) where
   pub told_to_guard : guard.GuardPremises c w

@@ -5,7 +5,7 @@ use Rattle.mk_laws.proofs.Vocabulary.{PointsWell, Scan, ScanStands, Some, ℕ, a
 use Rattle.mk_laws.proofs.Vocabulary.{false_from_ne_true, first_word, has_bit, has_no_pointers, header_at, header_in}
 use Rattle.mk_laws.proofs.Vocabulary.{header_of, inl, inr, refl, slice_index, sym, true, true≢false, words_under, ◌*◌}
 use Rattle.mk_laws.proofs.Vocabulary.{◌+◌, ◌/◌, ◌<◌, ◌∙◌, ◌≡◌, ◌≢◌, ◌⊎◌}
-use Rattle.mk_laws.{proofs.Wells.IsWell, proofs.Wells.is_well, proofs.Wells.well_guarded, specs.Guard.cell_scanned}
+use Rattle.mk_laws.proofs.{Wells.{IsWell, is_well, well_guarded}, Guard.cell_scanned}
 
 pub goes_same : (pages a : ℕ) → HeaderGoesOn pages a a
 goes_same pages a = record { cell = λ v y h. h; count = λ h. refl; words = λ h. refl; unscanned = λ h t. t }

@@ -11,7 +11,7 @@ use Rattle.mk_laws.proofs.Vocabulary.{storage_of, subst, sym, true, ◌&&◌, �
 use Rattle.mk_laws.proofs.{NoLeaves.{no_leaf_behind, scanned_has_none}, Precise.{HasNoLeaf, IsPrecise, MarkerIsPrecise}}
 use Rattle.mk_laws.proofs.{Precise.{PointsOnlyInto, PrecisionScene, Steps, precision_scene_of}, Worlds.{IsHeld, Told}}
 use Rattle.mk_laws.proofs.{Worlds.{headers, held, stands}, Basics.{WorldBehind, marker_set}, CoveredWords.has_cell}
-use Rattle.mk_laws.{proofs.MarkSteps.{points_behind}, specs.Guard.{EndsItsCell, cell_scanned}}
+use Rattle.mk_laws.proofs.{MarkSteps.points_behind, Guard.{EndsItsCell, cell_scanned}}
 use Rattle.mk_core.specs.Effects.{hand_behind_look, open_hand}
 
 -- A marker that is in the middle of nothing holds and has seen nothing.

@@ -9,7 +9,7 @@ use Rattle.mk_laws.proofs.Basics.{is_head, known_behind, known_left, wells_from}
 use Rattle.mk_laws.proofs.{FoundHeaders.{head_finds, head_keeps}, ProtocolFrames.{left_after, other_seat, others_leave}}
 use Rattle.mk_laws.proofs.{ProtocolFrames.still_attends, Changes.marks_kind, Wells.{is_well, well_is}}
 use Rattle.mk_core.specs.Frames.{Attends, HeadersAreLeft}
-use Rattle.mk_laws.specs.Left.{OthersLeaveHeaders, OthersLeaveWells}
+use Rattle.mk_laws.proofs.Left.{OthersLeaveHeaders, OthersLeaveWells}
 
 headers_joined : {c : Config} {w u v : World} → HeadersAreLeft c w u → HeadersAreLeft c u v → HeadersAreLeft c w v
 headers_joined a b = record {

@@ -5,7 +5,7 @@ use Rattle.mk_laws.proofs.Vocabulary.{ShowsPart, ℕ, ap, arith, cases_eq, cells
 use Rattle.mk_laws.proofs.Vocabulary.{has_bit, head_on, header_made, header_of, header_on, inl, inr, is_released_on}
 use Rattle.mk_laws.proofs.Vocabulary.{length, length-set, made_shows, pages_made, pages_some, part_cells, refl, set_by}
 use Rattle.mk_laws.proofs.Vocabulary.{shown_later, shows_on, stands, sym, true, true≢false, used_on, [], ◌++◌, ◌+◌, ◌-◌}
-use Rattle.mk_laws.{proofs.Vocabulary.{◌<◌, ◌^◌, ◌∙◌, ◌∷◌, ◌≡◌, ◌≢◌, ◌≤◌, ◌⊎◌}, specs.LayoutScene.{IsTakenCell}}
+use Rattle.mk_laws.proofs.{Vocabulary.{◌<◌, ◌^◌, ◌∙◌, ◌∷◌, ◌≡◌, ◌≢◌, ◌≤◌, ◌⊎◌}, LayoutScene.IsTakenCell}
 use Rattle.mk_laws.proofs.LayoutReadings.{claimed_head, claimed_some, free_unused, none_set, zero_where_none}
 use Rattle.mk_laws.proofs.Releasing.{head_of_other, headed_here, headed_other, headed_used, shown_beside, used_header}
 use Rattle.mk_laws.proofs.{Releasing.{used_here, with_header_on, with_used_on}, Unmapping.part_count}

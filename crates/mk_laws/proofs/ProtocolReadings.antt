@@ -4,7 +4,7 @@ use Rattle.mk_laws.proofs.Vocabulary.{arith, cases_Bool, cases_eq, cases_lt, fal
 use Rattle.mk_laws.proofs.Vocabulary.{is_in, left, marker_of, not, true, ◌-◌, ◌/◌, ◌<◌, ◌≡◌, ◌≤◌}
 use Rattle.mk_core.specs.{MarkerConditions.is_out, Readings.GateTells, Readings.PhaseTells, Readings.TurnTells}
 use Rattle.mk_laws.proofs.{Orderly.count_in-at, ProtocolHeldGates.gates_tell_holds, Protocols.lists_keep_the_protocol}
-use Rattle.mk_laws.specs.HolderReadings.{WordsTell}
+use Rattle.mk_laws.proofs.HolderReadings.{WordsTell}
 
 turn_tells : {c : Config} {m : Moment} → Protocol c m → TurnTells c m
 turn_tells {c} {m} p = record {

@@ -4,7 +4,7 @@ use Rattle.mk_laws.proofs.Vocabulary.{false, flight_of, get_or_past, is_decided_
 use Rattle.mk_laws.proofs.{Vocabulary.{true, ◌+◌, ◌-◌, ◌<◌, ◌↔◌, ◌∙◌, ◌≡◌, ◌≢◌, ◌≤◌}, Basics.{Known, Orderly}}
 use Rattle.mk_laws.proofs.Basics.{flight_in, gate_in, in_call_told, known_left, not_astray, standing, view_of}
 use Rattle.mk_laws.proofs.Standings.{in_turn_told, is_standing_in_call, shows_gate, shows_turn, stage_told}
-use Rattle.mk_laws.{proofs.Known.{HaveOperands}, specs.Protocol.{ListsKeepTheProtocol, SomeCaller, is_decided_new}}
+use Rattle.mk_laws.proofs.{Known.HaveOperands, Protocol.{ListsKeepTheProtocol, SomeCaller, is_decided_new}}
 
 -- what is in order is as the protocol says
 

@@ -11,7 +11,7 @@ use Rattle.mk_laws.proofs.Vocabulary.{small, small_cells, stands_in, suc, sym, t
 use Rattle.mk_laws.proofs.Vocabulary.{◌*◌, ◌++◌, ◌+◌, ◌/◌, ◌<◌, ◌^◌, ◌∙◌, ◌∷◌, ◌≡◌, ◌≤◌, ◌⊎◌}
 use Rattle.mk_laws.proofs.Basics.{IsStanding, LeavesCells, bit_cases, freeing_leaves, releasing_leaves, same_cell}
 use Rattle.mk_laws.proofs.{Granted.{pushed_at, still_at}, LayoutByKind.fresh_cells, QuarantineSteps.least_set}
-use Rattle.mk_laws.{proofs.Released.{left_is}, specs.Terrain.{IsCellOf}}
+use Rattle.mk_laws.proofs.{Released.left_is, Terrain.IsCellOf}
 use Rattle.mk_geom.proofs.ClassTable.{class_words_within}
 use Rattle.mk_core.proofs.WordBits.{added_here, added_other, sum_is_or}
 

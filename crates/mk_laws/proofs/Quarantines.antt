@@ -4,7 +4,8 @@ use Rattle.mk_laws.proofs.Vocabulary.{append_assoc, earlier_part_is_history, his
 use Rattle.mk_laws.proofs.Vocabulary.{left_in_parts, subst, sym, [], ◌++◌, ◌∷◌, ◌≡◌}
 use Rattle.mk_laws.proofs.InvariantHistories.{histories_keep_the_invariant, told_to_layout}
 use Rattle.mk_laws.proofs.{Basics.known_world, CycleSnapshots.snapshots_are_of_cycles, ResidentPages.resident_few}
-use Rattle.mk_laws.specs.Theorems.{FewPagesAreResident, PagesHaveHeaderWords, SnapshotIsTheCycles}
+use Rattle.mk_laws.specs.Theorems.{FewPagesAreResident}
+use Rattle.mk_laws.proofs.InvariantLaws.{PagesHaveHeaderWords, SnapshotIsTheCycles}
 
 pub pages_have_header_words : OfHistories PagesHaveHeaderWords
 pages_have_header_words c es h = (histories_keep_the_invariant c es h).order.words

@@ -7,7 +7,7 @@ use Rattle.mk_core.specs.{Layout.IsOfTable, Layout.NamesWord, Ranges.is_word, Ra
 use Rattle.mk_laws.proofs.Basics.{Known, Meets, is_grant, known_left, operands_of, register_small}
 use Rattle.mk_laws.proofs.ScansInHeap.{MarkerFits, next_in_heap, nothing_fits, scan_page_in_heap, seen_page_in_heap}
 use Rattle.mk_laws.proofs.{InHeap.InHeap, InHeap.in_heap_left, Known.Operands, ProtocolFrames.others_leave}
-use Rattle.mk_laws.specs.Reaching.{EventsReachTheTable, OthersLeaveAccesses}
+use Rattle.mk_laws.proofs.ReachedWords.{EventsReachTheTable, OthersLeaveAccesses}
 
 -- what is known of a seat
 

@@ -5,7 +5,7 @@ use Rattle.mk_laws.proofs.Vocabulary.{answers_of, ap, arith, asked, bases_of, bi
 use Rattle.mk_laws.proofs.Vocabulary.{eq-eqb, false, flagged, if◌then◌else◌, image_of, inl, inr, is_same, kinds_of}
 use Rattle.mk_laws.proofs.Vocabulary.{length, ne_eqb, one_if, placed_at, refl, replies_of, slice_set, sym, true}
 use Rattle.mk_laws.proofs.Vocabulary.{words_of, [], ◌++◌, ◌+◌, ◌<◌, ◌==◌, ◌^◌, ◌∙◌, ◌∷◌, ◌≡◌}
-use Rattle.mk_laws.{proofs.{ImagesKept.{AreApart, AreSmall, base_at}, ImagesMoves.Move}, specs.Images.{AreImages}}
+use Rattle.mk_laws.proofs.{ImagesKept.{AreApart, AreSmall, base_at}, ImagesMoves.Move, Images.AreImages}
 use Rattle.mk_never.proofs.{Sameness.{equal_from_same, same_from_equal}, Soundness.place_is_inside}
 use Rattle.mk_never.specs.NeverHeap.{reply_of}
 

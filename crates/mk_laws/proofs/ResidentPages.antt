@@ -1,5 +1,5 @@
 -- How many pages are resident or in a plot, if few change.
-use Rattle.std.{proofs.{Common.min, lemmas.List.Recursion.is_count_by}, specs.List.{count_by}}
+use Rattle.std.{proofs.{Common.min, lemmas.List.Recursion.is_count_by}, specs.List.count_by}
 use Rattle.mk_laws.proofs.Vocabulary.{Bool, Config, Header, List, NoPlot, Object, Option, Page, Placing, Plot, World, ℕ}
 use Rattle.mk_laws.proofs.Vocabulary.{arith, cond, count_below, false, free_page, get_or-set_other, header_of}
 use Rattle.mk_laws.proofs.Vocabulary.{if◌then◌else◌, inl, inr, is_resident_page, is_unmapped_header, leb-true, length}
@@ -9,7 +9,7 @@ use Rattle.mk_laws.proofs.Vocabulary.{use_under, used_on, uses_of_pages, zero, �
 use Rattle.mk_laws.proofs.{Vocabulary.{◌≢◌, ◌≤◌}, Basics.{with_header_on, with_used_on}}
 use Rattle.mk_geom.specs.{PageWords.use_of_page, StorageWords.page_in}
 use Rattle.mk_books.proofs.PlaceLemmas.{count_by-map}
-use Rattle.mk_laws.specs.Room.{HasRoom, in_plot, is_taken_page}
+use Rattle.mk_laws.proofs.Room.{HasRoom, in_plot, is_taken_page}
 
 -- Counts of the numbers below one that pass a test.
 

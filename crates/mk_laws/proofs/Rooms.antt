@@ -15,7 +15,7 @@ use Rattle.mk_laws.proofs.{Basics.{with_header_on, with_used_on}, ResidentPages.
 use Rattle.mk_laws.proofs.ResidentPages.{resident_count, resident_gone, resident_other, resident_used, room_same}
 use Rattle.mk_laws.proofs.{ResidentPages.{room_unplaced, unmapped_use}, Serving.{OnChosen, OnFree, Stands, not_again}}
 use Rattle.mk_laws.proofs.{Serving.placed_for, Behind.object_kind, Fits.{FitsOnFreePages, fits}, Sorts.chosen_none}
-use Rattle.mk_laws.specs.Room.{HasRoom}
+use Rattle.mk_laws.proofs.Room.{HasRoom}
 
 -- The place is chosen, if this many pages are free.
 chosen_room : (c : Config) {o : Object} {pages : List Page} {place : Place} → length pages ≡ c.pages

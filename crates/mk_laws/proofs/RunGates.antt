@@ -7,7 +7,7 @@ use Rattle.mk_laws.proofs.Vocabulary.{nothing_done, or_else, refl, run_headed, r
 use Rattle.mk_laws.proofs.Vocabulary.{slice_set, subst, sym, target, true, true≢false, word_met, ◌+◌, ◌<◌, ◌==◌, ◌∙◌}
 use Rattle.mk_laws.proofs.{Vocabulary.{◌≡◌, ◌≢◌}, Basics.{Behind, Known, KnownWorld, Meets, at_its_stage}}
 use Rattle.mk_laws.proofs.Basics.{free_has_turn, others_held, reg_keeps, tally_keeps, turn_of, view_of}
-use Rattle.mk_laws.{proofs.{EventSorts.held_idle, RunWords.gone_behind}, specs.RunGates.{HoldsRunGates}}
+use Rattle.mk_laws.proofs.{EventSorts.held_idle, RunWords.gone_behind, HeldRunGates.HoldsRunGates}
 use Rattle.mk_core.proofs.ListTests.{implied}
 
 -- Gates that are held stay so after any step but `open`.

@@ -14,7 +14,7 @@ use Rattle.mk_laws.proofs.Basics.{is_call_stage, not_astray, ready_of, standing_
 use Rattle.mk_laws.proofs.{CallSorts.admitted_call, CallSorts.call_outside, FreedRuns.decided_free_gives}
 use Rattle.mk_laws.proofs.{GrantMoves.pointer_cell, ImagesKept.own_plain, NextSteps.has_stage_of_its_own}
 use Rattle.mk_laws.proofs.{NextSteps.stage_of, Protocols.protocol_of, Reached.Reaches, Reached.reaches}
-use Rattle.mk_laws.specs.ImagesSay.{IsCellOfUnreleased, IsMappedWord}
+use Rattle.mk_laws.proofs.ImagesSay.{IsCellOfUnreleased, IsMappedWord}
 
 abbrev is_storing : Stage → Bool
 is_storing s = list_any (is_same_stage s) (Stage.Write ∷ Stage.Cas ∷ [])

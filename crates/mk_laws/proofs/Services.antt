@@ -2,7 +2,7 @@
 use Rattle.mk_laws.proofs.Vocabulary.{Flight, Granted, Holding, None, Op, Option, Placing, RunPages, Stage, Unplaced}
 use Rattle.mk_laws.proofs.Vocabulary.{arith, false, has_place, is_decided_free_at, is_new_at, is_some}
 use Rattle.mk_laws.proofs.{Vocabulary.{is_undecided_free, is_undecided_new, true, ◌≡◌}, Stages.gives_stand}
-use Rattle.mk_laws.{proofs.Standings.{UnderTurn, standing}, specs.Protocol.{is_decided_new_at, is_granted}}
+use Rattle.mk_laws.proofs.{Standings.{UnderTurn, standing}, Protocol.{is_decided_new_at, is_granted}}
 
 -- what is done is done for a call at this stage
 pub record Serves (s : Stage) (o : Op) (placing : Placing) (run : Option RunPages) : Type 0 where

@@ -22,7 +22,7 @@ use Rattle.mk_laws.proofs.Stages.{goes_on, is_call_stage, is_reg_stage, loads_un
 use Rattle.mk_laws.proofs.{Stages.{refused_stands, reg_no_new, reg_stands, regs_work}, Standings.{Astray, InCall}}
 use Rattle.mk_laws.proofs.Standings.{Resting, Standing, UnderTurn, is_astray, standing, standing_at}
 use Rattle.mk_laws.proofs.Views.{HoldsTurn, View, flight_in, flight_is, flights_with, gate_in, view_of}
-use Rattle.mk_laws.{proofs.IdleMarkers.{work_idles, work_stays}, specs.Protocol.{is_granted}}
+use Rattle.mk_laws.proofs.{IdleMarkers.{work_idles, work_stays}, Protocol.is_granted}
 use Rattle.mk_core.specs.declared.seats.Presence.TheVariants.{Attending, Visiting}
 
 -- How a step of the turn's holder serves its call.

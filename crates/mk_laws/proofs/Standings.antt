@@ -1,6 +1,6 @@
 -- Where a caller stands, and what the turn word and its gate show of it.
 use Rattle.mk_laws.proofs.Vocabulary.{Bool, Flight, Op, Stage, ℕ, arith, false, is_under_turn, not, true, ◌&&◌, ◌+◌}
-use Rattle.mk_laws.{proofs.Vocabulary.{◌↔◌, ◌≡◌, ◌≢◌, ◌≤◌}, specs.Protocol.{has_stage}}
+use Rattle.mk_laws.proofs.{Vocabulary.{◌↔◌, ◌≡◌, ◌≢◌, ◌≤◌}, Protocol.has_stage}
 use Rattle.mk_core.specs.Readings.{is_idle}
 
 -- between calls, in a call outside the turn, in a New or a Free, or at a stage that the operation hasn't

@@ -12,8 +12,8 @@ use Rattle.mk_laws.proofs.{BarePages.{Unreleasing, bare_page, plot_page, shown_t
 use Rattle.mk_laws.proofs.Basics.{all_stand, first_header, holding_object, known_world, made_sized, mapped_stays}
 use Rattle.mk_laws.proofs.{Basics.new_has_turn, Serving.{OnChosen, OnFree, Stands, placed_for}}
 use Rattle.mk_laws.proofs.{LayoutReadings.header_of_mode, QuarantineByKind.shown_at, WholeRuns.whole_quiet}
-use Rattle.mk_laws.specs.Kept.{LaterPagesAreKnown, PlaceIsBare, RunHasObject, StandsMapped}
-use Rattle.mk_laws.specs.ZerosTell.{ZerosTellTheGuard}
+use Rattle.mk_laws.proofs.Kept.{LaterPagesAreKnown, PlaceIsBare, RunHasObject, StandsMapped}
+use Rattle.mk_laws.proofs.ZerosTell.{ZerosTellTheGuard}
 
 -- The pages of a run after its head
 

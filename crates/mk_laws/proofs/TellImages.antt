@@ -3,9 +3,9 @@ use Rattle.mk_laws.proofs.Vocabulary.{AreAdmitted, Caller, Config, ImagesSay, Is
 use Rattle.mk_laws.proofs.Vocabulary.{MayHoldWords, NeverState, OfFreedRun, OfMapped, OfReleased, Seat, Step, World, ℕ}
 use Rattle.mk_laws.proofs.Vocabulary.{asked, call_decided, enabled_meets, false≢true, flight_of, inl, inr}
 use Rattle.mk_laws.proofs.Vocabulary.{is_heap_store, refl, true, word_met, zero_scene_of, ◌≡◌}
-use Rattle.mk_laws.specs.ZerosTell.{ImagesTellTheZeros, ZerosTellTheImages}
-use Rattle.mk_laws.specs.ImagePremises as images
-use Rattle.mk_laws.specs.ImagesSay as said
+use Rattle.mk_laws.proofs.ZerosTell.{ImagesTellTheZeros, ZerosTellTheImages}
+use Rattle.mk_laws.proofs.ImagePremises as images
+use Rattle.mk_laws.proofs.ImagesSay as said
 
 pub zeros_tell_the_images : ZerosTellTheImages
 zeros_tell_the_images c w z n some = by (z n some)

@@ -1,7 +1,7 @@
 -- The words of the heap and of its steps, and the lemmas of std and of the crates below that several proofs name.
 pub use Rattle.std.proofs.Common.{Bool, List, [], ap, append-nil, append_assoc, arith, drop, false, get_or, inl, inr}
 pub use Rattle.std.proofs.Common.{length, length-set, map, refl, subst, suc, sym, take, true, zero, ℕ, ◌%◌, ◌*◌, ◌++◌}
-pub use Rattle.std.{proofs.Common.{◌+◌, ◌-◌, ◌/◌, ◌<◌, ◌^◌, ◌↔◌, ◌∙◌, ◌∷◌, ◌≡◌, ◌≢◌, ◌≤◌, ◌⊎◌}, specs.List.{list_any}}
+pub use Rattle.std.{proofs.Common.{◌+◌, ◌-◌, ◌/◌, ◌<◌, ◌^◌, ◌↔◌, ◌∙◌, ◌∷◌, ◌≡◌, ◌≢◌, ◌≤◌, ◌⊎◌}, specs.List.list_any}
 pub use Rattle.std.proofs.lemmas.Bool.{and_from, and_parts, and_right, cases_Bool, cases_eq, cases_lt, cond-false}
 pub use Rattle.std.proofs.lemmas.Bool.{cond-true, eq-eqb, eqb-false, eqb-true, false_from_ne_true, false≢true, le-leb}
 pub use Rattle.std.proofs.lemmas.Bool.{leb-true, lt-ltb, ltb-true, ne_eqb, not-true, or_cases, or_from, or_left}
@@ -120,27 +120,34 @@ unfoldable pub use Rattle.mk_core.proofs.SmallCycles.{begun_in_stop, marked_in_s
 pub use Rattle.mk_core.proofs.{SmallHistories.stopped_is_history, StandingAllocations.{cells_begin, first_page_shows}}
 pub use Rattle.mk_core.proofs.StandingAllocations.{run_begins, standing_has_storage, storage_holds, typed_size}
 pub use Rattle.mk_core.proofs.{UnreleasedStorage.storage_is_of, WordBits.{fewer_bits, no_bit}}
-pub use Rattle.mk_laws.specs.{FreePages.HasAllocation, FreeWords.Leaves, Ground.{Ground, ground_of}}
-pub use Rattle.mk_laws.specs.Guard.{CellsAreClosed, HeaderGoesOn, IsMarking, MarkerStands, ScanStands}
-pub use Rattle.mk_laws.specs.ImagePremises.{ImagePremises, IsPlaceOfNone, MayHoldWords, run_of_allocation}
-pub use Rattle.mk_laws.specs.Images.{Carries, CarriesOwn, ImageScene, IsMet, ProbedOwn, flight_among, has_p, has_r}
-pub use Rattle.mk_laws.specs.{Images.{has_some_p, image_scene_of, is_past_probe, is_put, shown}, ImagesSay.ImagesSay}
-pub use Rattle.mk_laws.specs.{Invariant.Invariant, Kept.GuardPremises}
-unfoldable pub use Rattle.mk_laws.specs.Kept.{GuardPremisesFrom}
-pub use Rattle.mk_laws.specs.{Laws.ImagePremisesAlong, LayoutLaws.{LayoutPremises, StandsInOrder}}
-unfoldable pub use Rattle.mk_laws.specs.LayoutLaws.{LayoutPremisesFrom}
-pub use Rattle.mk_laws.specs.LayoutScene.{Among, AreApart, Claim, HasHeader, HasItsHead, InPlot, IsClaimed, IsLaidOn}
-pub use Rattle.mk_laws.specs.LayoutScene.{IsOfOneCell, IsPlotShown, IsShown, LayoutScene, Mapped, Mode, NoPlot, Plot}
-pub use Rattle.mk_laws.specs.LayoutScene.{PlotStands, Plotted, Unmapping, head_on, header_on, is_released_in}
-pub use Rattle.mk_laws.specs.{LayoutScene.{is_released_on, run_count, shows_on, used_on}, Mirrors.Mirrors}
-pub use Rattle.mk_laws.specs.{Precision.through_release, Protocol.{IsIdle, Protocol, has_place, is_decided_free}}
-pub use Rattle.mk_laws.specs.{Protocol.is_decided_free_at, Quarantine.{HasQuarantine, IsFreedCell, IsQuarantined}}
-pub use Rattle.mk_laws.specs.Quarantine.{KeepsSnapshot, has_bit_of, is_cycling}
-unfoldable pub use Rattle.mk_laws.specs.Room.{count_below}
-pub use Rattle.mk_laws.specs.{SafeSets.{IsSafe, IsSafeSet}, SettledPages.IsSettled, Terrain.{HasLayout, IsAtCell}}
-pub use Rattle.mk_laws.specs.Terrain.{IsClaimedRun, LayoutStands, RunStands, claim_of, claims_of, claims_on}
-pub use Rattle.mk_laws.specs.Terrain.{claims_placed, is_unmapping, layout_scene_of, mode_of, object_now, place_claim}
-pub use Rattle.mk_laws.specs.{Terrain.plot_of, Theorems.{KeepsTheInvariant, OfHistories}, ZeroLaws.is_heap_store}
-pub use Rattle.mk_laws.specs.Zeros.{HasZeros, IsFreedWord, IsReleasedWord, IsWordOfMapped, MayHold, OfFreedRun}
-pub use Rattle.mk_laws.specs.Zeros.{OfMapped, OfReleased, OthersAreZero, ZeroScene, is_released_there, zero_scene_of}
-pub use Rattle.mk_laws.specs.Zeros.{zero_scene_with}
+pub use Rattle.mk_laws.specs.{FreePages.HasAllocation, FreeWords.Leaves}
+pub use Rattle.mk_laws.proofs.Grounds.{Ground, ground_of}
+pub use Rattle.mk_laws.specs.ClosedCells.{CellsAreClosed}
+pub use Rattle.mk_laws.proofs.Guard.{HeaderGoesOn, IsMarking, MarkerStands, ScanStands}
+pub use Rattle.mk_laws.proofs.ImagePremises.{ImagePremises, IsPlaceOfNone, MayHoldWords, run_of_allocation}
+pub use Rattle.mk_laws.proofs.Images.{Carries, CarriesOwn, ImageScene, IsMet, ProbedOwn, flight_among, has_p, has_r}
+pub use Rattle.mk_laws.proofs.{Images.{has_some_p, image_scene_of, is_past_probe, is_put, shown}, ImagesSay.ImagesSay}
+pub use Rattle.mk_laws.proofs.{Invariant.Invariant, Kept.GuardPremises}
+unfoldable pub use Rattle.mk_laws.proofs.Kept.{GuardPremisesFrom}
+pub use Rattle.mk_laws.proofs.{ImageLaws.ImagePremisesAlong, LayoutLaws.{LayoutPremises, StandsInOrder}}
+unfoldable pub use Rattle.mk_laws.proofs.LayoutLaws.{LayoutPremisesFrom}
+pub use Rattle.mk_laws.proofs.LayoutScene.{Among, AreApart, Claim, HasHeader, HasItsHead, InPlot, IsClaimed, IsLaidOn}
+pub use Rattle.mk_laws.proofs.LayoutScene.{IsOfOneCell, IsPlotShown, IsShown, LayoutScene, Mapped, Mode, NoPlot, Plot}
+pub use Rattle.mk_laws.proofs.LayoutScene.{PlotStands, Plotted, Unmapping, head_on, header_on, is_released_in}
+pub use Rattle.mk_laws.proofs.{LayoutScene.{is_released_on, shows_on, used_on}, Mirrors.Mirrors}
+pub use Rattle.mk_laws.specs.RunCounts.{run_count}
+pub use Rattle.mk_laws.specs.{Precision.through_release, SettledPages.has_place}
+pub use Rattle.mk_laws.proofs.Protocol.{IsIdle, Protocol, is_decided_free}
+pub use Rattle.mk_laws.proofs.{Protocol.is_decided_free_at, Quarantine.{HasQuarantine, IsFreedCell, IsQuarantined}}
+pub use Rattle.mk_laws.proofs.Quarantine.{KeepsSnapshot, has_bit_of, is_cycling}
+unfoldable pub use Rattle.mk_laws.proofs.Room.{count_below}
+pub use Rattle.mk_laws.proofs.{SafeSets.{IsSafe, IsSafeSet}, Terrain.{HasLayout, IsAtCell}}
+pub use Rattle.mk_laws.specs.SettledPages.{IsSettled}
+pub use Rattle.mk_laws.proofs.Terrain.{IsClaimedRun, LayoutStands, RunStands, claim_of, claims_of, claims_on}
+pub use Rattle.mk_laws.proofs.Terrain.{claims_placed, is_unmapping, layout_scene_of, mode_of, object_now, place_claim}
+pub use Rattle.mk_laws.proofs.{Terrain.plot_of, InvariantLaws.KeepsTheInvariant, ZeroLaws.is_heap_store}
+pub use Rattle.mk_laws.specs.Theorems.{OfHistories}
+pub use Rattle.mk_laws.proofs.Zeros.{HasZeros, IsFreedWord, IsReleasedWord, MayHold, OfFreedRun}
+pub use Rattle.mk_laws.specs.FreeWords.{IsWordOfMapped}
+pub use Rattle.mk_laws.proofs.Zeros.{OfMapped, OfReleased, OthersAreZero, ZeroScene, is_released_there, zero_scene_of}
+pub use Rattle.mk_laws.proofs.Zeros.{zero_scene_with}

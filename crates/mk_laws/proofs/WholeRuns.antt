@@ -13,7 +13,7 @@ use Rattle.mk_laws.proofs.Basics.{claimed, headed_other, is_releasing_behind, no
 use Rattle.mk_laws.proofs.Basics.{tally_ground, used_header, with_header_on, with_used_on, zero_where_none}
 use Rattle.mk_laws.proofs.{Releasing.{headed_here, headed_used}, Behind.phase_kind, Unmapping.{part_count, small_count}}
 use Rattle.mk_core.proofs.ObjectHeaders.{later_part}
-use Rattle.mk_laws.specs.WholeRuns.{HasLaterPage, HaveWholeRuns, RunIsWhole, RunsAreWhole}
+use Rattle.mk_laws.proofs.LaterPages.{HasLaterPage, HaveWholeRuns, RunIsWhole, RunsAreWhole}
 
 -- While nothing is on its way, each page with a header is one of a claim's.
 

@@ -12,7 +12,7 @@ use Rattle.mk_laws.proofs.InvariantHistories.{told_to_images}
 use Rattle.mk_geom.proofs.Standing.{stands_at_first, stands_from}
 use Rattle.mk_core.proofs.{PointedPages.{PointsTo, points_to}, PointedAllocations.pointers_come_back}
 use Rattle.mk_core.proofs.StandingAllocations.{pointers_hit}
-use Rattle.mk_laws.specs.ImagePremises as images
+use Rattle.mk_laws.proofs.ImagePremises as images
 pub use Rattle.mk_laws.proofs.FreeWords.{IsOfOne as IsHeld}
 
 -- all that is known of it

@@ -19,8 +19,8 @@ use Rattle.mk_laws.proofs.{ZerosPageKinds.{gone_word, head_kind, quar_kind, used
 use Rattle.mk_laws.proofs.{LayoutByKind.off_at, LayoutHistories.histories_are_laid_out, QuarantineByKind.shown_at}
 use Rattle.mk_laws.proofs.QuarantineChanges.{index_small}
 use Rattle.mk_core.proofs.{PointedPages.pointed_within, RegisterAccesses.{register_leaves, tally_leaves}}
-use Rattle.mk_laws.specs.ZeroLaws.{EventsKeepTheZeros, ZeroPremises, ZeroPremisesFrom, ZerosStandBehindLists}
-use Rattle.mk_laws.specs.LayoutLaws as layout
+use Rattle.mk_laws.proofs.ZeroLaws.{EventsKeepTheZeros, ZeroPremises, ZeroPremisesFrom, ZerosStandBehindLists}
+use Rattle.mk_laws.proofs.LayoutLaws as layout
 
 -- What each kind of event makes of the words that may hold values.
 

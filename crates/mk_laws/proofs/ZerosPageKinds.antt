@@ -19,7 +19,7 @@ use Rattle.mk_laws.proofs.Vocabulary.{words_under, zero_scene_with, ◌&&◌, �
 use Rattle.mk_laws.proofs.{Vocabulary.{◌≢◌, ◌≤◌, ◌⊎◌}, Basics.{IsStanding, Laid, Meets, changed_words, free_has_turn}}
 use Rattle.mk_laws.proofs.{Basics.{mapped_stays, none_on_its_way, none_set}, ChangedScenes.{Before, early_words, here}}
 use Rattle.mk_laws.proofs.{ChangedScenes.standing, Freed.{run_large, standing_cell}, LayoutByKind.off_at}
-use Rattle.mk_laws.{proofs.MappedWords.{word_of_changed}, specs.Zeros.{first_word_on}}
+use Rattle.mk_laws.proofs.{MappedWords.word_of_changed, Zeros.first_word_on}
 use Rattle.mk_core.proofs.{ChangedAllocations.freed_storage, PageSteps.wiped_cell, PointedPages.pointed_head}
 use Rattle.mk_core.proofs.WordBits.{rest_bits}
 

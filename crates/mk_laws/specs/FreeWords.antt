@@ -1,14 +1,13 @@
 -- Which words of the heap are 0 while the phase isn't releasing: all that are of no unreleased allocation.
 use Rattle.std.specs.Prelude.{◌≡◌, ◌≢◌, ℕ, ◌*◌, ◌/◌, ◌%◌, ◌<◌, ◌≤◌, true, false, List, slice_index, Option, Some}
-use Rattle.mk_geom.specs.{declared.addresses.Cell.Cell, declared.headers.Header.Header}
+use Rattle.mk_geom.specs.declared.{addresses.Cell.Cell, headers.Header.Header}
 use Rattle.mk_geom.specs.declared.headers.Header.TheVariants.{Free, Block, LeafBlock}
 use Rattle.mk_geom.specs.{Classes.{cells_of, class_words_of}, StorageWords.IsWordOf}
-use Rattle.mk_core.specs.{declared.config.Config.Config, declared.events.Event.Event, Words.phase_of}
-use Rattle.mk_core.specs.{Cells.{cell_words, cells_under, first_word, header_in, words_are_zero}, NewPlaces.is_run_gone}
+use Rattle.mk_core.specs.{declared.{config.Config.Config, events.Event.Event}, Words.phase_of}
+use Rattle.mk_core.specs.Cells.{cell_words, cells_under, first_word, header_in, words_are_zero}
+use Rattle.mk_core.specs.NewPlaces.{is_run_gone}
 use Rattle.mk_core.specs.{Allocations.{PlacedAllocation, placed_at, is_mapped, storage_of}, History.{World, left}}
 use Rattle.mk_core.specs.Readings.{IsTaken}
-
--- no unreleased allocation has the word, or no mapped one
 
 -- Heap word n is of no unreleased allocation.
 abbrev pub IsOfNone : Config → List PlacedAllocation → ℕ → Type 0
@@ -18,7 +17,13 @@ IsOfNone c xs n = (i : ℕ) → (placed_at xs i).released ≡ false → IsWordOf
 abbrev pub IsOfNoneMapped : Config → List PlacedAllocation → ℕ → Type 0
 IsOfNoneMapped c xs n = (i : ℕ) → is_mapped c (placed_at xs i) ≡ true → IsWordOf (storage_of c (placed_at xs i)) n → ⊥
 
--- Such a word is 0,
+-- The word is one of a mapped allocation.
+pub record IsWordOfMapped (c : Config) (xs : List PlacedAllocation) (n : ℕ) : Type 0 where
+  pub number : ℕ
+  pub mapped : is_mapped c (placed_at xs number) ≡ true
+  pub word : IsWordOf (storage_of c (placed_at xs number)) n
+
+-- A word of no unreleased allocation is 0,
 abbrev pub WordsOfNoneAreZero : Config → World → Type 0
 WordsOfNoneAreZero c w =
     phase_of w.now.words ≢ 4 → (n : ℕ) → IsOfNone c w.allocations n → slice_index w.now.words.heap n ≡ 0

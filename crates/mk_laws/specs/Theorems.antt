@@ -1,34 +1,18 @@
 -- What holds of all histories.
-use Rattle.std.specs.{Prelude.{◌≡◌, ℕ, false, List, [], ◌∷◌, ◌++◌, ◌≤◌, true}, List.list_any}
+use Rattle.std.specs.Prelude.{◌≡◌, ℕ, false, List, ◌∷◌, ◌++◌, ◌≤◌}
 use Rattle.mk_never.specs.Reach.{IsReachable}
 use Rattle.mk_geom.specs.{StorageWords.IsWordOf, Storages.PagesStandFor, PageUses.resident_pages}
 use Rattle.mk_geom.specs.PageWords.{uses_of_pages}
-use Rattle.mk_core.specs.{declared.config.Config.Config, declared.events.Event.Event, declared.events.Seat.Seat}
-use Rattle.mk_core.specs.{declared.seats.Object.Object, Allocations.{place_among_allocations, placed_at, storage_of}}
-use Rattle.mk_core.specs.{Allocations.unreleased_storage, ClosedMarks.{MarkingIsGuarded, MarksAreClosed}}
-use Rattle.mk_core.specs.{History.{IsHistory, first_world, left, never_behind, never_first}, NewPlaces.place_on_pages}
-use Rattle.mk_core.specs.{Words.phase_of, Cycles.{At, is_begin, is_quarantined}}
-use Rattle.mk_laws.specs.{Quarantine.{has_bit_of, is_cycling}, Room.HasHeaderWords}
-use Rattle.mk_laws.specs.{SettledPages.{IsSettled, StandsUsed}, Invariant.Invariant}
+use Rattle.mk_core.specs.declared.{config.Config.Config, events.{Event.Event, Seat.Seat}, seats.Object.Object}
+use Rattle.mk_core.specs.Allocations.{place_among_allocations, placed_at, storage_of, unreleased_storage}
+use Rattle.mk_core.specs.{ClosedMarks.{MarkingIsGuarded, MarksAreClosed}, History.{IsHistory, left, never_behind}}
+use Rattle.mk_core.specs.NewPlaces.{place_on_pages}
 use Rattle.mk_core.specs.declared.events.Step.TheVariants as step
+use Rattle.mk_laws.specs.SettledPages.{IsSettled, StandsUsed}
 
 -- It holds of each history.
 abbrev pub OfHistories : (Config → List Event → Type 0) → Type 0
 OfHistories claim = (c : Config) (es : List Event) → IsHistory c es → claim c es
-
--- The invariant holds before any event,
-abbrev pub InvariantAtFirst : Type 0
-InvariantAtFirst = (c : Config) → Invariant c (first_world c) (never_first c)
-
--- and one event of a history keeps it.
-abbrev pub EventsKeepTheInvariant : Type 0
-EventsKeepTheInvariant =
-    (c : Config) (es : List Event) (e : Event) → IsHistory c (es ++ e ∷ [])
-    → Invariant c (left c es) (never_behind c es) → Invariant c (left c (es ++ e ∷ [])) (never_behind c (es ++ e ∷ []))
-
--- The invariant holds after these events.
-abbrev pub KeepsTheInvariant : Config → List Event → Type 0
-KeepsTheInvariant c es = Invariant c (left c es) (never_behind c es)
 
 -- What a program can get to isn't released.
 abbrev pub KeepsTheReach : Config → List Event → Type 0
@@ -65,29 +49,12 @@ FirstFitFindsThePlace c es =
 abbrev pub GuardsBlackCells : Config → List Event → Type 0
 GuardsBlackCells c es = MarkingIsGuarded c (left c es).now
 
--- Each `close` finds the marks closed,
+-- Each `close` finds the marks closed.
 abbrev pub ClosesFindMarksClosed : Config → List Event → Type 0
 ClosesFindMarksClosed c es =
     (before behind : List Event) (seat : Seat) → es ≡ before ++ record { seat = seat; step = step.Close } ∷ behind
     → MarksAreClosed c (left c before)
 
--- and they are up to the `release`.
-abbrev pub MarksStayClosed : Config → List Event → Type 0
-MarksStayClosed c es = phase_of (left c es).now.words ≡ 3 → MarksAreClosed c (left c es)
-
--- Each page has a header word,
-abbrev pub PagesHaveHeaderWords : Config → List Event → Type 0
-PagesHaveHeaderWords c es = HasHeaderWords (left c es)
-
--- and at most this many pages are resident.
+-- At most this many pages are resident.
 abbrev pub FewPagesAreResident : Config → List Event → Type 0
 FewPagesAreResident c es = resident_pages (uses_of_pages (left c es).now.words.pages) ≤ c.resident
-
--- From the last `begin` up to its `end`, an unreleased allocation's snapshot bit says whether it was freed before it.
-abbrev pub SnapshotIsTheCycles : Config → List Event → Type 0
-SnapshotIsTheCycles c es =
-    (begin : At is_begin es) → list_any (λ (e : Event). is_begin e.step) begin.behind ≡ false
-    → is_cycling (phase_of (left c es).now.words) ≡ true → (i : ℕ)
-    → (placed_at (left c es).allocations i).released ≡ false
-    → has_bit_of c (left c es).now.words.snapshot (placed_at (left c es).allocations i)
-    ≡ is_quarantined (placed_at (left c begin.before).allocations i)

@@ -14,7 +14,7 @@ use Rattle.mk_words.proofs.Below.Laws.FoundHeaders.{head_finds, head_keeps}
 use Rattle.mk_words.proofs.{Below.Laws.InvariantHistories.told_to_guard, Below.Laws.KeptGuard.goes_equal}
 use Rattle.mk_words.proofs.{Below.Laws.Known.Known, Below.Laws.LastEvents.{comes_last, stands}}
 use Rattle.mk_words.proofs.Below.Laws.OthersMoves.{WorldBehind}
-use Rattle.mk_words.specs.Below.Laws.Guard.{Guard, MarksStand}
+use Rattle.mk_words.proofs.Below.Laws.Guard.{Guard, MarksStand}
 use Rattle.mk_core.specs.History.{left_from}
 use Rattle.mk_marker.proofs.MarkBits.{IsCell, IsToCarve, MarksAreOfCells, made_has, marking_not_four, still_a_cell}
 use Rattle.mk_marker.proofs.NewMarks.{new_mark}

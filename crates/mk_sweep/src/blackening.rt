@@ -1,7 +1,7 @@
 //! After the sweep each marked cell is blackened: its words were looked at, or are 0, or aren't scanned.
 ghost use Rattle.std.specs.Prelude.{◌≡◌, ℕ, ◌<◌, ◌≤◌, [], true, slice_index};
 ghost use Rattle.mk_core.specs.{Cells.{cells_under, header_in}, StopConditions.may_turn_black};
-ghost use Rattle.mk_cycle.specs.{Below.Laws.Guard.CellsAreClosed, Grays.is_black, Stops.still_words};
+ghost use Rattle.mk_cycle.specs.{Below.Laws.ClosedCells.CellsAreClosed, Grays.is_black, Stops.still_words};
 ghost use Rattle.mk_sweep.specs.Sweeping.{BlacksMore, IsSweeping, PageIsBlack, SweepsOn};
 
 use crate::stepping::look_at;

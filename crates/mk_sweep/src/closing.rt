@@ -1,7 +1,7 @@
 //! What the engine does in the stop: it wants the close, and sweeps until the marks may be closed.
 ghost use Rattle.std.specs.Prelude.{◌≡◌, ℕ, ◌<◌, length, slice_index};
 ghost use Rattle.mk_cycle.specs.EngineLaw.{ClosesMarks, IsAtPhase, IsFreeForCycle};
-ghost use Rattle.mk_cycle.specs.{Below.Laws.Guard.CellsAreClosed, Stops.still_words};
+ghost use Rattle.mk_cycle.specs.{Below.Laws.ClosedCells.CellsAreClosed, Stops.still_words};
 ghost use Rattle.mk_sweep.specs.{Sweeping.{IsSweeping, PageIsBlack, PointWell, SweepsOn, words_below}, Sweeps.Sweeps};
 
 use crate::blackening::blacken_all;
