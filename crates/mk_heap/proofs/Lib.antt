@@ -16,3 +16,4 @@ pub mod Crews
 pub mod UnsweptHistories
 pub mod UnsweptSeats
 pub mod BoundedQuarantine
+pub mod Alone
