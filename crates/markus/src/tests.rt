@@ -8,6 +8,7 @@ mod geometry;
 mod marked_cycles;
 mod memory;
 mod paces;
+mod reports;
 mod texts;
 mod walks;
 
@@ -60,24 +61,6 @@ what keeps released objects: nothing | run --why | \
 what keeps freed objects in a sweep: each other | run --sweep --why | \
     heap 1 1/type A p:A n*31/script s/ptr p A/ptr q A/new p A/new q A/setp p 0 q/setp q 0 p/\
     free p/free q/clear p/clear q/ -> script s/kept 65536 32/floating/kept 65792 32/floating/
-counts: what is held, and what was freed since a cycle began | run --report | \
-    heap 3 3/type A n*32/script s/ptr p A/repeat 5/new p A/end/free p/ -> \
-    script s/held 160/fresh 32/quarantined 1/released 0/cycles 0/full 0/
-counts: after a cycle nothing is fresh | run --report | \
-    heap 1 1/type A n*31 p:A/script s/ptr x A/ptr y A/new x A/new y A/setp x 31 y/free y/ -> \
-    script s/held 64/fresh 0/quarantined 1/released 0/cycles 1/full 0/
-counts: those after the last cycle, and what it keeps | run --why --report | \
-    heap 1 1/type A n*31 p:A/script s/ptr x A/ptr y A/new x A/new y A/setp x 31 y/free y/ -> \
-    script s/held 64/fresh 0/quarantined 1/released 0/cycles 2/full 0/kept 65792 32/register s y/
-counts: what cycles released | run --report --markers 0 | \
-    heap 1 1/type A p:A n*31/script s/ptr p A/ptr q A/new p A/new q A/setp p 0 q/setp q 0 p/free p/free q/\
-    clear p/clear q/new p A/show p/ -> script s/ptr/held 32/fresh 0/quarantined 0/released 2/cycles 3/full 0/
-counts: a large object is in quarantine, and takes no memory | run --report | \
-    heap 1 1/type A n*33/script s/ptr p A/new p A/free p/ -> \
-    script s/held 0/fresh 0/quarantined 1/released 0/cycles 0/full 0/
-counts: a call that was answered full | run --report --sweep | \
-    heap 1 1/type A n*32/script s/ptr p A/new p A/new p A/new p A/ -> \
-    script s/7: full/held 64/fresh 0/quarantined 0/released 0/cycles 1/full 1/
 a program with well-typed scripts | check | \
     heap 1 1/type A n/script s/ptr p A/num n/const n 3/new p A/repeat 2/setn p 0 n/const n 0/\
     getn n p 0/if n/print n/else/new p A/end/end/ -> ok/
@@ -127,6 +110,8 @@ a negative number | run --markers -1
 `--report` with a value | run --report=1
 `--report` with an empty value | run --report=
 `--report` for `check` | check --report
+`--report` for `print` | print --report
+`--report` for `replay` | replay --report
 `--report` for `trace` | trace --report
 `--sweep` beside markers | run --sweep --markers 1
 an option behind `--` | run -- --why
