@@ -23,6 +23,7 @@ pub mod RunVocabulary
 pub mod OwnCalls
 pub mod Replies
 pub mod Leading
+pub mod Unused
 pub mod Walking
 pub mod Clearing
 pub mod JobLists
