@@ -1,5 +1,5 @@
 -- A caller sets its registers to null, one after the other.
-use Rattle.mk_jobs.proofs.RunVocabulary.{Answer, Answers, CallerState, Clears, GoesToPoint, IsMadeFor, NeverState, Null}
+use Rattle.mk_jobs.proofs.RunVocabulary.{Answer, Answers, CallerState, Clears, IsMadeFor, NeverState, Null}
 use Rattle.mk_jobs.proofs.RunVocabulary.{Leads, Op, PassState, Plan, Replied, StaysAdmitted, caller_of_pass}
 use Rattle.mk_jobs.proofs.RunVocabulary.{register_at}
 use Rattle.mk_jobs.proofs.RunVocabulary.{never_of, replied_to, reply_of, value_of}

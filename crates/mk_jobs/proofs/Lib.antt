@@ -36,4 +36,6 @@ pub mod Operations
 pub mod Covering
 pub mod Asked
 pub mod Chains
+pub mod Rows
 pub mod Clients
+pub mod Having

@@ -171,3 +171,7 @@ module _ {Job Done Point : Type 0} (p : Plan Job Done Point) where
 pub is_end : {Point Done : Type 0} (st : Step Point Done) → ((o : Op) → op_of st ≡ Some o → ⊥) → IsEnd st
 is_end (step.End done) none = tt
 is_end _ none = absurd (none _ refl)
+
+pub ended_with : {Point Done : Type 0} (st : Step Point Done) → IsEnd st → (d : Done) × (st ≡ step.End d)
+ended_with (step.End done) is = (done, refl)
+ended_with _ is = absurd is
