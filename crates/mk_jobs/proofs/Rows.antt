@@ -1,13 +1,13 @@
 -- Shared objects that are linked in a row stay so where none of their words is stored.
-use Rattle.mk_laws.proofs.Vocabulary.{List, Null, Value, allocation_at, ap, get_or, subst, sym, word_at, words_of, ℕ, ◌∙◌}
-use Rattle.mk_laws.proofs.Vocabulary.{◌≡◌, ◌≢◌}
+use Rattle.mk_laws.proofs.Vocabulary.{List, NeverState, Null, Value, allocation_at, ap, get_or, subst, sym, word_at}
+use Rattle.mk_laws.proofs.Vocabulary.{words_of, ℕ, ◌∙◌, ◌≡◌, ◌≢◌}
 use Rattle.mk_jobs.specs.{Keeping.{Covers, IsShown, Public, Role, World}, Linked.numbers_in}
 use Rattle.mk_jobs.proofs.Chains.{IsChain, IsNotAmong, IsPart, chain_stays, not_one_of, numbers_stay}
 use Rattle.mk_jobs.proofs.{Heaps.Stores, Puts.Puts}
 
 -- Words that are the same are so one by one.
-pub word_of : {w w' : World} {a : ℕ} (i : ℕ) → words_of w'.n a ≡ words_of w.n a → word_at w'.n a i ≡ word_at w.n a i
-word_of i e = ap (λ (ws : List Value). get_or ws i Null) e
+pub word_of : (n m : NeverState) (a i : ℕ) → words_of m a ≡ words_of n a → word_at m a i ≡ word_at n a i
+word_of n m a i e = ap (λ (ws : List Value). get_or ws i Null) e
 
 -- A word of another object is stored, and object b gets another role.
 module _ {w w' : World} {t at b : ℕ} {v : Value} {r : Role} (stores : Stores t at v w.n w'.n)
@@ -20,18 +20,18 @@ module _ {w w' : World} {t at b : ℕ} {v : Value} {r : Role} (stores : Stores t
   row_now ty i x nodes apart other chain =
       chain_stays w ty i w' x nodes (λ c one h. (
         part_now ty c (not_one_of nodes other one) h,
-        word_of {w} {w'} i (stores.others c (apart c h.is_of)),
+        word_of w.n w'.n c i (stores.others c (apart c h.is_of)),
       )) chain
 
   pub numbers_now : (ty i j : ℕ) (x : Value) (nodes : List ℕ) → ((c : ℕ) → (allocation_at w.n c).ty ≡ ty → c ≢ t)
       → IsChain w ty i x nodes → numbers_in w'.n j nodes ≡ numbers_in w.n j nodes
   numbers_now ty i j x nodes apart chain =
-      numbers_stay w ty i w'.n j x nodes (λ c one h. word_of {w} {w'} j (stores.others c (apart c h.is_of))) chain
+      numbers_stay w ty i w'.n j x nodes (λ c one h. word_of w.n w'.n c j (stores.others c (apart c h.is_of))) chain
 
 -- What all callers may know stays.
 module _ {w w' : World} (covers : Covers w w') where
   pub word_covered : (a i : ℕ) → w.role a ≡ Public → word_at w'.n a i ≡ word_at w.n a i
-  word_covered a i e = word_of {w} {w'} i (covers.words a (subst IsShown (sym e) tt))
+  word_covered a i e = word_of w.n w'.n a i (covers.words a (subst IsShown (sym e) tt))
 
   pub part_covered : (ty a : ℕ) → IsPart w ty a → IsPart w' ty a
   part_covered ty a h =

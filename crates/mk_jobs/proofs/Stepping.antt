@@ -7,8 +7,8 @@ use Rattle.mk_jobs.proofs.Vocabulary.{NeverState, Nothing, Null, Num, Number, Op
 use Rattle.mk_jobs.proofs.Vocabulary.{Owns, Plan, Points, Ptr, Some, Step, StoreIsAdmitted, Target, To, Unmapped}
 use Rattle.mk_jobs.proofs.Vocabulary.{Value, WordOf, ap, arith, false, false≢true, freed, global_type, hold_of}
 use Rattle.mk_jobs.proofs.Vocabulary.{if◌then◌else◌, is_freed, is_number_there, is_own, is_there, kind_there, left_at}
-use Rattle.mk_jobs.proofs.Vocabulary.{length, ltb-true, may_go, may_set, nat_lt, not, op_of, refl, register_at, subst, ◌&&◌}
-use Rattle.mk_jobs.proofs.Vocabulary.{sym, there, true, type_there, with_word, ℕ, ◌<◌, ◌∙◌, ◌≡◌}
+use Rattle.mk_jobs.proofs.Vocabulary.{length, ltb-true, may_go, may_set, nat_lt, not, op_of, refl, register_at, subst}
+use Rattle.mk_jobs.proofs.Vocabulary.{sym, there, true, type_there, with_word, ℕ, ◌&&◌, ◌<◌, ◌∙◌, ◌≡◌}
 use Rattle.mk_jobs.proofs.Holds.{HoldsIn, both}
 use Rattle.mk_jobs.proofs.Meeting.{IsStateOf, global_so, go_so, is_number_so, meets, sound, there_so, type_so}
 use Rattle.mk_jobs.proofs.Meeting.{word_met}
@@ -78,7 +78,8 @@ module _ {Job Done Point : Type 0} (p : Plan Job Done Point) {n : NeverState} {k
       let one = both (may_set p.registers hs d) _ typed in
       let two = both (nat_lt ty (length p.types)) _ one.1 in
       let there = ltb-true ty (length p.types) two.0 in
-      admitted (Op.New d ty false) (set_lt p.registers hs d one.0, omega (arith, there, ap length state.types_are)) tt tt
+      admitted (Op.New d ty false)
+      (set_lt p.registers hs d one.0, omega (arith, there, ap length state.types_are)) tt tt
   admits hs (step.Free r to) typed h =
       let one = both (nat_lt r 8) _ typed in
       let lt = ltb-true r 8 one.0 in

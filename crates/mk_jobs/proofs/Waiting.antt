@@ -70,7 +70,8 @@ born_below {n} {a} fits born = elim (cases_lt a (length n.allocations)) [
 
 -- What holds of the operation of a step holds of the one that is asked, which may be refused.
 asked_of : {Point Done : Type 0} (P : Op → Type 0) (f : Point → ℕ → Point) (st : Step Point Done) (r : Reply) (o : Op)
-    (t : Point) → IfSome (op_of st) P → ((d ty : ℕ) → P (op.New d ty false) → P (op.New d ty true)) → Asks f st o r t → P o
+    (t : Point) → IfSome (op_of st) P → ((d ty : ℕ) → P (op.New d ty false) → P (op.New d ty true)) → Asks f st o r t
+    → P o
 asked_of P f (step.New d ty to full) r o t has refused asks = elim asks [
   | inl is ↦ subst P (sym is.0) has
   | inr is ↦ subst P (sym is.0) (refused d ty has)

@@ -61,8 +61,8 @@ abbrev pub AreClears : List Replied → Type 0
 AreClears [] = Unit {0}
 AreClears (x ∷ xs) = IsClear x.op × AreClears xs
 
--- The pass has seen more, in which its caller set its registers below this one to null, and did nothing else. The others
--- are as they were.
+-- The pass has seen more, in which its caller set its registers below this one to null, and did nothing else. The
+-- others are as they were.
 pub record Clears (p : PassState) (count : ℕ) (q : PassState) : Type 0 where
   pub is : q ≡ record p { seen = q.seen }
   pub all : List Replied

@@ -9,7 +9,8 @@ use Rattle.mk_heap.specs.{Below.Objects.TurnCycles.TurnsOfAreExact, HostTurns.Ho
 use Rattle.mk_jobs.specs.{declared.job_lists.Dones.Dones, declared.job_lists.Jobs.Jobs}
 use Rattle.mk_jobs.specs.{declared.joining.Callers.Callers, declared.joining.Joined.Joined}
 use Rattle.mk_jobs.specs.{declared.joining.Worked.Worked, declared.working.Ended.Ended}
-use Rattle.mk_jobs.specs.{Engines.AreEnginesFrom, JobLists.{HasDone, HaveDone}, Jobs.{IsEnd, Leads, Replied}, Plans.Plan}
+use Rattle.mk_jobs.specs.{Engines.AreEnginesFrom, JobLists.{HasDone, HaveDone}, Jobs.{IsEnd, Leads, Replied}}
+use Rattle.mk_jobs.specs.Plans.{Plan}
 
 -- The pass of caller k between two jobs, which its own thread may take.
 pub record IsBetweenJobs (on : Bool) (w : WordsState) (k : ℕ) (p : PassState) : Type 0 where

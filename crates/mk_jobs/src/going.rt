@@ -42,8 +42,8 @@ fn go<O: Object, E: Engine, R: Threads + Wait + Sync>(
     unreachable!()
 }
 
-/// Sets the registers that the object uses to null. As long as a register points to a freed object, the heap keeps that object, and all that
-/// it is linked to.
+/// Sets the registers that the object uses to null. As long as a register points to a freed object, the heap keeps that
+/// object, and all that it is linked to.
 fn forget<O: Object, E: Engine, R: Threads + Wait + Sync>(rt: &R, caller: &mut Caller, engine: &E)
     requires ready { IsReady O.plan E.made_for caller.old engine.now }
     ensures ready { IsReady O.plan E.made_for caller.new engine.now }

@@ -1,12 +1,12 @@
 -- The top is exchanged for another node, or placed first.
 use Rattle.std.proofs.Common.{ap₂}
-use Rattle.mk_laws.proofs.Vocabulary.{Bool, List, None, Null, Option, Ptr, Some, Value, allocation_at, ap, cases_eq, cond}
-use Rattle.mk_laws.proofs.Vocabulary.{eq-eqb, get_or, global_at, inl, inr, no_allocation, number_of, refl, subst, sym}
-use Rattle.mk_laws.proofs.Vocabulary.{word_at, ℕ, [], ◌∙◌, ◌∷◌, ◌≡◌, ◌≢◌, ◌⊎◌}
+use Rattle.mk_laws.proofs.Vocabulary.{Bool, List, None, Null, Option, Ptr, Some, Value, allocation_at, ap, cases_eq}
+use Rattle.mk_laws.proofs.Vocabulary.{cond, eq-eqb, get_or, global_at, inl, inr, no_allocation, number_of, refl, subst}
+use Rattle.mk_laws.proofs.Vocabulary.{sym, word_at, ℕ, [], ◌∙◌, ◌∷◌, ◌≡◌, ◌≢◌, ◌⊎◌}
 use Rattle.mk_never.specs.NeverHeap.{Allocation}
 use Rattle.mk_jobs.specs.{Keeping.{IsShown, Private, Public, Role, Taken, World}, Laws.IsOneOf, Linked.numbers_in}
-use Rattle.mk_jobs.proofs.{Chains.{IsChain, hidden}, Heaps.Stores, Puts.Puts, Rows.{numbers_now, part_now, row_now, word_of}}
-use Rattle.mk_jobs.proofs.Having.{not_null, shown_stored}
+use Rattle.mk_jobs.proofs.{Chains.{IsChain, hidden}, Having.{not_null, shown_stored}, Heaps.Stores, Puts.Puts}
+use Rattle.mk_jobs.proofs.Rows.{numbers_now, part_now, row_now, word_of}
 use Rattle.mk_stack.specs.{Stack.left_by, declared.{jobs.Done.{Done}, jobs.Job.{Job}}}
 use Rattle.mk_stack.proofs.Invariant.{HasFirst, IsFounder, IsStack, IsUnfounded, Rely}
 
@@ -18,7 +18,7 @@ module _ {w w' : World} {xs : List ℕ} {b : ℕ} {v : Value} {r : Role} (q : Is
   apart c is e = (let x : 0 ≡ 1 = sym is ∙ ap (λ (y : ℕ). (allocation_at w.n y).ty) e ∙ q.top.is_of in cc x)
 
   word_now : (i : ℕ) → word_at w'.n b i ≡ word_at w.n b i
-  word_now i = word_of {w} {w'} i (stores.others b (apart b is_node))
+  word_now i = word_of w.n w'.n b i (stores.others b (apart b is_node))
 
   pub exchange_rely : (k : ℕ) → Rely k w w'
   exchange_rely k = record {

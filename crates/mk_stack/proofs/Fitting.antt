@@ -32,6 +32,8 @@ along s (x ∷ xs) t (inr clear) = along s xs t clear.2
 at_end : (s : Point) (d : Done) → step_of s ≡ Step.End d → pushes (Point.Ended d) ≡ pushes s
 at_end (Point.Ended e) d end = ap (λ (x : Done). pushes (Point.Ended x)) (cc end)
 at_end Point.Founded d end = ap (λ (x : Done). pushes (Point.Ended x)) (cc end)
+at_end (Point.Checking (Job.Push m)) d end = absurd (cc end)
+at_end (Point.Checking Job.Pop) d end = absurd (cc end)
 at_end _ d end = absurd (cc end)
 
 ends : {q q' : PassState} (j : Job) {d : Done} → DoesJob stack_plan q j d q'

@@ -14,7 +14,9 @@ use Rattle.mk_stack.proofs.Staying.{covered, stays}
 ends : (w : World) (k : ℕ) (s : Point) (u : Option Done) (d : Done) (j : Job) → Local w k s u → step_of s ≡ Step.End d
     → (u ≡ None → job_at s ≡ Some j) → u ≡ Some d
 ends w k (Point.Ended e) u d j local is at = local ∙ (cc is)
-ends w k Point.Founded u d j local is at = (let e = at local in absurd (cc e))
+ends w k Point.Founded u d j local is at = absurd (let x : None ≡ Some j = at local in cc x)
+ends w k (Point.Checking (Job.Push m)) u d j local is at = absurd (cc is)
+ends w k (Point.Checking Job.Pop) u d j local is at = absurd (cc is)
 ends w k _ u d j local is at = absurd (cc is)
 
 contains : (w : World) (x : List ℕ) → Shared w x → (parts : List ℕ) × HasNumbers w.n parts x

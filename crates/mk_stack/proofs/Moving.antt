@@ -1,12 +1,13 @@
 -- Each operation of a stack's jobs.
-use Rattle.mk_laws.proofs.Vocabulary.{List, Null, Op, Option, Ptr, Some, Value, ap, arith, false≢true, get_or}
-use Rattle.mk_laws.proofs.Vocabulary.{inl, inr, kinds_of, length, number_of, refl, register_at, subst, suc, sym, word_at}
-use Rattle.mk_laws.proofs.Vocabulary.{zero, ℕ, [], ◌∙◌, ◌∷◌, ◌≡◌, ◌≢◌, ◌≤◌}
+use Rattle.mk_laws.proofs.Vocabulary.{List, Null, Op, Option, Ptr, Some, Value, ap, arith, false≢true, get_or, inl}
+use Rattle.mk_laws.proofs.Vocabulary.{inr, kinds_of, length, number_of, refl, register_at, subst, suc, sym}
+use Rattle.mk_laws.proofs.Vocabulary.{word_at, zero, ℕ, [], ◌∙◌, ◌∷◌, ◌≡◌, ◌≢◌, ◌≤◌}
 use Rattle.mk_jobs.specs.{Keeping.{IsShown, Moves, Public, Taken, World, after}, Linked.numbers_in}
 use Rattle.mk_jobs.proofs.Clients.{Client, MovesAt, by_exchange, by_freeing, by_load, by_load_global, by_load_number}
 use Rattle.mk_jobs.proofs.Clients.{by_new, by_null, by_store, by_store_global, by_store_number, decides_so}
 use Rattle.mk_jobs.proofs.Clients.{takes_public, undecided, was_decided, when_null, when_some}
-use Rattle.mk_jobs.proofs.{Having.{HasRoot, not_null, own_now}, Chains.IsChain, Operations.{global_there, register_has}, Puts.puts_one}
+use Rattle.mk_jobs.proofs.{Chains.IsChain, Having.{HasRoot, not_null, own_now}, Operations.{global_there, register_has}}
+use Rattle.mk_jobs.proofs.Puts.{puts_one}
 use Rattle.mk_stack.specs.{Points.{holds, stack_plan}, Stack.left_by}
 use Rattle.mk_stack.specs.declared.{jobs.Done.{Done}, jobs.Job.{Job}, points.Point.{Point}}
 use Rattle.mk_stack.proofs.Invariant.{IsStack, Local, Rely, Shared, done_without, job_at}
@@ -32,10 +33,10 @@ none_left : {x : List ℕ} (j : Job) → x ≡ [] → left_by x j (done_without 
 none_left (Job.Push n) e = refl
 none_left Job.Pop e = subst (λ (l : List ℕ). left_by l Job.Pop Done.Empty ≡ Some l) (sym e) refl
 
-module _ {callers : ℕ} {w : World} {k : ℕ} {u : Option Done} {x : List ℕ} where
-  at_null : HasRoot w k 0 0 1 → register_at w.n k 0 ≢ Null
-  at_null h = not_null h.t 1 _ h.register
+at_null : {w : World} {k : ℕ} → HasRoot w k 0 0 1 → register_at w.n k 0 ≢ Null
+at_null h = not_null h.t 1 _ h.register
 
+module _ {callers : ℕ} {w : World} {k : ℕ} {u : Option Done} {x : List ℕ} where
   pub moves : (s : Point) → MovesAt client callers w k u x s
   -- The first caller creates the top,
   moves Point.Founding there shared local o t asks =
@@ -138,7 +139,7 @@ module _ {callers : ℕ} {w : World} {k : ℕ} {u : Option Done} {x : List ℕ} 
         },
       )) (λ a. refl) refl (undecided client refl) (λ same rely alone. (
         at_top rely (same 0) local.0,
-        numbered (same 1) alone
+        numbered {w = w} (same 1) alone
             (record { a = own.a; register = own.register; role = own.role; also = own.also.0 }),
       ))
 
@@ -156,7 +157,7 @@ module _ {callers : ℕ} {w : World} {k : ℕ} {u : Option Done} {x : List ℕ} 
       by [] e chain =
           by_load client u there shared asks is refl (λ a. refl) (decides_so client Done.Empty local.0 refl
           (none_left Job.Pop (sym q.0.numbers ∙ ap (numbers_in w.n 0) e)))
-          (λ set rely alone. inl (set.here ∙ chain.0, refl))
+          (λ set rely alone. inl (set.here ∙ chain, refl))
       by (a ∷ l) e chain =
           by_load client u there shared asks is refl (λ a. refl) (undecided client refl) (λ set rely alone. inr (
             at_top rely (set.others 0 (λ e. omega arith)) local,
@@ -174,7 +175,8 @@ module _ {callers : ℕ} {w : World} {k : ℕ} {u : Option Done} {x : List ℕ} 
   -- which is null or not,
   moves Point.Testing there shared local o t asks =
       by_null client u there shared asks (λ a. refl) (λ a. refl)
-      (λ null. let e = when_null local (λ h. not_null h.a 0 _ h.register) null in (was_decided client e, λ rely alone. e))
+      (λ null. let e = when_null local (λ h. not_null h.a 0 _ h.register) null in
+      (was_decided client e, λ rely alone. e))
       (λ some. let h = when_some local some in
       (undecided client refl, λ rely alone. (at_top rely refl h.0, seen rely refl h.1)))
 

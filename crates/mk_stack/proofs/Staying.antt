@@ -3,7 +3,8 @@ use Rattle.mk_laws.proofs.Vocabulary.{List, Null, Option, Ptr, Some, Value, ap, 
 use Rattle.mk_laws.proofs.Vocabulary.{refl, register_at, subst, sym, word_at, ℕ, ◌<◌, ◌∙◌, ◌≡◌, ◌≢◌}
 use Rattle.mk_jobs.specs.Keeping.{Covers, IsOf, Waits, World}
 use Rattle.mk_jobs.proofs.{Chains.IsChain, Clients.OwnStays, Rows.{numbers_covered, part_covered, row_covered}}
-use Rattle.mk_jobs.proofs.{Having.{IsSame, not_null, own_stays, shown_covered, shown_stays}, Rows.{word_covered, word_of}}
+use Rattle.mk_jobs.proofs.Rows.{word_covered, word_of}
+use Rattle.mk_jobs.proofs.Having.{IsSame, not_null, own_stays, shown_covered, shown_stays}
 use Rattle.mk_stack.specs.declared.{jobs.Done.{Done}, points.Point.{Point}}
 use Rattle.mk_stack.proofs.Invariant.{HasFollowed, HasLinked, HasNumbered, HasSeen, HasTaken, IsAtTop, IsFounder}
 use Rattle.mk_stack.proofs.Invariant.{IsStack, Local, Rely, Shared}
@@ -17,13 +18,13 @@ module _ {k : ℕ} {w w' : World} where
   pub numbered : {m : ℕ} → IsSame w w' k 1 → OwnStays k w w' → HasNumbered w k m → HasNumbered w' k m
   numbered {m} same alone h =
       own_stays same (λ a. number_of (word_at w.n a 0) ≡ m) (λ a. number_of (word_at w'.n a 0) ≡ m) alone
-      (λ a ws is. ap number_of (word_of {w} {w'} 0 ws) ∙ is) h
+      (λ a ws is. ap number_of (word_of w.n w'.n a 0 ws) ∙ is) h
 
   linked : {m : ℕ} → IsSame w w' k 1 → IsSame w w' k 2 → OwnStays k w w' → HasLinked w k m → HasLinked w' k m
   linked {m} same same' alone h =
       own_stays same (λ a. (number_of (word_at w.n a 0) ≡ m) × (word_at w.n a 1 ≡ register_at w.n k 2))
       (λ a. (number_of (word_at w'.n a 0) ≡ m) × (word_at w'.n a 1 ≡ register_at w'.n k 2)) alone
-      (λ a ws is. (ap number_of (word_of {w} {w'} 0 ws) ∙ is.0, word_of {w} {w'} 1 ws ∙ is.1 ∙ sym same')) h
+      (λ a ws is. (ap number_of (word_of w.n w'.n a 0 ws) ∙ is.0, word_of w.n w'.n a 1 ws ∙ is.1 ∙ sym same')) h
 
   module _ {j : ℕ} (rely : Rely j w w') where
     pub at_top : {u : Option Done} → IsSame w w' k 0 → IsAtTop w k u → IsAtTop w' k u
@@ -35,13 +36,13 @@ module _ {k : ℕ} {w w' : World} where
     followed : IsSame w w' k 2 → IsSame w w' k 1 → HasFollowed w k → HasFollowed w' k
     followed same same' h =
         shown_stays same (λ a. register_at w.n k 1 ≡ word_at w.n a 1) (λ a. register_at w'.n k 1 ≡ word_at w'.n a 1)
-        rely.nodes (λ a ws is. same' ∙ is ∙ sym (word_of {w} {w'} 1 ws)) h
+        rely.nodes (λ a ws is. same' ∙ is ∙ sym (word_of w.n w'.n a 1 ws)) h
 
     pub taken : {u : Option Done} → IsSame w w' k 2 → HasTaken w k u → HasTaken w' k u
     taken {u} same h =
         shown_stays same (λ a. u ≡ Some (Done.Popped (number_of (word_at w.n a 0))))
         (λ a. u ≡ Some (Done.Popped (number_of (word_at w'.n a 0)))) rely.nodes
-        (λ a ws is. is ∙ ap (λ (v : Value). Some (Done.Popped (number_of v))) (sym (word_of {w} {w'} 0 ws))) h
+        (λ a ws is. is ∙ ap (λ (v : Value). Some (Done.Popped (number_of v))) (sym (word_of w.n w'.n a 0 ws))) h
 
 -- Another caller leaves it what it has.
 module _ {j k : ℕ} {w w' : World} (other : j ≢ k) (waits : Waits k w w') (rely : Rely j w w') where
@@ -66,7 +67,7 @@ module _ {j k : ℕ} {w w' : World} (other : j ≢ k) (waits : Waits k w w') (re
   stays Point.Placing u h = (
     founder h.0,
     own_stays (same 0 (omega arith)) (λ t. word_at w.n t 0 ≡ Null) (λ t. word_at w'.n t 0 ≡ Null) alone (λ a ws is.
-        word_of {w} {w'} 0 ws ∙ is) h.1,
+        word_of w.n w'.n a 0 ws ∙ is) h.1,
   )
   stays Point.Founded u h = h
   stays (Point.Starting x) u h = h

@@ -25,9 +25,9 @@ pub type Dones = mk_jobs::Dones<Done>;
 /// to proofs: the numbers that the order of the jobs leaves.
 pub type StackOutcome = Outcome<Done>;
 
-/// Makes a stack on a heap of its own, has a caller for each list do its jobs, each on a thread of its own, with markers
-/// beside them, and joins all. A caller whose thread can't be started works here, and a marker whose thread can't be
-/// started does nothing. Where memory is refused to a caller, the others work on, and all are joined.
+/// Makes a stack on a heap of its own, has a caller for each list do its jobs, each on a thread of its own, with
+/// markers beside them, and joins all. A caller whose thread can't be started works here, and a marker whose thread
+/// can't be started does nothing. Where memory is refused to a caller, the others work on, and all are joined.
 pub fn run_stack<E: Engine + Send, P: Pace + Sync, R: Threads + Wait + Sync>(
     rt: &R,
     alloc: Global,
