@@ -43,19 +43,31 @@ fn outcome_of<R: Threads + Wait + Sync>(
 /// object is due, and that of the eighth isn't. The cycle that a 33rd object makes is the first.
 #[test]
 fn the_ninth_of_32_frees_is_due(rt: HostRuntime) -> Result<(), Fail> {
-    for (frees, cycles, fresh, expected) in [
-        (8, 1, 16, "script s\n102: full\nnull\n120: double\n"),
-        (9, 2, 0, "script s\n102: full\nnull\n122: double\n"),
+    for (name, frees, cycles, fresh, expected) in [
+        (
+            "the eighth isn't due",
+            8,
+            1,
+            16,
+            "script s\n102: full\nnull\n120: double\n",
+        ),
+        (
+            "the ninth is due",
+            9,
+            2,
+            0,
+            "script s\n102: full\nnull\n122: double\n",
+        ),
     ] {
         let outcome = outcome_of(&rt, rt.alloc(), 32, frees)?.expect(&rt, "a program, and memory");
         assert_eq!(rt;
             printed(rt.alloc(), &outcome)?.as_slice(),
             expected.as_bytes(),
-            "{frees} frees"
+            "{name}"
         );
-        assert_eq!(rt; outcome.report.cycles, cycles, "{frees} frees");
-        assert_eq!(rt; outcome.report.fresh, fresh, "{frees} frees");
-        assert_eq!(rt; outcome.report.quarantined, frees, "{frees} frees");
+        assert_eq!(rt; outcome.report.cycles, cycles, "{name}");
+        assert_eq!(rt; outcome.report.fresh, fresh, "{name}");
+        assert_eq!(rt; outcome.report.quarantined, frees, "{name}");
     }
     Ok(())
 }

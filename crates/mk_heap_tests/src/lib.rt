@@ -1,6 +1,6 @@
 //! Tests of the running heap, with real threads.
 //! It promises nothing: the tests try what no clause says.
-//! Start with `rows`, then `lists` and `stacks`.
+//! Start with `rows`, then `lists`, `stacks` and `queues`.
 #![tactic(auto)]
 
 #[cfg(test)]
@@ -20,7 +20,11 @@ mod late_markers;
 #[cfg(test)]
 mod lists;
 #[cfg(test)]
+mod moves;
+#[cfg(test)]
 mod objects;
+#[cfg(test)]
+mod queues;
 #[cfg(test)]
 mod retiring;
 #[cfg(test)]
