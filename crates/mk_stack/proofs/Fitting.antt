@@ -30,8 +30,8 @@ along s (x ∷ xs) t (inl step) = along step.0 xs t step.2 ∙ on s step.0 x.op 
 along s (x ∷ xs) t (inr clear) = along s xs t clear.2
 
 at_end : (s : Point) (d : Done) → step_of s ≡ Step.End d → pushes (Point.Ended d) ≡ pushes s
-at_end (Point.Ended e) d end = ap (λ (x : Done). pushes (Point.Ended x)) (cc end)
-at_end Point.Founded d end = ap (λ (x : Done). pushes (Point.Ended x)) (cc end)
+at_end (Point.Ended e) d end = (let same : d ≡ e = cc end in ap (λ (x : Done). pushes (Point.Ended x)) same)
+at_end Point.Founded d end = (let same : d ≡ Done.Empty = cc end in ap (λ (x : Done). pushes (Point.Ended x)) same)
 at_end (Point.Checking (Job.Push m)) d end = absurd (cc end)
 at_end (Point.Checking Job.Pop) d end = absurd (cc end)
 at_end _ d end = absurd (cc end)
