@@ -1,5 +1,5 @@
 -- A caller sets its registers to null, one after the other.
-use Rattle.mk_jobs.proofs.RunVocabulary.{Answer, Answers, CallerState, Clears, GoesToPoint, IsMadeFor, NeverState, Null}
+use Rattle.mk_jobs.proofs.RunVocabulary.{Answer, Answers, CallerState, Clears, IsMadeFor, NeverState, Null}
 use Rattle.mk_jobs.proofs.RunVocabulary.{Leads, Op, PassState, Plan, Replied, StaysAdmitted, caller_of_pass}
 use Rattle.mk_jobs.proofs.RunVocabulary.{register_at}
 use Rattle.mk_jobs.proofs.RunVocabulary.{never_of, replied_to, reply_of, value_of}
@@ -10,8 +10,7 @@ use Rattle.mk_laws.proofs.Vocabulary.{get_or-set_same, inl, inr, length, refl, s
 use Rattle.mk_laws.proofs.Vocabulary.{◌+◌, ◌<◌, ◌∙◌, ◌∷◌, ◌≡◌, ◌≢◌, ◌⊎◌}
 use Rattle.mk_never.specs.Admitted.{IsAdmitted}
 use Rattle.mk_heap.specs.Below.Objects.TurnCalls.{MayTakeTurns}
-use Rattle.mk_jobs.specs.Advancing.{AreClears}
-use Rattle.mk_jobs.specs.declared.steps.Step.TheVariants as step
+use Rattle.mk_jobs.specs.{Advancing.AreClears, Jobs.IsEnd, Passes.GoesToEnd}
 
 cleared : (n : NeverState) (k d : ℕ) → 8 * k + d < length n.registers → register_at (with_register n k d Null) k d
     ≡ Null
@@ -27,6 +26,7 @@ none_cleared p = record {
   are = tt;
   did = sym (append-nil (replied_to p));
   null = λ r lt. absurd (omega (arith, lt));
+  others = λ r ge lt. refl;
 }
 
 clears_append : (xs ys : List Replied) → AreClears xs → AreClears ys → AreClears (xs ++ ys)
@@ -51,6 +51,8 @@ one_cleared {p = p} {q = q} {r = r} d lt before answers =
           h.did ∙ ap (λ (l : List Replied). l ++ here ∷ []) before.did
           ∙ append_assoc (replied_to p) before.all (here ∷ []);
       null = λ x less. null x less (cases_eq x d);
+      others = λ x ge low. h.after x low ∙ others_stay h.n k d x (λ e. omega (arith, e, ge)) ∙ h.before x low
+          ∙ before.others x (omega (arith, ge)) low;
     }
   where
     null_at : (n : NeverState) (k : ℕ) → 8 * k + 7 < length n.registers → (x : ℕ) → x < d + 1
@@ -70,17 +72,21 @@ module _ {Job Done Point : Type 0} (p : Plan Job Done Point) where
       subst (λ (gs : List ℕ). IsAdmitted gs (never_of q) (caller_of_pass q) (Op.Clear d)) (sym here.globals)
       (may_clear p state d lt))
 
-  clears_stay : (t : Point) → p.step t ≡ step.End → (xs : List Replied) → AreClears xs → Leads p t xs t
+  clears_stay : (t : Point) → IsEnd (p.step t) → (xs : List Replied) → AreClears xs → Leads p t xs t
   clears_stay t end [] are = refl
   clears_stay t end (x ∷ xs) are = inr (end, are.0, clears_stay t end xs are.1)
 
   -- What is cleared at the end of a job belongs to it.
-  pub goes_cleared : {q r u : PassState} {s t : Point} {count : ℕ} → p.step t ≡ step.End → GoesToPoint p q s r t
-      → Clears r count u → GoesToPoint p q s u t
-  goes_cleared {t = t} end goes clears =
-      goes_through p goes (record {
-        is = clears.is;
-        all = clears.all;
-        leads = clears_stay t end clears.all clears.are;
-        did = clears.did;
-      })
+  pub goes_cleared : {q r u : PassState} {s : Point} {done : Done} → GoesToEnd p q s r done → Clears r p.registers u
+      → GoesToEnd p q s u done
+  goes_cleared ends clears = record {
+    last = ends.last;
+    goes = goes_through p ends.goes (record {
+      is = clears.is;
+      all = clears.all;
+      leads = clears_stay ends.last (subst IsEnd (sym ends.ended) tt) clears.all clears.are;
+      did = clears.did;
+      others = clears.others;
+    });
+    ended = ends.ended;
+  }

@@ -17,7 +17,7 @@ use Rattle.mk_heap.proofs.Below.Objects.ListParts.{InFirst, InSecond, stands}
 use Rattle.mk_heap.specs.{Below.Words.Seats.has_over, Crews.JoinsMarkers, Ending.CallersAreJoined, Hosts.AllAreJoined}
 use Rattle.mk_heap.specs.{LastTurns.{BeginsAsAsked, CallersAreStill}, Reports.{HasCounts, IsWhole}}
 use Rattle.mk_jobs.specs.{declared.runs.Outcome.Outcome, declared.working.Ended.Ended}
-use Rattle.mk_jobs.specs.{Laws.IsAlwaysExplained, Joining.{HaveEnded, HaveFoundedAndWorked, IsFounding}}
+use Rattle.mk_jobs.specs.{Laws.IsAlwaysExplained, Jobs.IsEnd, Joining.{HaveEnded, HaveFoundedAndWorked, IsFounding}}
 use Rattle.mk_jobs.specs.{Passes.Founds, Runs.{AreExplainedJobs, IsRun}}
 use Rattle.mk_heap.specs.{Below.Objects.Bounds.HostBeginsLast, HostTurns.HostComesLast, Hosts.with_seen}
 use Rattle.mk_heap.specs.Reports as report
@@ -39,11 +39,11 @@ module _ {Job Done Point : Type 0} (p : Plan Job Done Point) where
       → HasMade w markers 0 h → IsAtHome s (pass_for h (Caller h.callers)) → Founds p s.pass q → r ≡ q
       → IsFounding p (replied_to r)
   founds_object s r made is founds same = record {
-    found = founds.last;
+    found = founds.ends.last;
     founds =
-        rw (ap replied_to same ∙ founds.goes.did
-        ∙ ap (λ (l : List Replied). l ++ founds.goes.all) (next_unasked s made is)) founds.goes.leads;
-    founded = founds.founded;
+        rw (ap replied_to same ∙ founds.ends.goes.did
+        ∙ ap (λ (l : List Replied). l ++ founds.ends.goes.all) (next_unasked s made is)) founds.ends.goes.leads;
+    founded = subst IsEnd (sym founds.ends.ended) tt;
   }
 
   -- The jobs were done, and the host came last.

@@ -93,7 +93,7 @@ module _ {Job Done Point : Type 0} (p : Plan Job Done Point) {n : NeverState} {k
       ∙ ap (λ (l : List Value). get_or l (8 * k + r) Null) same) holds
 
   -- The operation o leads on, where it is answered a.
-  abbrev Leads : Step Point → Op → Answer → Type 0
+  abbrev Leads : Step Point Done → Op → Answer → Type 0
   Leads st o a =
       Asks p.with_number st o (reply_of n k o) (next_by p.with_number s st (as_told a))
       × HoldsIn (register_at (after_op n k o) k) (p.holds (next_by p.with_number s st (as_told a)))
@@ -135,14 +135,14 @@ module _ {Job Done Point : Type 0} (p : Plan Job Done Point) {n : NeverState} {k
       by Answer.Null = (inl (refl, refl), granted)
       by Answer.Double = (inl (refl, refl), granted)
 
-  pub steps_on : (hs : List Hold) (st : Step Point) → IsTypedStep p hs st → HoldsIn v hs
+  pub steps_on : (hs : List Hold) (st : Step Point Done) → IsTypedStep p hs st → HoldsIn v hs
       → IfSome (op_of st) (λ o. (a : Answer) (bases : List ℕ) → a ≡ answer_of bases (reply_of n k (flagged o a))
       → Leads st (flagged o a) a)
   steps_on hs (step.New d ty to full) typed h = λ a bases image.
-      let one = both (may_set hs d) _ typed in
+      let one = both (may_set p.registers hs d) _ typed in
       let two = both (nat_lt ty (length p.types)) _ one.1 in
       let three = both (leads p (with_hold hs d (Owns ty)) to) (leads p hs full) two.1 in
-      news d ty to full hs (set_lt hs d one.0) three.0 three.1 h a
+      news d ty to full hs (set_lt p.registers hs d one.0) three.0 three.1 h a
   steps_on hs (step.Free r to) typed h = λ a bases image.
       let two = both (is_freed (hold_of hs r)) _ (both (nat_lt r 8) _ typed).1 in (
         (refl, refl),
@@ -168,7 +168,7 @@ module _ {Job Done Point : Type 0} (p : Plan Job Done Point) {n : NeverState} {k
             (lead_so v hs (p.holds to) two.1 h),
       )
   steps_on hs (step.GetPtr d q i to) typed h = λ a bases image.
-      let one = both (may_set hs d) _ typed in
+      let one = both (may_set p.registers hs d) _ typed in
       let two = both (nat_lt q 8) _ one.1 in
       let three = both (is_there (type_there (kind_there p.types (hold_of hs q) i))) _ two.1 in
       let there = there_so (type_there (kind_there p.types (hold_of hs q) i)) three.0 in
@@ -177,7 +177,7 @@ module _ {Job Done Point : Type 0} (p : Plan Job Done Point) {n : NeverState} {k
       subst (λ (x : Option ℕ). leads p (loaded hs d x) to ≡ true) there.is three.1 in
       let set = λ (x : Value) (may : IsOfKind x (To there.t 0)).
       lead_so _ (with_hold hs d (MayPoint there.t)) (p.holds to) e
-      (set_holds n refl hs d (MayPoint there.t) x (set_lt hs d one.0) may h) in (
+      (set_holds n refl hs d (MayPoint there.t) x (set_lt p.registers hs d one.0) may h) in (
         (refl, refl),
         loads state w.ty there.t i (v q) (w.may (v q) (h q (ltb-true q 8 two.0))) (sound state q) w.there
             (λ m. HoldsIn (register_at m k) (p.holds to)) (with_register n k d Null)
@@ -208,9 +208,9 @@ module _ {Job Done Point : Type 0} (p : Plan Job Done Point) {n : NeverState} {k
         c.1,
       )
   steps_on hs (step.GetGlobal d g to) typed h = λ a bases image.
-      let one = both (may_set hs d) _ typed in
+      let one = both (may_set p.registers hs d) _ typed in
       let two = both (nat_lt g 64) _ one.1 in
-      ((refl, refl), gets (global_type p.globals g) refl (set_lt hs d one.0) two.1)
+      ((refl, refl), gets (global_type p.globals g) refl (set_lt p.registers hs d one.0) two.1)
     where
       gets : (x : Option ℕ) → global_type p.globals g ≡ x → d < 8
           → leads p (loaded hs d (global_type p.globals g)) to ≡ true
@@ -229,10 +229,10 @@ module _ {Job Done Point : Type 0} (p : Plan Job Done Point) {n : NeverState} {k
       let three = both (may_go (global_type p.globals g) (hold_of hs r)) (leads_shared p hs to) two.1 in
       ((refl, refl), share_so v hs (p.holds to) three.1 h)
   steps_on hs (step.Clear d to) typed h = λ a bases image.
-      let one = both (may_set hs d) _ typed in (
+      let one = both (may_set p.registers hs d) _ typed in (
         (refl, refl),
         lead_so _ (with_hold hs d Anything) (p.holds to) one.1
-            (set_holds n refl hs d Anything Null (set_lt hs d one.0) tt h),
+            (set_holds n refl hs d Anything Null (set_lt p.registers hs d one.0) tt h),
       )
   steps_on hs (step.Same x y so other) typed h = λ a bases image.
       let two = both (nat_lt y 8) _ (both (nat_lt x 8) _ typed).1 in
@@ -247,4 +247,4 @@ module _ {Job Done Point : Type 0} (p : Plan Job Done Point) {n : NeverState} {k
       (λ e. lead_so v (with_hold hs r (found (hold_of hs r))) (p.holds other) two.1 (set_so v v hs r
       (found (hold_of hs r)) (found_has (hold_of hs r) (v r) (h r (ltb-true r 8 one.0)) (λ is. e (null is)))
       (λ y lt ne. refl) h)) in ((refl, c.0), c.1)
-  steps_on hs step.End typed h = tt
+  steps_on hs (step.End done) typed h = tt

@@ -23,6 +23,7 @@ pub mod RunVocabulary
 pub mod OwnCalls
 pub mod Replies
 pub mod Leading
+pub mod Unused
 pub mod Walking
 pub mod Clearing
 pub mod JobLists
@@ -35,4 +36,6 @@ pub mod Operations
 pub mod Covering
 pub mod Asked
 pub mod Chains
+pub mod Rows
 pub mod Clients
+pub mod Having

@@ -1,5 +1,6 @@
 -- What callers still have to do, and what is still to be decided of it.
 use Rattle.mk_jobs.specs.declared.steps.Step.TheVariants as step
+use Rattle.mk_jobs.specs.Jobs.{IsEnd}
 use Rattle.mk_jobs.proofs.Vocabulary.{AreDecidedOnce, Decides, Hold, JobRun, List, None, Option, Ordered, Plan}
 use Rattle.mk_jobs.proofs.Vocabulary.{Replied, Some, [], ap, drop, left_by_all, length, nothing, order_of, refl}
 use Rattle.mk_jobs.proofs.Vocabulary.{settles, sym, take, ℕ, ◌∙◌, ◌∷◌, ◌≡◌}
@@ -28,8 +29,8 @@ module _ {Job Done Point : Type 0} (p : Plan Job Done Point) where
   first_of_job r t = record { point = p.starting r.job; decided = None; rest = r.all; goal = t; run = Some r }
 
   abbrev pub IsGoal : Option (JobRun Job Done) → Point → Type 0
-  IsGoal None g = p.step g ≡ step.End
-  IsGoal (Some r) g = p.ended g ≡ Some r.done
+  IsGoal None g = IsEnd (p.step g)
+  IsGoal (Some r) g = p.step g ≡ step.End r.done
 
 module _ {Job Done : Type 0} where
   abbrev pub job_of : Option (JobRun Job Done) → Option Job

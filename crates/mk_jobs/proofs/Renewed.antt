@@ -10,7 +10,8 @@ use Rattle.mk_jobs.proofs.Owners.{IsIdle, frees, idle_owner, nothing_idle}
 use Rattle.mk_jobs.proofs.Waiting.{Holding}
 use Rattle.mk_jobs.proofs.Callers.{nothing_left, put, put_back, put_by}
 use Rattle.mk_jobs.proofs.Owing.{Agrees, AgreesNow, Doing, IsAtJob, IsGoal, IsJob, IsOnce, Now, Work, clears, does}
-use Rattle.mk_jobs.proofs.Owing.{first_of_job, holds_at, owed_by, owed_now, rest_of}
+use Rattle.mk_jobs.specs.Jobs.{IsEnd}
+use Rattle.mk_jobs.proofs.Owing.{first_of_job, job_of, holds_at, owed_by, owed_now, rest_of}
 use Rattle.mk_jobs.proofs.Interleaving.{Inv, IsDoing, IsDoingNow, IsLocal, IsWork, steps}
 use Rattle.mk_jobs.proofs.Running.{AllWork, Ran}
 
@@ -21,17 +22,21 @@ module _ {Job Done Point State : Type 0} {p : Plan Job Done Point} {left_by : St
     {first : State} {content : NeverState → List ℕ → State → Type 0} {Shared : World → State → Type 0}
     {Local : World → ℕ → Point → Option Done → Type 0} {Rely : ℕ → World → World → Type 0} {job_at : Point → Option Job}
     (typed : IsTyped p) (K : Keeps p left_by first content Shared Local Rely job_at) where
-  idle_at_end : (s : Point) → p.step s ≡ step.End → IsIdle (p.holds s)
+  ended_gives : (hs : List Hold) (st : Step Point Done) → IsEnd st → IsTypedStep p hs st → all_give gives hs [] ≡ true
+  ended_gives hs (step.End done) is typed_step = typed_step
+  ended_gives hs _ is typed_step = absurd is
+
+  idle_at_end : (s : Point) → IsEnd (p.step s) → IsIdle (p.holds s)
   idle_at_end s is =
-      let all : all_give gives (p.holds s) [] ≡ true =
-      subst (IsTypedStep p (p.holds s)) is (typed.steps s) in
+      let all = ended_gives (p.holds s) (p.step s) is (typed.steps s) in
       record { none = λ r. gives_none _ (all_so gives refl (p.holds s) [] all r) }
 
-  none_asked : (st : Step Point) (x : Replied) (t : Point) → st ≡ step.End → Asks p.with_number st x.op x.reply t → ⊥
-  none_asked st x t is asks = subst (λ (y : Step Point). Asks p.with_number y x.op x.reply t) is asks
+  none_asked : (st : Step Point Done) (x : Replied) (t : Point) → IsEnd st → Asks p.with_number st x.op x.reply t → ⊥
+  none_asked (step.End done) x t is asks = asks
+  none_asked _ x t is asks = absurd is
 
   -- Where nothing is asked any more, registers are cleared.
-  pub ends_clear : (s : Point) (xs : List Replied) (t : Point) → p.step s ≡ step.End → Leads p s xs t
+  pub ends_clear : (s : Point) (xs : List Replied) (t : Point) → IsEnd (p.step s) → Leads p s xs t
       → AreClears xs × (s ≡ t)
   ends_clear s [] t is leads = (tt, leads)
   ends_clear s (x ∷ xs) t is (inl asked) = absurd (none_asked (p.step s) x asked.0 is asked.1)
@@ -43,8 +48,8 @@ module _ {Job Done Point State : Type 0} {p : Plan Job Done Point} {left_by : St
   begins w r run none =
       let at : p.starting r.job ≡ run.0 =
       subst (λ (xs : List Replied). Leads p (p.starting r.job) xs run.0) none run.1 in
-      let is : None ≡ Some r.done = K.ends w 0 (p.starting r.job) None r.done (K.begins w 0 r.job).0
-      (ap p.ended at ∙ run.2) in
+      let is : None ≡ Some r.done = K.ends w 0 (p.starting r.job) None r.done r.job (K.begins w 0 r.job).0
+      (ap p.step at ∙ run.2) (λ e. (K.begins w 0 r.job).1) in
       (cc is)
 
   pub no_jobs_left : World → (rs : List (JobRun Job Done)) → AreJobRuns p rs → all_of rs ≡ [] → rs ≡ []
@@ -65,20 +70,21 @@ module _ {Job Done Point State : Type 0} {p : Plan Job Done Point} {left_by : St
       by None is = record {
         agrees = subst (λ (r : Option (JobRun Job Done)). Agrees r d.decided) (sym is) tt;
         owes = ap (λ (r : Option (JobRun Job Done)). owed_by k r d.decided) is;
-        idle = idle_at_end d.point (ap p.step at ∙ subst (λ (r : Option (JobRun Job Done)). IsGoal p r d.goal) is
-            doing.goal);
+        idle = idle_at_end d.point (subst (λ (s : Point). IsEnd (p.step s)) (sym at)
+            (subst (λ (r : Option (JobRun Job Done)). IsGoal p r d.goal) is doing.goal));
       }
       by (Some r) is =
-          let ended : p.ended d.point ≡ Some r.done =
-          ap p.ended at ∙ subst (λ (x : Option (JobRun Job Done)). IsGoal p x d.goal) is doing.goal in
+          let ended : p.step d.point ≡ step.End r.done =
+          ap p.step at ∙ subst (λ (x : Option (JobRun Job Done)). IsGoal p x d.goal) is doing.goal in
           let lt : k < callers = exists (subst (IsJob) (sym is) tt) in
-          let done : d.decided ≡ Some r.done = K.ends w k d.point d.decided r.done (local lt) ended in
+          let done : d.decided ≡ Some r.done = K.ends w k d.point d.decided r.done r.job (local lt) ended
+          (λ e. doing.job e ∙ ap job_of is) in
           record {
             agrees = subst (λ (x : Option (JobRun Job Done)). Agrees x d.decided) (sym is)
                 (subst (Agrees (Some r)) (sym done) refl);
             owes = ap (λ (x : Option (JobRun Job Done)). owed_by k x d.decided) is
                 ∙ ap (owed_by k (Some r)) done;
-            idle = idle_at_end d.point (typed.ended d.point r.done ended);
+            idle = idle_at_end d.point (subst IsEnd (sym ended) tt);
           }
 
   -- What a caller is at is said in another way.

@@ -12,5 +12,5 @@ pub use Rattle.mk_never.specs.{NeverHeap.{after_op, reply_of}, declared.operatio
 pub use Rattle.mk_jobs.specs.{Advancing.{Clears, next_by, op_of}, JobLists.{DoesJobs, HasDone, HaveDone}}
 pub use Rattle.mk_jobs.specs.Jobs.{AreBelow, AreJobRuns, Asks, HoldsAt, JobRun, Leads, Replied, all_of, own_replied}
 pub use Rattle.mk_jobs.specs.{Joining.{HaveWorked, IsBetweenJobs}, Plans.Plan, declared.joining.Joined.Joined}
-pub use Rattle.mk_jobs.specs.Passes.{DoesJob, GoesToPoint, IsMadeFor, IsReady, replied_in, replied_to}
+pub use Rattle.mk_jobs.specs.Passes.{DoesJob, GoesToEnd, GoesToPoint, IsMadeFor, IsReady, replied_in, replied_to}
 pub use Rattle.mk_jobs.specs.{declared.job_lists.Dones.Dones, declared.job_lists.Jobs.Jobs, declared.steps.Step.Step}

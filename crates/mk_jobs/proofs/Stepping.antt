@@ -8,7 +8,7 @@ use Rattle.mk_jobs.proofs.Vocabulary.{Owns, Plan, Points, Ptr, Some, Step, Store
 use Rattle.mk_jobs.proofs.Vocabulary.{Value, WordOf, ap, arith, false, false≢true, freed, global_type, hold_of}
 use Rattle.mk_jobs.proofs.Vocabulary.{if◌then◌else◌, is_freed, is_number_there, is_own, is_there, kind_there, left_at}
 use Rattle.mk_jobs.proofs.Vocabulary.{length, ltb-true, may_go, may_set, nat_lt, not, op_of, refl, register_at, subst}
-use Rattle.mk_jobs.proofs.Vocabulary.{sym, there, true, type_there, with_word, ℕ, ◌<◌, ◌∙◌, ◌≡◌}
+use Rattle.mk_jobs.proofs.Vocabulary.{sym, there, true, type_there, with_word, ℕ, ◌&&◌, ◌<◌, ◌∙◌, ◌≡◌}
 use Rattle.mk_jobs.proofs.Holds.{HoldsIn, both}
 use Rattle.mk_jobs.proofs.Meeting.{IsStateOf, global_so, go_so, is_number_so, meets, sound, there_so, type_so}
 use Rattle.mk_jobs.proofs.Meeting.{word_met}
@@ -27,8 +27,14 @@ freed_has (Points t) v has = has
 freed_has (Owns t) v has = has
 freed_has (Owes t) v has = has
 
-pub set_lt : (hs : List Hold) (d : ℕ) → may_set hs d ≡ true → d < 8
-set_lt hs d e = ltb-true d 8 (both (nat_lt d 8) (not (is_own (hold_of hs d))) e).0
+pub set_lt : (n : ℕ) (hs : List Hold) (d : ℕ) → may_set n hs d ≡ true → d < 8
+set_lt n hs d e =
+    ltb-true d 8 (both (nat_lt d 8) (nat_lt d n) (both (nat_lt d 8 && nat_lt d n) (not (is_own (hold_of hs d))) e).0).0
+
+-- A register that is set is one that the object uses.
+pub set_used : (n : ℕ) (hs : List Hold) (d : ℕ) → may_set n hs d ≡ true → d < n
+set_used n hs d e =
+    ltb-true d n (both (nat_lt d 8) (nat_lt d n) (both (nat_lt d 8 && nat_lt d n) (not (is_own (hold_of hs d))) e).0).1
 
 pub left_registers : (t : Target) (n : NeverState) (k r : ℕ) (at : ℕ → ℕ → NeverState) → ((a w : ℕ)
     → register_at (at a w) k r ≡ register_at n k r) → register_at (left_at t n at) k r ≡ register_at n k r
@@ -66,13 +72,14 @@ module _ {Job Done Point : Type 0} (p : Plan Job Done Point) {n : NeverState} {k
       let w = word_met p.types (hold_of hs q) i kd e in
       meets state w.ty i kd (v q) (w.may (v q) (h q lt)) (sound state q) w.there P holds
 
-  pub admits : (hs : List Hold) (st : Step Point) → IsTypedStep p hs st → HoldsIn v hs
+  pub admits : (hs : List Hold) (st : Step Point Done) → IsTypedStep p hs st → HoldsIn v hs
       → IfSome (op_of st) (IsAdmitted p.globals n k)
   admits hs (step.New d ty to full) typed h =
-      let one = both (may_set hs d) _ typed in
+      let one = both (may_set p.registers hs d) _ typed in
       let two = both (nat_lt ty (length p.types)) _ one.1 in
       let there = ltb-true ty (length p.types) two.0 in
-      admitted (Op.New d ty false) (set_lt hs d one.0, omega (arith, there, ap length state.types_are)) tt tt
+      admitted (Op.New d ty false)
+      (set_lt p.registers hs d one.0, omega (arith, there, ap length state.types_are)) tt tt
   admits hs (step.Free r to) typed h =
       let one = both (nat_lt r 8) _ typed in
       let lt = ltb-true r 8 one.0 in
@@ -88,12 +95,12 @@ module _ {Job Done Point : Type 0} (p : Plan Job Done Point) {n : NeverState} {k
       let two = both (is_number_there (kind hs q i)) _ one.1 in
       admitted (Op.SetNum q i m) lt (met hs q i Number lt h (is_number_so (kind hs q i) two.0) IsNumber refl) tt
   admits hs (step.GetPtr d q i to) typed h =
-      let one = both (may_set hs d) _ typed in
+      let one = both (may_set p.registers hs d) _ typed in
       let two = both (nat_lt q 8) _ one.1 in
       let three = both (is_there (type_there (kind hs q i))) _ two.1 in
       let lt = ltb-true q 8 two.0 in
       let there = there_so (type_there (kind hs q i)) three.0 in
-      admitted (Op.GetPtr d q i) (set_lt hs d one.0, lt)
+      admitted (Op.GetPtr d q i) (set_lt p.registers hs d one.0, lt)
       (met hs q i (To there.t 0) lt h (type_so (kind hs q i) there.t there.is) IsPointer refl) tt
   admits hs (step.SetPtr q i r to) typed h =
       let one = both (nat_lt q 8) _ typed in
@@ -128,10 +135,10 @@ module _ {Job Done Point : Type 0} (p : Plan Job Done Point) {n : NeverState} {k
       same_type : (a b : ℕ) → Some a ≡ Some b → a ≡ b
       same_type a b e = cc e
   admits hs (step.GetGlobal d g to) typed h =
-      let one = both (may_set hs d) _ typed in
+      let one = both (may_set p.registers hs d) _ typed in
       let two = both (nat_lt g 64) _ one.1 in
       let lt = ltb-true g 64 two.0 in
-      admitted (Op.GetGlobal d g) (set_lt hs d one.0, omega (arith, lt, state.count)) tt tt
+      admitted (Op.GetGlobal d g) (set_lt p.registers hs d one.0, omega (arith, lt, state.count)) tt tt
   admits hs (step.SetGlobal g r to) typed h =
       let one = both (nat_lt g 64) _ typed in
       let two = both (nat_lt r 8) _ one.1 in
@@ -143,7 +150,7 @@ module _ {Job Done Point : Type 0} (p : Plan Job Done Point) {n : NeverState} {k
       (subst (λ (x : Option ℕ). IfSome x (λ ty. IsOfKind (v r) (To ty 0))) (sym (global_so p.globals g go.t go.is))
       (go.may (v r) (h r lt')))
   admits hs (step.Clear d to) typed h =
-      admitted (Op.Clear d) (set_lt hs d (both (may_set hs d) _ typed).0) tt tt
+      admitted (Op.Clear d) (set_lt p.registers hs d (both (may_set p.registers hs d) _ typed).0) tt tt
   admits hs (step.Same x y so not_so) typed h =
       let one = both (nat_lt x 8) _ typed in
       let two = both (nat_lt y 8) _ one.1 in
@@ -151,4 +158,4 @@ module _ {Job Done Point : Type 0} (p : Plan Job Done Point) {n : NeverState} {k
   admits hs (step.IsNull r so not_so) typed h =
       let one = both (nat_lt r 8) _ typed in
       admitted (Op.IsNull r) (ltb-true r 8 one.0) tt tt
-  admits hs step.End typed h = tt
+  admits hs (step.End done) typed h = tt

@@ -69,13 +69,14 @@ born_below {n} {a} fits born = elim (cases_lt a (length n.allocations)) [
 ]
 
 -- What holds of the operation of a step holds of the one that is asked, which may be refused.
-asked_of : {Point : Type 0} (P : Op → Type 0) (f : Point → ℕ → Point) (st : Step Point) (r : Reply) (o : Op) (t : Point)
-    → IfSome (op_of st) P → ((d ty : ℕ) → P (op.New d ty false) → P (op.New d ty true)) → Asks f st o r t → P o
+asked_of : {Point Done : Type 0} (P : Op → Type 0) (f : Point → ℕ → Point) (st : Step Point Done) (r : Reply) (o : Op)
+    (t : Point) → IfSome (op_of st) P → ((d ty : ℕ) → P (op.New d ty false) → P (op.New d ty true)) → Asks f st o r t
+    → P o
 asked_of P f (step.New d ty to full) r o t has refused asks = elim asks [
   | inl is ↦ subst P (sym is.0) has
   | inr is ↦ subst P (sym is.0) (refused d ty has)
 ]
-asked_of P f step.End r o t has refused asks = absurd asks
+asked_of P f (step.End done) r o t has refused asks = absurd asks
 asked_of P f _ r o t has refused asks = subst P (sym asks.0) has
 
 module _ {Job Done Point State : Type 0} (p : Plan Job Done Point) (left_by : State → Job → Done → Option State) where
@@ -102,7 +103,7 @@ module _ {Job Done Point State : Type 0} (p : Plan Job Done Point) (left_by : St
       caller = omega (arith, lt, stands.registers);
     }
 
-    pub asked_admitted : (hs : List Hold) (st : Step Point) → IsTypedStep p hs st → HoldsIn (register_at w.n k) hs
+    pub asked_admitted : (hs : List Hold) (st : Step Point Done) → IsTypedStep p hs st → HoldsIn (register_at w.n k) hs
         → (o : Op) (t : Point) → Asks p.with_number st o (reply_of w.n k o) t → IsAdmitted p.globals w.n k o
     asked_admitted hs st typed h o t asks =
         asked_of (IsAdmitted p.globals w.n k) p.with_number st (reply_of w.n k o) o t (admits p state_of hs st typed h)

@@ -6,6 +6,8 @@ use Rattle.mk_jobs.proofs.RunVocabulary.{after_op, answer_of, caller_of_pass, fl
 use Rattle.mk_jobs.proofs.RunVocabulary.{register_at, replied_to, reply_of, value_of}
 use Rattle.mk_jobs.proofs.{Holds.{HoldsIn, same_so}, Leading.steps_on, Meeting.IsStateOf}
 use Rattle.mk_jobs.proofs.{Replies.{Happens, from_turn, once_open, stays}, Stepping.admits}
+use Rattle.mk_jobs.proofs.Unused.{SetsBelow, from_stays, used_only}
+use Rattle.mk_jobs.specs.Jobs.{IsEnd}
 use Rattle.mk_laws.proofs.Vocabulary.{Bool, List, Option, Some, ℕ, ap, append-nil, append_assoc, arith, false, inl, inr}
 use Rattle.mk_laws.proofs.Vocabulary.{is_under_turn, refl, subst, sym, true, [], ◌++◌, ◌<◌, ◌∙◌, ◌∷◌, ◌≡◌}
 use Rattle.mk_laws.proofs.{CallSorts.flag_is, LastEvents.stands}
@@ -53,7 +55,13 @@ module _ {Job Done Point : Type 0} (p : Plan Job Done Point) where
   leads_through s (x ∷ xs) t ys u (inr clear) on = inr (clear.0, clear.1, leads_through s xs t ys u clear.2 on)
 
   pub goes_nowhere : (q : PassState) (s : Point) → GoesToPoint p q s q s
-  goes_nowhere q s = record { is = refl; all = []; leads = refl; did = sym (append-nil (replied_to q)) }
+  goes_nowhere q s = record {
+    is = refl;
+    all = [];
+    leads = refl;
+    did = sym (append-nil (replied_to q));
+    others = λ y ge lt. refl;
+  }
 
   pub goes_through : {q r u : PassState} {s t w : Point} → GoesToPoint p q s r t → GoesToPoint p r t u w
       → GoesToPoint p q s u w
@@ -62,6 +70,7 @@ module _ {Job Done Point : Type 0} (p : Plan Job Done Point) where
     all = goes.all ++ on.all;
     leads = leads_through s goes.all t on.all w goes.leads on.leads;
     did = on.did ∙ ap (λ (l : List Replied). l ++ on.all) goes.did ∙ append_assoc (replied_to q) goes.all on.all;
+    others = λ y ge lt. on.others y ge lt ∙ goes.others y ge lt;
   }
 
   -- A caller that has seen more is ready still.
@@ -141,6 +150,8 @@ module _ {Job Done Point : Type 0} (p : Plan Job Done Point) where
         (steps_on p (place_state made h) s (p.holds s) (p.step s) (typed.steps s)
         (same_so (value_of q) (register_at h.n k) (p.holds s)
         (λ y lt. h.before y lt) holds)) x.answer h.bases h.image in
+        let sets = of_asked (λ (y : Op). (a : Answer) → SetsBelow p.registers (flagged y a)) is
+        (used_only p (p.holds s) (p.step s) (typed.steps s)) x.answer in
         let there : t ≡ at_answer x.answer = leads ∙ ap (next_by p.with_number s (p.step s)) x.is_told in
         subst (Advances q s r) (sym there) (record {
           goes = record {
@@ -148,12 +159,19 @@ module _ {Job Done Point : Type 0} (p : Plan Job Done Point) where
             all = record { op = flagged o x.answer; reply = reply_of h.n k (flagged o x.answer) } ∷ [];
             leads = inl (at_answer x.answer, on.0, refl);
             did = h.did;
+            others = λ y ge lt. h.after y lt
+                ∙ from_stays h.n k p.registers (flagged o x.answer) sets y ge
+                ∙ h.before y lt;
           };
           holds = same_so (register_at (after_op h.n k (flagged o x.answer)) k) (value_of r)
               (p.holds (at_answer x.answer)) (λ y lt. h.after y lt) on.1;
         })
 
 -- Where nothing is asked any more
-pub is_end : {Point : Type 0} (st : Step Point) → ((o : Op) → op_of st ≡ Some o → ⊥) → st ≡ step.End
-is_end step.End none = refl
+pub is_end : {Point Done : Type 0} (st : Step Point Done) → ((o : Op) → op_of st ≡ Some o → ⊥) → IsEnd st
+is_end (step.End done) none = tt
 is_end _ none = absurd (none _ refl)
+
+pub ended_with : {Point Done : Type 0} (st : Step Point Done) → IsEnd st → (d : Done) × (st ≡ step.End d)
+ended_with (step.End done) is = (done, refl)
+ended_with _ is = absurd is

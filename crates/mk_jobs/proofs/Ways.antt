@@ -125,10 +125,10 @@ module _ {Job Done Point : Type 0} (p : Plan Job Done Point) (w : World) {k : �
   quiet_to m t same e = goes_quiet h same (leads_by hs (p.holds t) e)
 
   -- a register that is set to what holds so
-  set_to : (d : ℕ) (x : Value) (g : Hold) (t : Point) → may_set hs d ≡ true → is_own g ≡ false → Has x g
+  set_to : (d : ℕ) (x : Value) (g : Hold) (t : Point) → may_set p.registers hs d ≡ true → is_own g ≡ false → Has x g
       → leads p (with_hold hs d g) t ≡ true → GoesOn (with_register w.n k d x) t
   set_to d x g t may none has e =
-      let lt = set_lt hs d may in
+      let lt = set_lt p.registers hs d may in
       goes_set h d g lt (not_own _ (is_own (hold_of hs d)) may) none
       (subst (λ (y : Value). Has y g) (sym (get_or-set_same w.n.registers (8 * k + d) x Null (room d lt))) has)
       (λ r below ne. get_or-set_other w.n.registers (8 * k + d) (8 * k + r) x Null (λ e'. ne (omega (arith, e'))))
@@ -138,7 +138,7 @@ module _ {Job Done Point : Type 0} (p : Plan Job Done Point) (w : World) {k : �
       → r < 8 → register_at (left_at t w.n at) k r ≡ v r
   stored t at same r lt = left_registers t w.n k r at (λ a i. same a i r)
 
-  gets_global : (d g : ℕ) (to : Point) (x : Option ℕ) → global_type p.globals g ≡ x → may_set hs d ≡ true
+  gets_global : (d g : ℕ) (to : Point) (x : Option ℕ) → global_type p.globals g ≡ x → may_set p.registers hs d ≡ true
       → leads p (loaded hs d x) to ≡ true → GoesOn (with_register w.n k d (global_at w.n g)) to
   gets_global d g to (Some t) is may e =
       set_to d (global_at w.n g) (MayPoint t) to may refl (subst (λ (x : Option ℕ). IfSome x (λ ty.
@@ -157,14 +157,14 @@ module _ {Job Done Point : Type 0} (p : Plan Job Done Point) (w : World) {k : �
       (h x lt))) same (λ none owed. public (taken_owes (hold_of hs x) g how none owed) (not_owed (hold_of hs x) none))
       (leads_shared_by (with_hold hs x (taken (hold_of hs x) g)) (p.holds t) e)
 
-  pub asks_way : (st : Step Point) → IsTypedStep p hs st → (o : Op) (t : Point)
+  pub asks_way : (st : Step Point Done) → IsTypedStep p hs st → (o : Op) (t : Point)
       → Asks p.with_number st o (reply_of w.n k o) t → TakesPublic w k o hs (p.holds t) → Leads o t
   asks_way (step.New d ty to full) typed o t asks public =
-      let one = and_parts (may_set hs d) _ typed in
+      let one = and_parts (may_set p.registers hs d) _ typed in
       let two = and_parts (nat_lt ty (length p.types)) _ one.1 in
       let three = and_parts (leads p (with_hold hs d (Owns ty)) to) (leads p hs full) two.1 in
       elim asks [
-        | inl is ↦ at o (op.New d ty false) t to is.0 is.1 (creates d ty refl (set_lt hs d one.0)
+        | inl is ↦ at o (op.New d ty false) t to is.0 is.1 (creates d ty refl (set_lt p.registers hs d one.0)
             (not_own _ (is_own (hold_of hs d)) one.0) three.0)
         | inr is ↦ at o (op.New d ty true) t full is.0 is.1 (passes refl (quiet_to w.n full (λ r lt. refl) three.1))
       ]
@@ -183,7 +183,7 @@ module _ {Job Done Point : Type 0} (p : Plan Job Done Point) (w : World) {k : �
       (passes refl (quiet_to (after_op w.n k (op.SetNum q i m)) to
       (stored (target_of w.n (v q) i) _ (λ a y r. refl)) two.1))
   asks_way (step.GetPtr d q i to) typed o t asks public =
-      let one = and_parts (may_set hs d) _ typed in
+      let one = and_parts (may_set p.registers hs d) _ typed in
       let two = and_parts (nat_lt q 8) _ one.1 in
       let three = and_parts (is_there (type_there (kind_there p.types (hold_of hs q) i))) _ two.1 in
       let there = there_so (type_there (kind_there p.types (hold_of hs q) i)) three.0 in
@@ -220,7 +220,7 @@ module _ {Job Done Point : Type 0} (p : Plan Job Done Point) (w : World) {k : �
             (quiet_to (after_op w.n k (op.CasPtr q i x r)) other same six.1))
       ]
   asks_way (step.GetGlobal d g to) typed o t asks public =
-      let one = and_parts (may_set hs d) _ typed in
+      let one = and_parts (may_set p.registers hs d) _ typed in
       let two = and_parts (nat_lt g 64) _ one.1 in
       at o (op.GetGlobal d g) t to asks.0 asks.1
       (passes refl (gets_global d g to (global_type p.globals g) refl one.0 two.1))
@@ -230,7 +230,7 @@ module _ {Job Done Point : Type 0} (p : Plan Job Done Point) (w : World) {k : �
       at o (op.SetGlobal g r) t to asks.0 asks.1
       (passes refl (goes_quiet h (λ x lt. refl) (leads_shared_by hs (p.holds to) three.1)))
   asks_way (step.Clear d to) typed o t asks public =
-      let one = and_parts (may_set hs d) _ typed in
+      let one = and_parts (may_set p.registers hs d) _ typed in
       at o (op.Clear d) t to asks.0 asks.1 (passes refl (set_to d Null Anything to one.0 refl tt one.1))
   asks_way (step.Same x y so other) typed o t asks public =
       let two = and_parts (nat_lt y 8) _ (and_parts (nat_lt x 8) _ typed).1 in
@@ -255,4 +255,4 @@ module _ {Job Done Point : Type 0} (p : Plan Job Done Point) (w : World) {k : �
     where
       found_owes : (g : Hold) → is_own g ≡ false → is_owed (found g) ≡ false
       found_owes x0 none = grind arith
-  asks_way step.End typed o t asks public = absurd asks
+  asks_way (step.End done) typed o t asks public = absurd asks

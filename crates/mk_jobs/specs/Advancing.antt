@@ -1,5 +1,5 @@
 -- The operation of a step, and where its answer leads. Private functions alone cite this.
-use Rattle.std.specs.Prelude.{◌≡◌, ℕ, ◌<◌, ◌==◌, Bool, true, false, List, [], ◌∷◌, ◌++◌, Option, Some, None}
+use Rattle.std.specs.Prelude.{◌≡◌, ℕ, ◌<◌, ◌≤◌, ◌==◌, Bool, true, false, List, [], ◌∷◌, ◌++◌, Option, Some, None}
 use Rattle.std.specs.Prelude.{if◌then◌else◌}
 use Rattle.mk_never.specs.{declared.operations.Op.Op, declared.values.Value.TheVariants.Null}
 use Rattle.mk_core.specs.declared.events.Answer.{Answer}
@@ -10,7 +10,7 @@ use Rattle.mk_never.specs.declared.operations.Op.TheVariants as op
 use Rattle.mk_core.specs.declared.events.Answer.TheVariants as answer
 
 -- the operation of a step, if it asks for one
-abbrev pub op_of : {Point : Type 0} → Step Point → Option Op
+abbrev pub op_of : {Point Done : Type 0} → Step Point Done → Option Op
 op_of (step.New d ty to full) = Some (op.New d ty false)
 op_of (step.Free p to) = Some (op.Free p)
 op_of (step.GetNum q i to) = Some (op.GetNum q i)
@@ -23,7 +23,7 @@ op_of (step.SetGlobal g p to) = Some (op.SetGlobal g p)
 op_of (step.Clear d to) = Some (op.Clear d)
 op_of (step.Same p q so not_so) = Some (op.Same p q)
 op_of (step.IsNull p so not_so) = Some (op.IsNull p)
-op_of step.End = None
+op_of (step.End done) = None
 
 -- the answer is Full
 abbrev pub says_full : Answer → Bool
@@ -41,7 +41,7 @@ number_answered (answer.Num n) = n
 number_answered _ = 0
 
 -- the point to which the answer leads
-abbrev pub next_by : {Point : Type 0} → (Point → ℕ → Point) → Point → Step Point → Answer → Point
+abbrev pub next_by : {Point Done : Type 0} → (Point → ℕ → Point) → Point → Step Point Done → Answer → Point
 next_by w s (step.New d ty to full) told = if says_full told then full else to
 next_by w s (step.Free p to) told = to
 next_by w s (step.GetNum q i to) told = w to (number_answered told)
@@ -54,17 +54,19 @@ next_by w s (step.SetGlobal g p to) told = to
 next_by w s (step.Clear d to) told = to
 next_by w s (step.Same p q so not_so) told = if says_yes told then so else not_so
 next_by w s (step.IsNull p so not_so) told = if says_yes told then so else not_so
-next_by w s step.End told = s
+next_by w s (step.End done) told = s
 
 -- Each of these operations is a Clear, answered Done.
 abbrev pub AreClears : List Replied → Type 0
 AreClears [] = Unit {0}
 AreClears (x ∷ xs) = IsClear x.op × AreClears xs
 
--- The pass has seen more, in which its caller set its registers below this one to null, and did nothing else.
+-- The pass has seen more, in which its caller set its registers below this one to null, and did nothing else. The
+-- others are as they were.
 pub record Clears (p : PassState) (count : ℕ) (q : PassState) : Type 0 where
   pub is : q ≡ record p { seen = q.seen }
   pub all : List Replied
   pub are : AreClears all
   pub did : replied_to q ≡ replied_to p ++ all
   pub null : (r : ℕ) → r < count → value_of q r ≡ Null
+  pub others : (r : ℕ) → count ≤ r → r < 8 → value_of q r ≡ value_of p r

@@ -1,5 +1,5 @@
 -- A job as operations of the heap that never reuses storage: which one comes next, by the replies so far.
-use Rattle.std.specs.Prelude.{◌≡◌, ◌⊎◌, ℕ, zero, suc, ◌<◌, ◌==◌, true, false, Some, List, [], ◌∷◌, ◌++◌}
+use Rattle.std.specs.Prelude.{◌≡◌, ◌⊎◌, ℕ, zero, suc, ◌<◌, ◌==◌, true, false, List, [], ◌∷◌, ◌++◌}
 use Rattle.std.specs.Prelude.{if◌then◌else◌}
 use Rattle.mk_never.specs.{declared.operations.Op.Op, declared.operations.Reply.Reply, declared.values.Value.Value}
 use Rattle.mk_never.specs.{declared.values.Value.TheVariants.Ptr, declared.types.Kind.TheVariants.To}
@@ -21,7 +21,7 @@ number_replied (reply.Num n) = n
 number_replied _ = 0
 
 -- The operation of a step is asked, is replied so, and leads there. What isn't replied yes leads where no does.
-abbrev pub Asks : {Point : Type 0} → (Point → ℕ → Point) → Step Point → Op → Reply → Point → Type 0
+abbrev pub Asks : {Point Done : Type 0} → (Point → ℕ → Point) → Step Point Done → Op → Reply → Point → Type 0
 Asks w (step.New d ty to full) o r t =
     ((o ≡ op.New d ty false) × (t ≡ to)) ⊎ ((o ≡ op.New d ty true) × (t ≡ full))
 Asks w (step.Free p to) o r t = (o ≡ op.Free p) × (t ≡ to)
@@ -38,7 +38,12 @@ Asks w (step.Same p q so not_so) o r t =
     (o ≡ op.Same p q) × (((r ≡ reply.Num 1) × (t ≡ so)) ⊎ ((r ≡ reply.Num 1 → ⊥) × (t ≡ not_so)))
 Asks w (step.IsNull p so not_so) o r t =
     (o ≡ op.IsNull p) × (((r ≡ reply.Num 1) × (t ≡ so)) ⊎ ((r ≡ reply.Num 1 → ⊥) × (t ≡ not_so)))
-Asks w step.End o r t = ⊥
+Asks w (step.End done) o r t = ⊥
+
+-- Nothing is asked any more.
+abbrev pub IsEnd : {Point Done : Type 0} → Step Point Done → Type 0
+IsEnd (step.End done) = Unit {0}
+IsEnd _ = ⊥
 
 -- It clears one of the eight registers.
 abbrev pub IsClear : Op → Type 0
@@ -94,11 +99,11 @@ module _ {Job Done Point : Type 0} (p : Plan Job Done Point) where
   Leads s [] t = s ≡ t
   Leads s (x ∷ xs) t =
       ((next : Point) × Asks p.with_number (p.step s) x.op x.reply next × Leads next xs t)
-      ⊎ ((p.step s ≡ step.End) × IsClear x.op × Leads s xs t)
+      ⊎ (IsEnd (p.step s) × IsClear x.op × Leads s xs t)
 
   -- The operations lead from the job's start to its outcome.
   abbrev pub IsJobRun : JobRun Job Done → Type 0
-  IsJobRun r = (t : Point) × Leads (p.starting r.job) r.all t × (p.ended t ≡ Some r.done)
+  IsJobRun r = (t : Point) × Leads (p.starting r.job) r.all t × (p.step t ≡ step.End r.done)
 
   -- Each is the run of a job.
   abbrev pub AreJobRuns : List (JobRun Job Done) → Type 0
@@ -114,7 +119,7 @@ module _ {Job Done Point : Type 0} (p : Plan Job Done Point) where
       (calls : List Call) : Type 0 where
     pub found : Point
     pub founds : Leads p.founding founding found
-    pub founded : p.step found ≡ step.End
+    pub founded : IsEnd (p.step found)
     pub jobs : (k : ℕ) → AreJobRuns (runs k)
     pub own : (k : ℕ) → own_replied k n calls ≡ jobs_of_first k founding ++ all_of (runs k)
     pub exist : AreBelow callers calls

@@ -9,8 +9,8 @@ use Rattle.mk_heap.specs.{Below.Objects.TurnCycles.TurnsOfAreExact, HostTurns.Ho
 use Rattle.mk_jobs.specs.{declared.job_lists.Dones.Dones, declared.job_lists.Jobs.Jobs}
 use Rattle.mk_jobs.specs.{declared.joining.Callers.Callers, declared.joining.Joined.Joined}
 use Rattle.mk_jobs.specs.{declared.joining.Worked.Worked, declared.working.Ended.Ended}
-use Rattle.mk_jobs.specs.declared.steps.Step.TheVariants.{End}
-use Rattle.mk_jobs.specs.{Engines.AreEnginesFrom, JobLists.{HasDone, HaveDone}, Jobs.{Leads, Replied}, Plans.Plan}
+use Rattle.mk_jobs.specs.{Engines.AreEnginesFrom, JobLists.{HasDone, HaveDone}, Jobs.{IsEnd, Leads, Replied}}
+use Rattle.mk_jobs.specs.Plans.{Plan}
 
 -- The pass of caller k between two jobs, which its own thread may take.
 pub record IsBetweenJobs (on : Bool) (w : WordsState) (k : ℕ) (p : PassState) : Type 0 where
@@ -34,7 +34,7 @@ AreExactFrom on c k count es = (j : ℕ) → k ≤ j → j < k + count → Turns
 pub record IsFounding {Job Done Point : Type 0} (p : Plan Job Done Point) (founding : List Replied) : Type 0 where
   pub found : Point
   pub founds : Leads p p.founding founding found
-  pub founded : p.step found ≡ End
+  pub founded : IsEnd (p.step found)
 
 module _ {Job Done Point : Type 0} (p : Plan Job Done Point) (on : Bool) (w : WordsState) where
   -- Caller k did its jobs on a thread of its own, all of them where memory sufficed.

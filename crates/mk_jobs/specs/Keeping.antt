@@ -9,6 +9,7 @@ use Rattle.mk_jobs.specs.{Plans.{Plan, Hold, Anything, MayPoint, Points, Owns, O
 use Rattle.mk_jobs.specs.Typing.{hold_of}
 use Rattle.mk_jobs.specs.Laws.{IsOneOf, is_pointer_to}
 use Rattle.mk_never.specs.declared.operations.Op.TheVariants as op
+use Rattle.mk_jobs.specs.declared.steps.Step.TheVariants as step
 
 -- who knows an allocation
 pub data Role : Type 0 where
@@ -141,8 +142,8 @@ module _ {Job Done Point State : Type 0} (p : Plan Job Done Point) (left_by : St
     pub founding : (callers : ℕ) → Shared (first_world callers) first × Local (first_world callers) 0 p.founding None
         × (job_at p.founding ≡ None)
     pub begins : (w : World) (k : ℕ) (j : Job) → Local w k (p.starting j) None × (job_at (p.starting j) ≡ Some j)
-    pub ends : (w : World) (k : ℕ) (s : Point) (u : Option Done) (d : Done) → Local w k s u → p.ended s ≡ Some d
-        → u ≡ Some d
+    pub ends : (w : World) (k : ℕ) (s : Point) (u : Option Done) (d : Done) (j : Job) → Local w k s u
+        → p.step s ≡ step.End d → (u ≡ None → job_at s ≡ Some j) → u ≡ Some d
     pub waits : (callers j k : ℕ) (s : Point) (u : Option Done) (w w' : World) → (j ≡ k → ⊥) → IsThere callers w k s
         → Waits k w w' → Rely j w w' → Local w k s u → Local w' k s u
     pub covers : (j : ℕ) (x : State) (w w' : World) → Covers w w' → Shared w x → Shared w' x × Rely j w w'

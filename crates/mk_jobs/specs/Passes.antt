@@ -1,5 +1,5 @@
 -- Jobs in the history of a running heap: what a caller's operations were replied there.
-use Rattle.std.specs.Prelude.{◌≡◌, ℕ, ◌<◌, List, ◌++◌, Some}
+use Rattle.std.specs.Prelude.{◌≡◌, ℕ, ◌<◌, ◌≤◌, List, ◌++◌}
 use Rattle.mk_never.specs.declared.values.Value.TheVariants.{Null}
 use Rattle.mk_core.specs.{declared.config.Config.Config, declared.events.Event.Event, Decided.asked}
 use Rattle.mk_core.specs.History.{calls, never_first}
@@ -16,10 +16,6 @@ replied_in c k es = own_replied k (never_first c) (asked (calls c es))
 abbrev pub replied_to : PassState → List Replied
 replied_to p = replied_in p.table.config (caller_of_pass p) p.seen
 
--- Its caller's registers are null, so that it keeps no object.
-abbrev pub KeepsNothing : PassState → Type 0
-KeepsNothing q = (r : ℕ) → r < 8 → value_of q r ≡ Null
-
 module _ {Job Done Point : Type 0} (p : Plan Job Done Point) where
   -- the heap has the types and the globals of the object
   pub record IsMadeFor (c : Config) : Type 0 where
@@ -31,21 +27,30 @@ module _ {Job Done Point : Type 0} (p : Plan Job Done Point) where
     pub may : MayTakeTurns (made_for engine) s
     pub made : IsMadeFor s.pass.table.config
 
-  -- The pass has seen more, in which its caller's operations led from one point to another.
+  -- Its caller's registers that the object uses are null. If the others are as well, it keeps no object.
+  abbrev pub KeepsNothing : PassState → Type 0
+  KeepsNothing q = (r : ℕ) → r < p.registers → value_of q r ≡ Null
+
+  -- The pass has seen more, in which its caller's operations led from one point to another. The registers that the
+  -- object doesn't use are as they were.
   pub record GoesToPoint (q : PassState) (s : Point) (q' : PassState) (t : Point) : Type 0 where
     pub is : q' ≡ record q { seen = q'.seen }
     pub all : List Replied
     pub leads : Leads p s all t
     pub did : replied_to q' ≡ replied_to q ++ all
+    pub others : (r : ℕ) → p.registers ≤ r → r < 8 → value_of q' r ≡ value_of q r
+
+  -- They led from one point to an end with this outcome.
+  pub record GoesToEnd (q : PassState) (s : Point) (q' : PassState) (done : Done) : Type 0 where
+    pub last : Point
+    pub goes : GoesToPoint q s q' last
+    pub ended : p.step last ≡ step.End done
 
   -- Its caller made the object.
   pub record Founds (q q' : PassState) : Type 0 where
-    pub last : Point
-    pub goes : GoesToPoint q p.founding q' last
-    pub founded : p.step last ≡ step.End
+    pub done : Done
+    pub ends : GoesToEnd q p.founding q' done
 
   -- Its caller did the job, and this became of it.
-  pub record DoesJob (q : PassState) (job : Job) (done : Done) (q' : PassState) : Type 0 where
-    pub last : Point
-    pub goes : GoesToPoint q (p.starting job) q' last
-    pub ended : p.ended last ≡ Some done
+  abbrev pub DoesJob : PassState → Job → Done → PassState → Type 0
+  DoesJob q job done q' = GoesToEnd q (p.starting job) q' done

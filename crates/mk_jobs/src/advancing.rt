@@ -9,7 +9,7 @@ use mk_never::Op;
 
 /// The operation of a step; none at the end of a job.
 #[inline(always)]
-pub(crate) fn op_of<P: Copy>(asked: Step<P>) -> Option<Op>
+pub(crate) fn op_of<P: Copy, D: Copy>(asked: Step<P, D>) -> Option<Op>
     ensures { result ≡ op_of asked }
 {
     match asked {
@@ -25,7 +25,7 @@ pub(crate) fn op_of<P: Copy>(asked: Step<P>) -> Option<Op>
         Step::Clear { d, .. } => Some(Op::Clear { d }),
         Step::Same { p, q, .. } => Some(Op::Same { p, q }),
         Step::IsNull { p, .. } => Some(Op::IsNull { p }),
-        Step::End => None,
+        Step::End(_) => None,
     }
 }
 
@@ -58,7 +58,11 @@ fn number_answered(told: Answer) -> u64
 
 /// The point to which the answer leads.
 #[inline(always)]
-pub(crate) fn next_by<O: Object>(point: O::Point, asked: Step<O::Point>, told: Answer) -> O::Point
+pub(crate) fn next_by<O: Object>(
+    point: O::Point,
+    asked: Step<O::Point, O::Done>,
+    told: Answer,
+) -> O::Point
     ensures { result ≡ next_by O.plan.with_number point asked told }
 {
     match asked {
@@ -73,6 +77,6 @@ pub(crate) fn next_by<O: Object>(point: O::Point, asked: Step<O::Point>, told: A
         | Step::GetGlobal { to, .. }
         | Step::SetGlobal { to, .. }
         | Step::Clear { to, .. } => to,
-        Step::End => point,
+        Step::End(_) => point,
     }
 }

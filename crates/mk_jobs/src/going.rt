@@ -1,12 +1,12 @@
 //! A caller goes from point to point of a job, and forgets what it held when the job has ended.
-ghost use Rattle.std.specs.Prelude.{◌≡◌, ◌<◌, Some};
+ghost use Rattle.std.specs.Prelude.{◌≡◌, ◌<◌, ◌≤◌};
 ghost use Rattle.mk_heap.specs.Below.{Callers.States.value_of, Objects.Laws.OwnAreExact};
 ghost use Rattle.mk_jobs.specs.{Advancing.Clears, Jobs.HoldsAt};
-ghost use Rattle.mk_jobs.specs.Passes.{DoesJob, Founds, GoesToPoint, IsReady, KeepsNothing};
-ghost use Rattle.mk_jobs.specs.declared.steps.Step.TheVariants as step;
+ghost use Rattle.mk_jobs.specs.Passes.{DoesJob, Founds, GoesToEnd, IsReady, KeepsNothing};
 
 use crate::advancing::{next_by, op_of};
 use crate::objects::Object;
+use crate::steps::Step;
 use mk_heap::lower::callers::Caller;
 use mk_heap::lower::cycles::Engine;
 use mk_heap::{answer_to, answer_when_open};
@@ -14,25 +14,27 @@ use mk_never::Op;
 use std::sync::Wait;
 use std::thread::Threads;
 
-/// Carries out the operations from a point to the end of the job.
+/// Carries out the operations from a point to the end of the job, and tells with what it ended.
 fn go<O: Object, E: Engine, R: Threads + Wait + Sync>(
     rt: &R,
     caller: &mut Caller,
     engine: &mut E,
     from: O::Point,
-) -> O::Point
+) -> O::Done
     requires ready { IsReady O.plan E.made_for caller.old engine.old }
     requires holds { HoldsAt O.plan (value_of caller.old.pass) from }
     ensures ready { IsReady O.plan E.made_for caller.new engine.new }
-    ensures goes { GoesToPoint O.plan caller.old.pass from caller.new.pass result }
-    ensures goal { O.plan.step result ≡ step.End }
+    ensures goes { GoesToEnd O.plan caller.old.pass from caller.new.pass result }
     ensures exact { OwnAreExact E.on caller.old.pass → OwnAreExact E.on caller.new.pass }
 {
     let mut point = from;
     'points: for _ in rt.forever() {
         let asked = O::step(point);
         let Some(op) = op_of(asked) else {
-            return point;
+            let Step::End(done) = asked else {
+                unreachable!()
+            };
+            return done;
         };
         let told = answer_to(rt, caller, engine, op);
         point = next_by::<O>(point, asked, told);
@@ -40,31 +42,17 @@ fn go<O: Object, E: Engine, R: Threads + Wait + Sync>(
     unreachable!()
 }
 
-/// Sets all registers to null. As long as a register points to a freed object, the heap keeps that object, and all that
-/// it is linked to.
+/// Sets the registers that the object uses to null. As long as a register points to a freed object, the heap keeps that
+/// object, and all that it is linked to.
 fn forget<O: Object, E: Engine, R: Threads + Wait + Sync>(rt: &R, caller: &mut Caller, engine: &E)
     requires ready { IsReady O.plan E.made_for caller.old engine.now }
     ensures ready { IsReady O.plan E.made_for caller.new engine.now }
-    ensures clears { Clears caller.old.pass 8 caller.new.pass }
+    ensures clears { Clears caller.old.pass O.plan.registers caller.new.pass }
     ensures exact { OwnAreExact E.on caller.old.pass → OwnAreExact E.on caller.new.pass }
 {
-    for register in 0..8 {
+    for register in 0..O::registers() {
         answer_when_open(rt, caller, Op::Clear { d: register });
     }
-}
-
-/// What became of a job that has come to this point. Where its client's table lets a job end with no outcome, nothing
-/// is
-/// returned.
-fn outcome_at<O: Object, R: Wait>(rt: &R, point: O::Point) -> O::Done
-    ensures { O.plan.ended point ≡ Some result }
-{
-    'points: for _ in rt.forever() {
-        if let Some(done) = O::ended(point) {
-            return done;
-        }
-    }
-    unreachable!()
 }
 
 /// Makes the object. It is for the first caller alone, before its jobs.
@@ -78,7 +66,7 @@ pub(crate) fn found<O: Object, E: Engine, R: Threads + Wait + Sync>(
     ensures founds { Founds O.plan caller.old.pass caller.new.pass }
     ensures exact { OwnAreExact E.on caller.old.pass → OwnAreExact E.on caller.new.pass }
 {
-    let _last = go::<O, E, R>(rt, caller, engine, O::founding());
+    let _done = go::<O, E, R>(rt, caller, engine, O::founding());
     forget::<O, E, R>(rt, caller, engine);
 }
 
@@ -92,10 +80,10 @@ pub fn do_job<O: Object, E: Engine, R: Threads + Wait + Sync>(
     requires ready { IsReady O.plan E.made_for caller.old engine.old }
     ensures ready { IsReady O.plan E.made_for caller.new engine.new }
     ensures does { DoesJob O.plan caller.old.pass job result caller.new.pass }
-    ensures keeps { KeepsNothing caller.new.pass }
+    ensures keeps { KeepsNothing O.plan caller.new.pass }
     ensures exact { OwnAreExact E.on caller.old.pass → OwnAreExact E.on caller.new.pass }
 {
-    let last = go::<O, E, R>(rt, caller, engine, O::starting(job));
+    let done = go::<O, E, R>(rt, caller, engine, O::starting(job));
     forget::<O, E, R>(rt, caller, engine);
-    outcome_at::<O, R>(rt, last)
+    done
 }

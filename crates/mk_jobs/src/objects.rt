@@ -38,6 +38,10 @@ pub trait Object {
     fn globals(alloc: Global) -> Result<GlobalTable, NoMemory>
         ensures { IfOk result (λ globals. globals ≡ plan.globals) };
 
+    /// How many registers it uses, from 0 on. After each job they are null.
+    fn registers() -> u8
+        ensures { result ≡ plan.registers };
+
     /// Where the first caller begins to make the object, before its jobs.
     fn founding() -> Self::Point
         ensures { result ≡ plan.founding };
@@ -45,16 +49,13 @@ pub trait Object {
     fn starting(job: Self::Job) -> Self::Point
         ensures { result ≡ plan.starting job };
 
-    fn step(point: Self::Point) -> Step<Self::Point>
+    /// The founding ends with an outcome as well, which nobody is told.
+    fn step(point: Self::Point) -> Step<Self::Point, Self::Done>
         ensures { result ≡ plan.step point };
 
     /// The point, with the number that was loaded.
     fn with_number(point: Self::Point, n: u64) -> Self::Point
         ensures { result ≡ plan.with_number point n };
-
-    /// What became of the job, if it has ended.
-    fn ended(point: Self::Point) -> Option<Self::Done>
-        ensures { result ≡ plan.ended point };
 
     /// What the registers hold is what each operation asks, and no job ends with an object of its caller's own.
     ghost typed: { IsTyped plan };

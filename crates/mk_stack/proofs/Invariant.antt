@@ -1,167 +1,108 @@
--- What holds of a stack at every place of an interleaving.
-use Rattle.mk_stack.proofs.Vocabulary.{Allocation, Checking, Done, Empty, Ended, Filling, Following, Founded, Founding}
-use Rattle.mk_stack.proofs.Vocabulary.{Freeing, IsOneOf, JobRun, Kind, Linking, Looking, Making, NeverState, Null}
-use Rattle.mk_stack.proofs.Vocabulary.{Peeking, Placing, Point, Popped, Ptr, Publishing, Reading, Replied, Starting}
-use Rattle.mk_stack.proofs.Vocabulary.{Taking, Testing, Value, allocation_at, done_without, global_at, kinds_of}
-use Rattle.mk_stack.proofs.Vocabulary.{node_kinds, number_of, register_at, top_kinds, word_at}
-use Rattle.mk_laws.proofs.Vocabulary.{List, None, Option, Some, ℕ, length, [], ◌*◌, ◌<◌, ◌∷◌, ◌≡◌, ◌≢◌, ◌≤◌, ◌⊎◌}
-use Rattle.mk_stack.proofs.Roles.{Base, IsPublished, Private, Role, Stacked, Taken, Unborn, is_gone, size_of}
+-- What holds of a stack, and of each caller at its point, at every place of an interleaving.
+use Rattle.mk_laws.proofs.Vocabulary.{List, None, Null, Option, Ptr, Some, global_at, number_of, register_at, word_at}
+use Rattle.mk_laws.proofs.Vocabulary.{ℕ, [], ◌≡◌, ◌≢◌, ◌⊎◌}
+use Rattle.mk_jobs.specs.{Keeping.{Public, World}, Laws.IsOneOf, Linked.numbers_in}
+use Rattle.mk_jobs.proofs.{Chains.{IsChain, IsPart}, Having.{HasOwn, HasRoot, HasShown, ShownStays}}
+use Rattle.mk_stack.specs.declared.{jobs.Done.{Done}, jobs.Job.{Job}, points.Point.{Point}}
 
-abbrev pub IsNotAmong : ℕ → List ℕ → Type 0
-IsNotAmong a [] = Unit {0}
-IsNotAmong a (b ∷ bs) = (a ≢ b) × IsNotAmong a bs
+-- There is no top yet.
+pub record IsUnfounded (w : World) (xs : List ℕ) : Type 0 where
+  pub global : global_at w.n 0 ≡ Null
+  pub none_left : xs ≡ []
+  pub none_shared : (a : ℕ) → w.role a ≢ Public
 
--- The nodes are linked from this pointer on, each stands once, and all have the role of nodes on the stack.
-abbrev pub IsChain : NeverState → (ℕ → Role) → Value → List ℕ → Type 0
-IsChain n role v [] = v ≡ Null
-IsChain n role v (a ∷ nodes) =
-    (v ≡ Ptr a 0 0) × (role a ≡ Stacked) × IsNotAmong a nodes × IsChain n role (word_at n a 1) nodes
-
--- There is no top yet, or global 0 points to it and it has the chain.
-abbrev pub HasChain : NeverState → Option ℕ → (ℕ → Role) → List ℕ → Type 0
-HasChain n None role nodes = (global_at n 0 ≡ Null) × (nodes ≡ [])
-HasChain n (Some t) role nodes = (global_at n 0 ≡ Ptr t 1 0) × (role t ≡ Base) × IsChain n role (word_at n t 0) nodes
-
--- the types of the heap, and how many registers and globals it has
-pub record HasShape (callers : ℕ) (types : List (List Kind)) (register_count global_count : ℕ) : Type 0 where
-  pub node : kinds_of types 0 ≡ node_kinds
-  pub top : kinds_of types 1 ≡ top_kinds
-  pub registers : register_count ≡ 8 * callers
-  pub globals : global_count ≡ 64
-
--- Allocation a, of so many, is as its role says: granted or not yet, of so many words, and freed or not.
-pub record IsOfRole (count a : ℕ) (x : Allocation) (r : Role) : Type 0 where
-  pub unborn : count ≤ a → r ≡ Unborn
-  pub born : a < count → r ≢ Unborn
-  pub size : length x.words ≡ size_of r
-  pub freed : x.freed ≡ is_gone r
-  pub base : r ≡ Base → x.ty ≡ 1
-
-abbrev pub Fits : NeverState → ℕ → Role → Type 0
-Fits n a r = IsOfRole (length n.allocations) a (allocation_at n a) r
-
--- what no caller's point says
-pub record Core (callers : ℕ) (n : NeverState) (top : Option ℕ) (role : ℕ → Role) (nodes : List ℕ) : Type 0 where
-  pub shape : HasShape callers n.types (length n.registers) (length n.globals)
-  pub fits : (a : ℕ) → Fits n a (role a)
-  pub stacked : (a : ℕ) → role a ≡ Stacked → IsOneOf a nodes
-  pub chain : HasChain n top role nodes
-
--- what a caller has in its registers
-
-pub record HasTop (n : NeverState) (top : Option ℕ) (k : ℕ) : Type 0 where
+-- The top is t, and the nodes that are linked from it have these numbers.
+pub record IsStack (w : World) (xs : List ℕ) : Type 0 where
   pub t : ℕ
-  pub is : top ≡ Some t
-  pub register : register_at n k 0 ≡ Ptr t 1 0
+  pub nodes : List ℕ
+  pub global : global_at w.n 0 ≡ Ptr t 1 0
+  pub top : IsPart w 1 t
+  pub chain : IsChain w 0 1 (word_at w.n t 0) nodes
+  pub numbers : numbers_in w.n 0 nodes ≡ xs
+  pub all : (a : ℕ) → w.role a ≡ Public → (a ≡ t) ⊎ IsOneOf a nodes
 
--- a node of its own,
-pub record HasOwn (n : NeverState) (role : ℕ → Role) (k : ℕ) : Type 0 where
-  pub a : ℕ
-  pub register : register_at n k 1 ≡ Ptr a 0 0
-  pub has : role a ≡ Private k
+abbrev pub Shared : World → List ℕ → Type 0
+Shared w xs = IsUnfounded w xs ⊎ IsStack w xs
 
--- with the number,
-pub record HasFilled (n : NeverState) (role : ℕ → Role) (k m : ℕ) : Type 0 where
-  pub a : ℕ
-  pub register : register_at n k 1 ≡ Ptr a 0 0
-  pub has : role a ≡ Private k
-  pub number : number_of (word_at n a 0) ≡ m
+-- What an operation of caller j leaves to the others: the global is set by the first alone and then stays, and nodes
+-- stay as they are.
+pub record Rely (j : ℕ) (w w' : World) : Type 0 where
+  pub founder : j ≢ 0 → global_at w'.n 0 ≡ global_at w.n 0
+  pub top : (t : ℕ) → global_at w.n 0 ≡ Ptr t 1 0 → global_at w'.n 0 ≡ Ptr t 1 0
+  pub nodes : ShownStays w w' 0
 
--- and linked to what register 2 has
-pub record HasLinked (n : NeverState) (role : ℕ → Role) (k m : ℕ) : Type 0 where
-  pub a : ℕ
-  pub register : register_at n k 1 ≡ Ptr a 0 0
-  pub has : role a ≡ Private k
-  pub number : number_of (word_at n a 0) ≡ m
-  pub link : word_at n a 1 ≡ register_at n k 2
+-- The first caller founds the stack, which decides no job. There is no top yet.
+pub record IsFounder (w : World) (k : ℕ) (u : Option Done) : Type 0 where
+  pub undecided : u ≡ None
+  pub first : k ≡ 0
+  pub none : global_at w.n 0 ≡ Null
 
--- a node that was on the stack when it was loaded,
-pub record HasSeen (n : NeverState) (role : ℕ → Role) (k : ℕ) : Type 0 where
-  pub a : ℕ
-  pub register : register_at n k 2 ≡ Ptr a 0 0
-  pub has : IsPublished (role a)
+-- A caller whose job isn't decided has the top in register 0.
+abbrev pub IsAtTop : World → ℕ → Option Done → Type 0
+IsAtTop w k u = (u ≡ None) × HasRoot w k 0 0 1
 
--- with what is below it
-pub record HasFollowed (n : NeverState) (role : ℕ → Role) (k : ℕ) : Type 0 where
-  pub a : ℕ
-  pub register : register_at n k 2 ≡ Ptr a 0 0
-  pub has : IsPublished (role a)
-  pub next : register_at n k 3 ≡ word_at n a 1
+-- The first caller has a top of its own there.
+abbrev pub HasFirst : World → ℕ → Type 0
+HasFirst w k = HasOwn w k 0 1 (λ t. word_at w.n t 0 ≡ Null)
 
--- a node that it popped, and still has to free,
-pub record HasTaken (n : NeverState) (role : ℕ → Role) (k : ℕ) (u : Option Done) : Type 0 where
-  pub a : ℕ
-  pub register : register_at n k 2 ≡ Ptr a 0 0
-  pub has : role a ≡ Taken k
-  pub owes : u ≡ Some (Popped (number_of (word_at n a 0)))
+-- A push has its node in register 1, with this number,
+abbrev pub HasNumbered : World → ℕ → ℕ → Type 0
+HasNumbered w k m = HasOwn w k 1 0 (λ a. number_of (word_at w.n a 0) ≡ m)
 
--- or has freed
-pub record HasFreed (n : NeverState) (role : ℕ → Role) (k : ℕ) (u : Option Done) : Type 0 where
-  pub a : ℕ
-  pub register : register_at n k 2 ≡ Ptr a 0 0
-  pub has : IsPublished (role a)
-  pub owes : u ≡ Some (Popped (number_of (word_at n a 0)))
+-- and with the uppermost node as its link
+abbrev pub HasLinked : World → ℕ → ℕ → Type 0
+HasLinked w k m =
+    HasOwn w k 1 0 (λ a. (number_of (word_at w.n a 0) ≡ m) × (word_at w.n a 1 ≡ register_at w.n k 2))
 
--- a top that isn't placed yet
-pub record HasBase (n : NeverState) (role : ℕ → Role) (k : ℕ) : Type 0 where
-  pub t : ℕ
-  pub register : register_at n k 0 ≡ Ptr t 1 0
-  pub has : role t ≡ Base
-  pub word : word_at n t 0 ≡ Null
+-- A pop has in register 2 a node that was on the stack when it was loaded,
+abbrev pub HasSeen : World → ℕ → Type 0
+HasSeen w k = HasShown w k 2 0 (λ a. Unit {0})
+
+-- with what is below it in register 1
+abbrev pub HasFollowed : World → ℕ → Type 0
+HasFollowed w k = HasShown w k 2 0 (λ a. register_at w.n k 1 ≡ word_at w.n a 1)
+
+-- that was taken off, so that its number is what became of the pop
+abbrev pub HasTaken : World → ℕ → Option Done → Type 0
+HasTaken w k u = HasShown w k 2 0 (λ a. u ≡ Some (Done.Popped (number_of (word_at w.n a 0))))
+
+-- what a job ends with where there is no top
+abbrev pub done_without : Job → Done
+done_without (Job.Push n) = Done.Full
+done_without Job.Pop = Done.Empty
 
 -- What holds of a caller at a point, whose job was decided so, or not yet.
-abbrev pub Local : NeverState → Option ℕ → (ℕ → Role) → ℕ → Point → Option Done → Type 0
-Local n top role k Founding u = (k ≡ 0) × (top ≡ None)
-Local n top role k Placing u = (k ≡ 0) × (top ≡ None) × HasBase n role k
-Local n top role k Founded u = Unit {0}
-Local n top role k (Starting j) u = u ≡ None
-Local n top role k (Checking j) u =
-    ((register_at n k 0 ≡ Null) × (u ≡ Some (done_without j))) ⊎ ((u ≡ None) × HasTop n top k)
-Local n top role k (Making m) u = (u ≡ None) × HasTop n top k
-Local n top role k (Filling m) u = (u ≡ None) × HasTop n top k × HasOwn n role k
-Local n top role k (Looking m) u = (u ≡ None) × HasTop n top k × HasFilled n role k m
-Local n top role k (Linking m) u = (u ≡ None) × HasTop n top k × HasFilled n role k m
-Local n top role k (Publishing m) u = (u ≡ None) × HasTop n top k × HasLinked n role k m
-Local n top role k Peeking u = (u ≡ None) × HasTop n top k
-Local n top role k Testing u =
-    HasTop n top k × (((register_at n k 2 ≡ Null) × (u ≡ Some Empty)) ⊎ ((u ≡ None) × HasSeen n role k))
-Local n top role k Following u = (u ≡ None) × HasTop n top k × HasSeen n role k
-Local n top role k Taking u = (u ≡ None) × HasTop n top k × HasFollowed n role k
-Local n top role k Freeing u = HasTaken n role k u
-Local n top role k Reading u = HasFreed n role k u
-Local n top role k (Ended d) u = u ≡ Some d
+abbrev pub Local : World → ℕ → Point → Option Done → Type 0
+Local w k Point.Founding u = IsFounder w k u
+Local w k Point.Placing u = IsFounder w k u × HasFirst w k
+Local w k Point.Founded u = u ≡ None
+Local w k (Point.Starting j) u = u ≡ None
+Local w k (Point.Checking j) u = ((register_at w.n k 0 ≡ Null) × (u ≡ Some (done_without j))) ⊎ IsAtTop w k u
+Local w k (Point.Making m) u = IsAtTop w k u
+Local w k (Point.Filling m) u = IsAtTop w k u × HasOwn w k 1 0 (λ a. Unit {0})
+Local w k (Point.Looking m) u = IsAtTop w k u × HasNumbered w k m
+Local w k (Point.Linking m) u = IsAtTop w k u × HasNumbered w k m
+Local w k (Point.Publishing m) u = IsAtTop w k u × HasLinked w k m
+Local w k Point.Peeking u = IsAtTop w k u
+Local w k Point.Testing u =
+    ((register_at w.n k 2 ≡ Null) × (u ≡ Some Done.Empty)) ⊎ (IsAtTop w k u × HasSeen w k)
+Local w k Point.Following u = IsAtTop w k u × HasSeen w k
+Local w k Point.Taking u = IsAtTop w k u × HasFollowed w k
+Local w k Point.Freeing u = HasTaken w k u
+Local w k Point.Reading u = HasTaken w k u
+Local w k (Point.Ended d) u = u ≡ Some d
 
--- where a caller has a node of its own
-abbrev pub IsPushing : Point → Type 0
-IsPushing (Filling m) = Unit {0}
-IsPushing (Looking m) = Unit {0}
-IsPushing (Linking m) = Unit {0}
-IsPushing (Publishing m) = Unit {0}
-IsPushing _ = ⊥
-
-abbrev pub IsFreeing : Point → Type 0
-IsFreeing Freeing = Unit {0}
-IsFreeing _ = ⊥
-
--- A node with such a role is known by its caller.
-pub record IsHeld (n : NeverState) (r : Role) (k a : ℕ) (s : Point) : Type 0 where
-  pub pushing : r ≡ Private k → IsPushing s × (register_at n k 1 ≡ Ptr a 0 0)
-  pub freeing : r ≡ Taken k → IsFreeing s × (register_at n k 2 ≡ Ptr a 0 0)
-
--- All that caller k has are known by it.
-abbrev pub AllHeld : NeverState → (ℕ → Role) → ℕ → Point → Type 0
-AllHeld n role k s = (a : ℕ) → IsHeld n (role a) k a s
-
--- where a caller is: its point, what its job was decided as, what it still does until its goal, and the jobs after that
-pub record Work : Type 0 where
-  pub point : Point
-  pub decided : Option Done
-  pub rest : List Replied
-  pub goal : Point
-  pub later : List JobRun
-
-pub record Inv (callers : ℕ) (n : NeverState) (top : Option ℕ) (role : ℕ → Role) (nodes : List ℕ) (W : ℕ → Work)
-    : Type 0 where
-  pub core : Core callers n top role nodes
-  pub local : (k : ℕ) → Local n top role k (W k).point (W k).decided
-  pub held : (k a : ℕ) → IsHeld n (role a) k a (W k).point
+-- the job that isn't decided yet
+abbrev pub job_at : Point → Option Job
+job_at (Point.Starting j) = Some j
+job_at (Point.Checking j) = Some j
+job_at (Point.Making n) = Some (Job.Push n)
+job_at (Point.Filling n) = Some (Job.Push n)
+job_at (Point.Looking n) = Some (Job.Push n)
+job_at (Point.Linking n) = Some (Job.Push n)
+job_at (Point.Publishing n) = Some (Job.Push n)
+job_at Point.Peeking = Some Job.Pop
+job_at Point.Testing = Some Job.Pop
+job_at Point.Following = Some Job.Pop
+job_at Point.Taking = Some Job.Pop
+job_at _ = None

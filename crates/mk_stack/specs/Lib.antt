@@ -1,14 +1,2 @@
-pub mod Jobs
-pub mod Orders
-pub mod Interleavings
-pub mod Laws
-pub mod Passes
-pub mod Ready
-pub mod Engines
-pub mod Advancing
-pub mod Histories
-pub mod JobLists
-pub mod Looks
-pub mod Walks
-pub mod Joining
-pub mod StackRuns
+pub mod Points
+pub mod Stack

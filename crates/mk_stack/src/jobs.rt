@@ -1,4 +1,4 @@
-//! What callers do with a stack.
+//! The jobs on a stack, and what becomes of them.
 
 /// A job of a caller.
 #[derive(Clone, Copy, Debug, PartialEq, Eq)]
@@ -11,7 +11,7 @@ pub enum Job {
 #[derive(Clone, Copy, Debug, PartialEq, Eq)]
 pub enum Done {
     Pushed,
-    /// No node could be made, so nothing was pushed.
+    /// There was no room for the node, and the stack is as it was.
     Full,
     Popped(u64),
     /// Nothing was on the stack.

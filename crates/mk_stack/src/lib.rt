@@ -1,23 +1,16 @@
 //! Numbers on a stack that callers share (Treiber, 1986), on a heap as it stands: a popped node is freed at once.
 //! The jobs of all callers stand in one order that a plain list explains, and no node leaks.
-//! Start with `stacks`, then `runs` and `specs/StackRuns.antt`.
+//! Start with `stacks`: the points of a job, and the operation of each. `specs/Stack.antt` has the plain list.
 #![tactic(auto)]
 
-mod advancing;
-mod engines;
-mod job_lists;
+mod calls;
 mod jobs;
-mod joining;
-pub mod laws;
 mod points;
 mod runs;
-mod shared;
 mod stacks;
-mod walking;
-mod working;
 
-pub use job_lists::{Dones, Jobs, run_jobs};
+pub use calls::{Full, pop, push};
 pub use jobs::{Done, Job};
 pub use points::Point;
-pub use runs::{StackOutcome, run_stack};
-pub use stacks::{Full, do_job, pop, push};
+pub use runs::{Dones, Jobs, StackOutcome, run_stack};
+pub use stacks::Stack;

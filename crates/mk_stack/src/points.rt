@@ -2,17 +2,18 @@
 
 use crate::jobs::{Done, Job};
 
-/// Where a caller is in its job: what it asks of the heap next.
+/// What a caller asks of the heap next.
 #[derive(Clone, Copy, Debug, PartialEq, Eq)]
 pub enum Point {
-    /// The first caller creates the top of the stack,
+    /// The first caller creates the top,
     Founding,
-    /// and stores it in global 0.
+    /// and the global points to it.
     Placing,
+    /// If there is no room for it, each push is full, and each pop finds nothing.
     Founded,
-    /// Each job loads the top from global 0,
+    /// A job loads the top.
     Starting(Job),
-    /// and looks whether there is one.
+    /// Is there one?
     Checking(Job),
     /// A push creates a node,
     Making(u64),
@@ -22,19 +23,19 @@ pub enum Point {
     Looking(u64),
     /// links its own to that,
     Linking(u64),
-    /// and exchanges that for its own, or begins again with the load.
+    /// and exchanges the uppermost for its own.
     Publishing(u64),
     /// A pop loads the uppermost node,
     Peeking,
-    /// looks whether there is one,
+    /// which is null if the stack is empty.
     Testing,
-    /// loads the one below it,
+    /// Else it loads the node below,
     Following,
-    /// exchanges the uppermost for that, or begins again with the first load,
+    /// exchanges the uppermost for that,
     Taking,
-    /// frees the node that it took,
+    /// frees the uppermost,
     Freeing,
-    /// and reads its number, which it may: its own register still points to the freed node.
+    /// and loads its number, which it may: its own register still points to the node.
     Reading,
     Ended(Done),
 }

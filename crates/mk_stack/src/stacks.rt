@@ -1,145 +1,135 @@
-//! Numbers on a stack that callers share.
-ghost use Rattle.std.specs.Prelude.{◌≡◌, ◌<◌, Bool, OnOk, OnErr};
-ghost use Rattle.mk_heap.specs.Below.Callers.States.{value_of};
-ghost use Rattle.mk_stack.specs.Advancing.{Forgets, HoldsAt, IsFit, IsGoal, StaysEnded};
-ghost use Rattle.mk_stack.specs.Passes.{DoesJob, GoesToPoint, KeepsNoNode, StaysExact, other_node, popped};
-ghost use Rattle.mk_stack.specs.Ready.{IsReady, IsReadyForJobs};
+//! The stack as points: the operation of each, and where its answers lead.
+ghost use Rattle.std.specs.Prelude.{ℕ, List, []};
+ghost use Rattle.mk_never.specs.NeverHeap.{NeverState};
+ghost use Rattle.mk_stack.specs.{Points.{stack_is_typed, stack_plan}, Stack.{HasNumbers, left_by}};
 
-use crate::advancing::{BELOW, NODE, UPPERMOST, next_point, op_at};
 use crate::jobs::{Done, Job};
 use crate::points::Point;
-use mk_heap::lower::callers::Caller;
-use mk_heap::lower::cycles::Engine;
-use mk_heap::{answer_to, answer_when_open};
-use mk_never::Op;
-use std::sync::Wait;
-use std::thread::Threads;
+use mk_core::GlobalTable;
+use mk_jobs::{
+    Linearizable, Object, Step, exchange, free, if_null, load, load_global, load_number, new, store,
+    store_global, store_number,
+};
+use mk_never::{Kind, NoMemory, TypeTable};
+use std::alloc::Global;
 
-/// No node could be made, and the stack is as it was.
-#[derive(Clone, Copy, Debug, PartialEq, Eq)]
-pub struct Full;
+/// The register that points to the top, to the node that is pushed, to the one below the uppermost, and to that itself
+const TOP: u8 = 0;
 
-/// Carries out the operations from a point to the end of the job.
-fn go<E: Engine, R: Threads + Wait + Sync>(
-    rt: &R,
-    caller: &mut Caller,
-    engine: &mut E,
-    from: Point,
-) -> Point
-    requires ready { IsReadyForJobs E.made_for caller.old engine.old }
-    requires holds { HoldsAt (value_of caller.old.pass) from }
-    ensures ready { IsReadyForJobs E.made_for caller.new engine.new }
-    ensures goes { GoesToPoint caller.old.pass from caller.new.pass result }
-    ensures exact { StaysExact E.on caller.old.pass caller.new.pass }
-    ensures goal { IsGoal result }
-{
-    let mut point = from;
-    'points: for _ in rt.forever() {
-        let Some(op) = op_at(point) else {
-            return point;
-        };
-        let told = answer_to(rt, caller, engine, op);
-        point = next_point(point, told);
+const NODE: u8 = 1;
+
+const BELOW: u8 = 1;
+
+const UPPERMOST: u8 = 2;
+
+/// The global that points to the top
+const STACK: u8 = 0;
+
+/// A node has a number and a link; the top has the uppermost node.
+const NODE_TYPE: u64 = 0;
+
+const TOP_TYPE: u64 = 1;
+
+const NUMBER: u64 = 0;
+
+const LINK: u64 = 1;
+
+const FIRST: u64 = 0;
+
+/// A stack of numbers.
+pub struct Stack;
+
+impl Object for Stack {
+    type Job = Job;
+
+    type Done = Done;
+
+    type Point = Point;
+
+    ghost State = { List ℕ };
+
+    ghost plan = { stack_plan };
+
+    ghost first = { [] };
+
+    ghost left_by = { left_by };
+
+    ghost content = { HasNumbers };
+
+    fn types(alloc: Global) -> Result<TypeTable, NoMemory> {
+        let link = Kind::To { ty: 0, offset: 0 };
+        let mut node = Vec::new(alloc);
+        node.push(Kind::Num)?;
+        node.push(link)?;
+        let mut top = Vec::new(alloc);
+        top.push(link)?;
+        let mut types = TypeTable::new(alloc);
+        types.add(node)?;
+        types.add(top)?;
+        Ok(types)
     }
-    unreachable!()
-}
 
-/// Makes the top of the stack, and stores it in global 0. Where it finds no room, each push is full and each pop finds
-/// nothing. It is for the first caller alone, before its jobs.
-pub(crate) fn found_stack<E: Engine, R: Threads + Wait + Sync>(
-    rt: &R,
-    caller: &mut Caller,
-    engine: &mut E,
-)
-    requires ready { IsReadyForJobs E.made_for caller.old engine.old }
-    ensures ready { IsReadyForJobs E.made_for caller.new engine.new }
-    ensures founds { GoesToPoint caller.old.pass Point.Founding caller.new.pass Point.Founded }
-    ensures exact { StaysExact E.on caller.old.pass caller.new.pass }
-{
-    let _founded = go(rt, caller, engine, Point::Founding);
-}
-
-/// Sets a register to null, when the job has ended. As long as a register points to a freed node, the heap keeps that
-/// node, and all that it is linked to.
-fn forget<R: Wait>(rt: &R, caller: &mut Caller, register: u8)
-    requires ready { IsReady caller.old }
-    requires register { register < 4 }
-    ensures ready { IsReady caller.new }
-    ensures pass { caller.new.pass ≡ record caller.old.pass { seen = caller.new.pass.seen } }
-    ensures ended { StaysEnded caller.old.pass caller.new.pass }
-    ensures exact { (on : Bool) → StaysExact on caller.old.pass caller.new.pass }
-    ensures forgets { Forgets caller.old.pass register caller.new.pass }
-{
-    answer_when_open(rt, caller, Op::Clear { d: register });
-}
-
-/// The register that has a job's other node: of a push the new one, and of a pop the one below.
-fn other_node(job: Job) -> u8
-    ensures register { result < 4 }
-    ensures node { result ≡ other_node job }
-{
-    match job {
-        Job::Push(_) => NODE,
-        Job::Pop => BELOW,
+    fn globals(alloc: Global) -> Result<GlobalTable, NoMemory> {
+        let mut globals = GlobalTable::new(alloc);
+        globals.add(TOP_TYPE)?;
+        Ok(globals)
     }
-}
 
-/// Does a job, and reports what became of it. Of its nodes the caller then keeps none.
-pub fn do_job<E: Engine, R: Threads + Wait + Sync>(
-    rt: &R,
-    caller: &mut Caller,
-    engine: &mut E,
-    job: Job,
-) -> Done
-    requires ready { IsReadyForJobs E.made_for caller.old engine.old }
-    ensures ready { IsReadyForJobs E.made_for caller.new engine.new }
-    ensures does { DoesJob caller.old.pass job result caller.new.pass }
-    ensures exact { StaysExact E.on caller.old.pass caller.new.pass }
-    ensures fit { IsFit job result }
-    ensures keeps { KeepsNoNode job caller.new.pass }
-{
-    let Point::Ended(done) = go(rt, caller, engine, Point::Starting(job)) else {
-        unreachable!()
-    };
-    forget(rt, caller, UPPERMOST);
-    forget(rt, caller, other_node(job));
-    done
-}
-
-/// Puts a number on the stack.
-pub fn push<E: Engine, R: Threads + Wait + Sync>(
-    rt: &R,
-    caller: &mut Caller,
-    engine: &mut E,
-    n: u64,
-) -> Result<(), Full>
-    requires ready { IsReadyForJobs E.made_for caller.old engine.old }
-    ensures ready { IsReadyForJobs E.made_for caller.new engine.new }
-    ensures pushed { OnOk result (DoesJob caller.old.pass (Job.Push n) Done.Pushed caller.new.pass) }
-    ensures full { OnErr result (DoesJob caller.old.pass (Job.Push n) Done.Full caller.new.pass) }
-    ensures exact { StaysExact E.on caller.old.pass caller.new.pass }
-    ensures keeps { KeepsNoNode (Job.Push n) caller.new.pass }
-{
-    match do_job(rt, caller, engine, Job::Push(n)) {
-        Done::Pushed => Ok(()),
-        _ => Err(Full),
+    fn registers() -> u8 {
+        3
     }
+
+    fn founding() -> Point {
+        Point::Founding
+    }
+
+    fn starting(job: Job) -> Point {
+        Point::Starting(job)
+    }
+
+    fn step(point: Point) -> Step<Point, Done> {
+        match point {
+            Point::Founding => new(TOP, TOP_TYPE, Point::Placing, Point::Founded),
+            Point::Placing => store_global(STACK, TOP, Point::Founded),
+            Point::Starting(job) => load_global(TOP, STACK, Point::Checking(job)),
+            Point::Checking(Job::Push(n)) => if_null(TOP, Point::Ended(Done::Full), Point::Making(n)),
+            Point::Checking(Job::Pop) => if_null(TOP, Point::Ended(Done::Empty), Point::Peeking),
+            Point::Making(n) => new(NODE, NODE_TYPE, Point::Filling(n), Point::Ended(Done::Full)),
+            Point::Filling(n) => store_number(NODE, NUMBER, n, Point::Looking(n)),
+            Point::Looking(n) => load(UPPERMOST, TOP, FIRST, Point::Linking(n)),
+            Point::Linking(n) => store(NODE, LINK, UPPERMOST, Point::Publishing(n)),
+            Point::Publishing(n) => {
+                exchange(
+                    TOP,
+                    FIRST,
+                    UPPERMOST,
+                    NODE,
+                    Point::Ended(Done::Pushed),
+                    Point::Looking(n),
+                )
+            }
+            Point::Peeking => load(UPPERMOST, TOP, FIRST, Point::Testing),
+            Point::Testing => if_null(UPPERMOST, Point::Ended(Done::Empty), Point::Following),
+            Point::Following => load(BELOW, UPPERMOST, LINK, Point::Taking),
+            Point::Taking => exchange(TOP, FIRST, UPPERMOST, BELOW, Point::Freeing, Point::Peeking),
+            Point::Freeing => free(UPPERMOST, Point::Reading),
+            Point::Reading => load_number(UPPERMOST, NUMBER, Point::Ended(Done::Popped(0))),
+            Point::Founded => Step::End(Done::Empty),
+            Point::Ended(done) => Step::End(done),
+        }
+    }
+
+    fn with_number(point: Point, n: u64) -> Point {
+        match point {
+            Point::Ended(Done::Popped(_)) => Point::Ended(Done::Popped(n)),
+            other => other,
+        }
+    }
+
+    ghost typed = { stack_is_typed };
 }
 
-/// Takes the uppermost number off the stack, if there is one, and frees its node.
-pub fn pop<E: Engine, R: Threads + Wait + Sync>(
-    rt: &R,
-    caller: &mut Caller,
-    engine: &mut E,
-) -> Option<u64>
-    requires ready { IsReadyForJobs E.made_for caller.old engine.old }
-    ensures ready { IsReadyForJobs E.made_for caller.new engine.new }
-    ensures does { DoesJob caller.old.pass Job.Pop (popped result) caller.new.pass }
-    ensures exact { StaysExact E.on caller.old.pass caller.new.pass }
-    ensures keeps { KeepsNoNode Job.Pop caller.new.pass }
-{
-    match do_job(rt, caller, engine, Job::Pop) {
-        Done::Popped(n) => Some(n),
-        _ => None,
-    }
+impl Linearizable for Stack {
+    #[tactic(auto, using(crate::proofs::Kept::stack_is_explained))]
+    fn explained() {}
 }

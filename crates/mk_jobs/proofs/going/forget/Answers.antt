@@ -1,6 +1,6 @@
 use Rattle.mk_jobs.proofs.Clearing.{clear_stays_admitted, none_cleared, one_cleared}
 use Rattle.mk_jobs.proofs.Walking.{ready_on}
-use Rattle.mk_laws.proofs.Vocabulary.{refl}
+use Rattle.mk_laws.proofs.Vocabulary.{arith, refl}
 use Rattle.mk_jobs.proofs.going.forget.Goals as goal
 
 pub loop-register-init : goal.loop-register-init
@@ -13,7 +13,9 @@ loop-register-init g c = record {
 pub answer_when_open-requires-clause-admitted : goal.answer_when_open-requires-clause-admitted
 answer_when_open-requires-clause-admitted g c =
     let ready = c.loop-register.invariant.ready in
-    clear_stays_admitted g.O.Object.plan c.loop-register.register c.loop-register-test.true ready.may ready.made
+    clear_stays_admitted g.O.Object.plan c.loop-register.register
+    (omega (arith, c.loop-register-test.true, c.registers-register-end.ensures, g.met.O.Object.typed.few)) ready.may
+    ready.made
 
 pub loop-register-preserved : goal.loop-register-preserved
 loop-register-preserved g c =
@@ -21,6 +23,9 @@ loop-register-preserved g c =
     let answers = c.answer_when_open.ensures.answers g.E.Engine.on in
     record {
       ready = ready_on g.O.Object.plan c.args.engine.now before.ready c.answer_when_open.ensures.home answers.is refl;
-      clears = one_cleared c.loop-register.register c.loop-register-test.true before.clears answers;
+      clears =
+          one_cleared c.loop-register.register
+          (omega (arith, c.loop-register-test.true, c.registers-register-end.ensures, g.met.O.Object.typed.few))
+          before.clears answers;
       exact = λ first. answers.exact (before.exact first);
     }

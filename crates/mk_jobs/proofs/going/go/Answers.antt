@@ -33,7 +33,3 @@ points-preserved g c =
       holds = on.holds;
       exact = λ first. answered.answers.exact (before.exact first);
     }
-
-pub returns-in_default-clause-goal : goal.returns-in_default-clause-goal
-returns-in_default-clause-goal g c =
-    sym c.step-asked.ensures ∙ is_end c.step-asked.result (λ o e. c.in_default.not-Some o (c.op_of.ensures ∙ e))

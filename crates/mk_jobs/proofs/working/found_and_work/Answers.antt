@@ -13,7 +13,7 @@ run_from-requires-clause-callers g c κs within =
     let before = next_ready on c.caller-first.result c.requires.host c.caller-first.ensures.caller in
     let founds = c.found.ensures.founds in
     record {
-      pass = rw c.finish-pass.ensures.pass (is_ready before founds.goes.is c.finish-pass.ensures.idle
+      pass = rw c.finish-pass.ensures.pass (is_ready before founds.ends.goes.is c.finish-pass.ensures.idle
           (c.found.ensures.exact before.exact));
       engines = grind arith;
     }

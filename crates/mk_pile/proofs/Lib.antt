@@ -1,5 +1,0 @@
-pub mod Invariant
-pub mod Staying
-pub mod Exchanged
-pub mod Moving
-pub mod Kept

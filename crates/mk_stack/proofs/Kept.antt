@@ -1,0 +1,60 @@
+-- The stack is always explained: what its operations keep.
+use Rattle.mk_laws.proofs.Vocabulary.{List, None, Option, Some, ap, inl, inr, refl, word_at, ℕ, [], ◌∙◌, ◌∷◌, ◌≡◌}
+use Rattle.mk_laws.proofs.Vocabulary.{◌⊎◌}
+use Rattle.mk_jobs.specs.{Keeping.{Keeps, Public, World}, Laws.IsOneOf}
+use Rattle.mk_jobs.proofs.{Chains.{linked, part_of}}
+use Rattle.mk_jobs.specs.{Laws.IsAlwaysExplained, declared.steps.Step.{Step}}
+use Rattle.mk_jobs.proofs.Explained.{explained}
+use Rattle.mk_stack.specs.{Points.{stack_is_typed, stack_plan, step_of}, Stack.{HasNumbers, left_by}}
+use Rattle.mk_stack.specs.declared.{jobs.{Done.{Done}, Job.{Job}}, points.Point.{Point}}
+use Rattle.mk_stack.proofs.Invariant.{Local, Rely, Shared, job_at}
+use Rattle.mk_stack.proofs.Moving.{moves}
+use Rattle.mk_stack.proofs.Staying.{covered, stays}
+
+ends : (w : World) (k : ℕ) (s : Point) (u : Option Done) (d : Done) (j : Job) → Local w k s u → step_of s ≡ Step.End d
+    → (u ≡ None → job_at s ≡ Some j) → u ≡ Some d
+ends w k (Point.Ended e) u d j local is at = local ∙ (cc is)
+ends w k Point.Founded u d j local is at = absurd (let x : None ≡ Some j = at local in cc x)
+ends w k (Point.Checking (Job.Push m)) u d j local is at = absurd (cc is)
+ends w k (Point.Checking Job.Pop) u d j local is at = absurd (cc is)
+ends w k _ u d j local is at = absurd (cc is)
+
+contains : (w : World) (x : List ℕ) → Shared w x → (parts : List ℕ) × HasNumbers w.n parts x
+    × ((a : ℕ) → w.role a ≡ Public → IsOneOf a parts) × ((a : ℕ) → IsOneOf a parts → w.role a ≡ Public)
+contains w x (inl none) =
+    ([], inl (none.global, refl, none.none_left), (λ a e. absurd (none.none_shared a e)), (λ a one. absurd one))
+contains w x (inr q) = (
+  q.t ∷ q.nodes,
+  inr (record {
+    top = q.t;
+    nodes = q.nodes;
+    global = q.global;
+    linked = linked w 0 1 (word_at w.n q.t 0) q.nodes q.chain;
+    are_parts = refl;
+    numbers = q.numbers;
+  }),
+  (λ a e. q.all a e),
+  (λ a one. elim one [
+    | inl e ↦ ap w.role e ∙ q.top.role
+    | inr on ↦ (part_of w 0 1 (word_at w.n q.t 0) q.nodes q.chain on).role
+  ]),
+)
+
+pub stack_keeps : Keeps stack_plan left_by [] HasNumbers Shared Local Rely job_at
+stack_keeps = record {
+  founding = λ callers. (
+    inl (record { global = refl; none_left = refl; none_shared = λ a e. cc e }),
+    record { undecided = refl; first = refl; none = refl },
+    refl,
+  );
+  begins = λ w k j. (refl, refl);
+  ends = ends;
+  waits = λ callers j k s u w w' other there waits rely local. stays other waits rely s u local;
+  covers = λ j x w w' covers shared. covered covers x j shared;
+  moves = λ callers w k s u x. moves s;
+  contains = contains;
+}
+
+-- However jobs on the stack are interleaved, they are explained.
+pub stack_is_explained : IsAlwaysExplained stack_plan [] left_by HasNumbers
+stack_is_explained = explained stack_is_typed stack_keeps
