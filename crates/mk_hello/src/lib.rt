@@ -1,6 +1,6 @@
 //! A first program on a heap: an object of one number.
-#![tactic(auto)]
-
+//! What it loads is the number that it stored, or null if the heap was full.
+//! Start with `hello`, which is all of it.
 ghost use Rattle.std.specs.Prelude.{◌≡◌, ◌⊎◌, IfOk};
 ghost use Rattle.mk_heap.specs.Below.Core.declared.events.Answer.TheVariants as answer;
 
@@ -12,8 +12,8 @@ use std::alloc::Global;
 use std::sync::Wait;
 use std::thread::Threads;
 
-/// Makes an object, stores 42 in it, loads it, frees the object and closes the heap. The load is answered by null if the
-/// heap was full.
+/// Makes an object, stores 42 in it, loads it, frees the object and closes the heap.
+#[tactic(auto)]
 pub fn hello<R: Threads + Wait + Sync>(rt: &R, alloc: Global) -> Result<Answer, NoMemory>
     ensures { IfOk result (λ loaded. (loaded ≡ answer.Num 42) ⊎ (loaded ≡ answer.Null)) }
 {
