@@ -49,7 +49,6 @@ module _ {callers : ℕ} {w : World} {k : ℕ} {u : Option Done} {x : List ℕ} 
           also = ap (λ (ws : List Value). get_or ws 0 Null) words;
         },
       )) (undecided client refl) (λ rely. local.undecided)
-
   -- and places it.
   moves Point.Placing there (inr q) h o t asks = absurd (not_null q.t 1 _ q.global h.0.none)
   moves Point.Placing there (inl none) h o t asks =
@@ -64,7 +63,6 @@ module _ {callers : ℕ} {w : World} {k : ℕ} {u : Option Done} {x : List ℕ} 
         shared = inr now.0;
         rely = now.1;
       })
-
   -- A job loads the top,
   moves (Point.Starting j) there (inl none) local o t asks =
       by_load_global client u there (inl none) asks refl (λ a. refl)
@@ -73,7 +71,6 @@ module _ {callers : ℕ} {w : World} {k : ℕ} {u : Option Done} {x : List ℕ} 
   moves (Point.Starting j) there (inr q) local o t asks =
       by_load_global client u there (inr q) asks refl (λ a. refl) (undecided client refl) (λ set rely alone.
       inr (local, record { t = q.t; global = q.global; register = set.here ∙ q.global }))
-
   -- which is null or not.
   moves (Point.Checking (Job.Push m)) there shared local o t asks =
       by_null client u there shared asks (λ a. refl) (λ a. refl)
@@ -83,14 +80,12 @@ module _ {callers : ℕ} {w : World} {k : ℕ} {u : Option Done} {x : List ℕ} 
       by_null client u there shared asks (λ a. refl) (λ a. refl)
       (λ null. let e = when_null local at_null null in (was_decided client e, λ rely alone. e))
       (λ some. (undecided client refl, λ rely alone. at_top rely refl (when_some local some)))
-
   -- A push creates a node,
   moves (Point.Making m) there shared local o t asks =
       by_new client u there shared asks refl (λ a. refl) (undecided client refl) (λ new puts words rely. (
         at_top rely (new.others 0 (λ e. omega arith)) local,
         record { a = length w.n.allocations; register = new.here; role = puts.here; also = tt },
       )) (decides_so client Done.Full local.0 refl refl) (λ rely. refl)
-
   -- stores its number,
   moves (Point.Filling m) there shared local o t asks =
       let own = local.1 in
@@ -99,7 +94,6 @@ module _ {callers : ℕ} {w : World} {k : ℕ} {u : Option Done} {x : List ℕ} 
         at_top rely (stores.registers k 0) local.0,
         own_now (stores.registers k 1) _ own own.role (ap number_of stores.here),
       ))
-
   -- loads the uppermost node,
   moves (Point.Looking m) there shared local o t asks =
       by_load client u there shared asks local.0.1.register refl (λ a. refl) (undecided client refl)
@@ -107,7 +101,6 @@ module _ {callers : ℕ} {w : World} {k : ℕ} {u : Option Done} {x : List ℕ} 
         at_top rely (set.others 0 (λ e. omega arith)) local.0,
         numbered (set.others 1 (λ e. omega arith)) alone local.1,
       ))
-
   -- links its own to that,
   moves (Point.Linking m) there shared local o t asks =
       let own = local.1 in
@@ -117,7 +110,6 @@ module _ {callers : ℕ} {w : World} {k : ℕ} {u : Option Done} {x : List ℕ} 
         own_now (stores.registers k 1) _ own own.role
             (ap number_of (stores.beside 0 (λ e. omega arith)) ∙ own.also, stores.here ∙ sym (stores.registers k 2)),
       ))
-
   -- and exchanges the uppermost for it, or another caller was first.
   moves (Point.Publishing m) there shared local o t asks =
       let own = local.1 in
@@ -142,7 +134,6 @@ module _ {callers : ℕ} {w : World} {k : ℕ} {u : Option Done} {x : List ℕ} 
         numbered {w = w} (same 1) alone
             (record { a = own.a; register = own.register; role = own.role; also = own.also.0 }),
       ))
-
   -- A pop loads the uppermost node,
   moves Point.Peeking there shared local o t asks = by q.0.nodes refl q.0.chain
     where
@@ -171,7 +162,6 @@ module _ {callers : ℕ} {w : World} {k : ℕ} {u : Option Done} {x : List ℕ} 
               also = tt;
             },
           ))
-
   -- which is null or not,
   moves Point.Testing there shared local o t asks =
       by_null client u there shared asks (λ a. refl) (λ a. refl)
@@ -179,7 +169,6 @@ module _ {callers : ℕ} {w : World} {k : ℕ} {u : Option Done} {x : List ℕ} 
       (was_decided client e, λ rely alone. e))
       (λ some. let h = when_some local some in
       (undecided client refl, λ rely alone. (at_top rely refl h.0, seen rely refl h.1)))
-
   -- and what is below it,
   moves Point.Following there shared local o t asks =
       let h = local.1 in
@@ -192,7 +181,6 @@ module _ {callers : ℕ} {w : World} {k : ℕ} {u : Option Done} {x : List ℕ} 
           also = set.here ∙ ap (λ (ws : List Value). get_or ws 1 Null) (sym (rely.nodes.words h.a h.known));
         },
       ))
-
   -- exchanges the uppermost for that, or another caller was first,
   moves Point.Taking there shared local o t asks =
       let h = local.1 in
@@ -220,12 +208,10 @@ module _ {callers : ℕ} {w : World} {k : ℕ} {u : Option Done} {x : List ℕ} 
           rely = rely;
         },
       )) (λ a. refl) refl (undecided client refl) (λ same rely alone. at_top rely (same 0) local.0)
-
   -- frees it,
   moves Point.Freeing there shared local o t asks =
       by_freeing client u there shared asks local.register refl refl (undecided client refl)
       (λ frees rely. taken rely (frees.registers k 2) local)
-
   -- and loads its number.
   moves Point.Reading there shared local o t asks =
       by_load_number client u there shared {to' = Point.Ended (Done.Popped 0)} asks local.register (λ a. refl)

@@ -7,8 +7,8 @@ use crate::jobs::{Done, Job};
 use crate::points::Point;
 use mk_core::GlobalTable;
 use mk_jobs::{
-    Linearizable, Object, Step, exchange, free, if_null, load, load_global, load_number, new, store,
-    store_global, store_number,
+    Linearizable, Object, Step, exchange, free, if_null, load, load_global, load_number, new,
+    store, store_global, store_number,
 };
 use mk_never::{Kind, NoMemory, TypeTable};
 use std::alloc::Global;
@@ -92,7 +92,11 @@ impl Object for Stack {
             Point::Founding => new(TOP, TOP_TYPE, Point::Placing, Point::Founded),
             Point::Placing => store_global(STACK, TOP, Point::Founded),
             Point::Starting(job) => load_global(TOP, STACK, Point::Checking(job)),
-            Point::Checking(Job::Push(n)) => if_null(TOP, Point::Ended(Done::Full), Point::Making(n)),
+            Point::Checking(Job::Push(n)) => if_null(
+                TOP,
+                Point::Ended(Done::Full),
+                Point::Making(n),
+            ),
             Point::Checking(Job::Pop) => if_null(TOP, Point::Ended(Done::Empty), Point::Peeking),
             Point::Making(n) => new(NODE, NODE_TYPE, Point::Filling(n), Point::Ended(Done::Full)),
             Point::Filling(n) => store_number(NODE, NUMBER, n, Point::Looking(n)),
