@@ -1,7 +1,7 @@
 -- The first caller places the ends with a dummy, or drops them where there is no room for one.
-use Rattle.mk_laws.proofs.Vocabulary.{List, Null, Ptr, Value, allocation_at, ap, arith, cases_eq, get_or, global_at}
+use Rattle.mk_laws.proofs.Vocabulary.{List, Null, Ptr, allocation_at, ap, arith, cases_eq, get_or, global_at}
 use Rattle.mk_laws.proofs.Vocabulary.{inl}
-use Rattle.mk_laws.proofs.Vocabulary.{inr, no_allocation, refl, subst, sym, word_at, ℕ, [], ◌<◌, ◌∙◌, ◌∷◌, ◌≡◌, ◌≢◌}
+use Rattle.mk_laws.proofs.Vocabulary.{no_allocation, subst, sym, word_at, ℕ, [], ◌∙◌, ◌∷◌, ◌≡◌}
 use Rattle.mk_laws.proofs.Vocabulary.{◌⊎◌}
 use Rattle.mk_never.specs.NeverHeap.{Allocation}
 use Rattle.mk_jobs.specs.{Keeping.{Gone, IsShown, Private, Public, World}, Laws.IsOneOf}
@@ -9,15 +9,14 @@ use Rattle.mk_jobs.proofs.{Heaps.Frees, Puts.{Puts, PutsTwo}}
 use Rattle.mk_queue.proofs.Invariant.{HasFirst, IsNode, IsPassed, IsQueue, IsUnfounded, NodesStay, Rely}
 use Rattle.mk_queue.proofs.{Leaving.passed_is_shown, Staying.not_null}
 
--- Nodes stay where what is shown keeps its role, its type and its words.
-nodes_stay : {w w' : World} → ((a : ℕ) → IsShown (w.role a) → w'.role a ≡ w.role a)
-    → ((a : ℕ) → (allocation_at w'.n a).ty ≡ (allocation_at w.n a).ty)
-    → ((a i : ℕ) → word_at w'.n a i ≡ word_at w.n a i) → NodesStay w w'
-nodes_stay roles types words = record {
-  node = λ a h. record { shown = subst IsShown (sym (roles a h.shown)) h.shown; is_of = types a ∙ h.is_of };
+-- There are no nodes yet, so that they stay.
+none_stay : {w w' : World} {xs : List ℕ} → IsUnfounded w xs → ((a : ℕ) → IsShown (w.role a) → w'.role a ≡ w.role a)
+    → NodesStay w w'
+none_stay none roles = record {
+  node = λ a h. absurd (none.no_nodes a h);
   passed = λ a h. subst IsPassed (sym (roles a (passed_is_shown _ h))) h;
-  number = λ a h. words a 0;
-  link = λ a h some. words a 1;
+  number = λ a h. absurd (none.no_nodes a h);
+  link = λ a h some. absurd (none.no_nodes a h);
 }
 
 module _ {w : World} (w' : World) {xs : List ℕ} {k : ℕ} (none : IsUnfounded w xs) (first : HasFirst w k 2)
@@ -58,8 +57,10 @@ module _ {w : World} (w' : World) {xs : List ℕ} {k : ℕ} (none : IsUnfounded 
     numbers = sym none.none_left;
     tail = record { a = first.a; is = word_now first.e 1 ∙ first.stored 1 (omega arith); node = node };
     all = is_part;
-    links = λ c h. inl (ap (λ (x : ℕ). word_at w'.n x 1) (is_node c h) ∙ word_now first.a 1 ∙ first.link);
-    passed = λ c h gone null. subst IsPassed (ap w'.role (is_node c h) ∙ puts.second) gone;
+    links = λ c h. inl (
+      ap w'.role (is_node c h) ∙ puts.second,
+      ap (λ (x : ℕ). word_at w'.n x 1) (is_node c h) ∙ word_now first.a 1 ∙ first.link,
+    );
   }
 
   pub placed_rely : Rely k w w'
@@ -67,8 +68,8 @@ module _ {w : World} (w' : World) {xs : List ℕ} {k : ℕ} (none : IsUnfounded 
     founder = λ e. absurd (e first.founder.0);
     ends = λ e is. absurd (not_null e 1 _ is none.global);
     head = λ e a is was. absurd (not_null e 1 _ is none.global);
-    nodes = nodes_stay (λ c h. puts.others c (λ e. subst IsShown (ap w.role e ∙ first.role_e) h)
-        (λ e. subst IsShown (ap w.role e ∙ first.role_a) h)) type_now word_now;
+    nodes = none_stay none (λ c h. puts.others c (λ e. subst IsShown (ap w.role e ∙ first.role_e) h)
+        (λ e. subst IsShown (ap w.role e ∙ first.role_a) h));
   }
 
 -- The ends are freed before anyone knows them.
@@ -84,14 +85,11 @@ dropped {w} {w'} {e = e} none role is_of frees puts = (
   record {
     founder = λ f. frees.globals 0;
     ends = λ f is. frees.globals 0 ∙ is;
-    head = λ f a is was. inl (word f 0 ∙ was);
-    nodes = nodes_stay (λ c h. puts.others c (λ f. subst IsShown (ap w.role f ∙ role) h)) frees.types word;
+    head = λ f a is was. absurd (not_null f 1 _ is none.global);
+    nodes = none_stay none (λ c h. puts.others c (λ f. subst IsShown (ap w.role f ∙ role) h));
   },
 )
   where
-    word : (c i : ℕ) → word_at w'.n c i ≡ word_at w.n c i
-    word c i = ap (λ (ws : List Value). get_or ws i Null) (frees.words c)
-
     shared : (c : ℕ) → w'.role c ≡ Public → ⊥
     shared c is = grind (arith, cases_eq)
 

@@ -24,6 +24,10 @@ pub record PointsToNode (w : World) (v : Value) : Type 0 where
 abbrev pub MayPointToNode : World → Value → Type 0
 MayPointToNode w v = (v ≡ Null) ⊎ PointsToNode w v
 
+-- It is linked to a node, or it is the last one, and public.
+abbrev pub HasLink : World → ℕ → Type 0
+HasLink w a = ((w.role a ≡ Public) × (word_at w.n a 1 ≡ Null)) ⊎ PointsToNode w (word_at w.n a 1)
+
 -- There are no ends yet.
 pub record IsUnfounded (w : World) (xs : List ℕ) : Type 0 where
   pub global : global_at w.n 0 ≡ Null
@@ -31,8 +35,8 @@ pub record IsUnfounded (w : World) (xs : List ℕ) : Type 0 where
   pub none_shared : (a : ℕ) → w.role a ≢ Public
   pub no_nodes : (a : ℕ) → IsNode w a → ⊥
 
--- The ends are e. Head points to a dummy, from which the nodes with these numbers are linked. A node that head has left
--- has a link, and links lead to nodes.
+-- The ends are e. Head points to a dummy, from which the nodes with these numbers are linked. Links lead to nodes, and
+-- a node that head has left has one.
 pub record IsQueue (w : World) (xs : List ℕ) : Type 0 where
   pub e : ℕ
   pub dummy : ℕ
@@ -43,8 +47,7 @@ pub record IsQueue (w : World) (xs : List ℕ) : Type 0 where
   pub numbers : numbers_in w.n 0 rest ≡ xs
   pub tail : PointsToNode w (word_at w.n e 1)
   pub all : (a : ℕ) → w.role a ≡ Public → (a ≡ e) ⊎ IsOneOf a (dummy ∷ rest)
-  pub links : (a : ℕ) → IsNode w a → MayPointToNode w (word_at w.n a 1)
-  pub passed : (a : ℕ) → IsNode w a → IsPassed (w.role a) → word_at w.n a 1 ≢ Null
+  pub links : (a : ℕ) → IsNode w a → HasLink w a
 
 abbrev pub Shared : World → List ℕ → Type 0
 Shared w xs = IsUnfounded w xs ⊎ IsQueue w xs
@@ -127,13 +130,13 @@ pub record IsEnqueuing (w : World) (k : ℕ) (m : Option ℕ) (u : Option Done) 
 
 -- What holds of a caller at a point, whose job was decided so, or not yet.
 abbrev pub Local : World → ℕ → Point → Option Done → Type 0
-Local w k Point.Founding u = IsFounder w k
-Local w k Point.Grounding u = IsFounder w k
-Local w k Point.Dropping u = IsFounder w k
-Local w k Point.FirstHead u = HasFirst w k 0
-Local w k Point.FirstTail u = HasFirst w k 1
-Local w k Point.Placing u = HasFirst w k 2
-Local w k Point.Founded u = Unit {0}
+Local w k Point.Founding u = (u ≡ None) × IsFounder w k
+Local w k Point.Grounding u = (u ≡ None) × IsFounder w k
+Local w k Point.Dropping u = (u ≡ None) × IsFounder w k
+Local w k Point.FirstHead u = (u ≡ None) × HasFirst w k 0
+Local w k Point.FirstTail u = (u ≡ None) × HasFirst w k 1
+Local w k Point.Placing u = (u ≡ None) × HasFirst w k 2
+Local w k Point.Founded u = u ≡ None
 Local w k (Point.Starting j) u = u ≡ None
 Local w k (Point.Checking j) u =
     ((register_at w.n k 0 ≡ Null) × (u ≡ Some (done_without j))) ⊎ ((u ≡ None) × HasEnds w k)

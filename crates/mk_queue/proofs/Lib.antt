@@ -6,3 +6,4 @@ pub mod Changing
 pub mod Founding
 pub mod Moving
 pub mod Kept
+pub mod Fitting

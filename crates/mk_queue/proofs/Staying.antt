@@ -1,11 +1,10 @@
 -- What a caller has stays so after an operation on which it may rely.
-use Rattle.mk_laws.proofs.Vocabulary.{List, None, Null, Option, Ptr, Some, Value, ap, arith, get_or, inl, inr}
-use Rattle.mk_laws.proofs.Vocabulary.{number_of}
-use Rattle.mk_laws.proofs.Vocabulary.{refl, register_at, subst, sym, word_at, ℕ, ◌<◌, ◌∙◌, ◌≡◌, ◌≢◌, ◌⊎◌}
-use Rattle.mk_jobs.specs.Keeping.{IsOf, Private, Waits, World}
-use Rattle.mk_jobs.proofs.Clients.{OwnStays}
+use Rattle.mk_laws.proofs.Vocabulary.{Null, Option, Ptr, Value, arith, inl, inr}
+use Rattle.mk_laws.proofs.Vocabulary.{refl, register_at, subst, sym, word_at, ℕ, ◌<◌, ◌∙◌, ◌≡◌, ◌≢◌}
+use Rattle.mk_jobs.specs.Keeping.{IsOf, Waits, World}
+use Rattle.mk_jobs.proofs.{Clients.OwnStays, Heaps.Sets}
 use Rattle.mk_queue.specs.declared.{jobs.Done.{Done}, points.Point.{Point}}
-use Rattle.mk_queue.proofs.Invariant.{HasEnds, HasFirst, HasHead, HasNext, HasOwn, HasTaken, IsEnqueuing, IsFounder}
+use Rattle.mk_queue.proofs.Invariant.{HasEnds, HasFirst, HasHead, HasNext, HasTaken, IsEnqueuing, IsFounder}
 use Rattle.mk_queue.proofs.Invariant.{IsNode, Local, MayPointToNode, PointsToNode, Rely}
 
 pub not_null : (a ty : ℕ) (v : Value) → v ≡ Ptr a ty 0 → v ≢ Null
@@ -59,6 +58,12 @@ module _ {j k : ℕ} {w w' : World} (rely : Rely j w w') where
       → IsEnqueuing w k m u → IsEnqueuing w' k m u
   enqueuing same same' alone h = grind (arith, ends)
 
+  -- another register was set,
+  pub enqueuing_set : {d : ℕ} {v : Value} {m : Option ℕ} {u : Option Done} → Sets k d v w.n w'.n → 1 < d
+      → OwnStays k w w' → IsEnqueuing w k m u → IsEnqueuing w' k m u
+  enqueuing_set set above alone h =
+      enqueuing (set.others 0 (λ e. omega arith)) (set.others 1 (λ e. omega arith)) alone h
+
 -- Another caller leaves it what it has.
 module _ {j k : ℕ} {w w' : World} (other : j ≢ k) (waits : Waits k w w') (rely : Rely j w w') where
   same_0 : IsSame w w' k 0
@@ -91,7 +96,7 @@ module _ {j k : ℕ} {w w' : World} (other : j ≢ k) (waits : Waits k w w') (re
   ruleset stays_facts = (founder, first, enqueuing, ends, head, taken, to_node, alone, same_0, same_1, same_2, same_3)
 
   pub stays : (s : Point) (u : Option Done) → Local w k s u → Local w' k s u
-  stays Point.Founding u h = founder h
+  stays Point.Founding u h = (h.0, founder h.1)
   stays Point.Asking u h = (
     ends rely same_0 h.0,
     elim h.1 [

@@ -1,28 +1,31 @@
 -- The points of a queue's jobs: the operation of each, and what the registers hold there.
-use Rattle.std.specs.Prelude.{◌≡◌, ℕ, List, [], ◌∷◌, Option, Some, None, refl}
-use Rattle.std.proofs.Common.{subst}
+use Rattle.std.specs.Prelude.{ℕ, List, [], ◌∷◌, refl}
+use Rattle.std.proofs.Common.{arith}
 use Rattle.mk_never.specs.declared.types.Kind.{Kind}
 use Rattle.mk_jobs.specs.{Plans.{Plan, Hold, Anything, MayPoint, Points, Owns, Owes}, Typing.{IsTyped, IsTypedStep}}
 use Rattle.mk_jobs.specs.declared.steps.Step.{Step}
 use Rattle.mk_queue.specs.declared.{jobs.Job.{Job}, jobs.Done.{Done}, points.Point.{Point}}
 use Rattle.mk_queue.specs.declared.points.Point.TheVariants as at
 
+-- what a job ends with where there is no queue
 abbrev pub done_without : Job → Done
 done_without (Job.Enqueue n) = Done.Full
 done_without Job.Dequeue = Done.Empty
 
+-- where a job goes on that has found the ends
 abbrev pub with_ends : Job → Point
 with_ends (Job.Enqueue n) = at.Making n
 with_ends Job.Dequeue = at.Heading
 
-abbrev pub step_of : Point → Step Point
+-- the operation of each point, and where its answers lead
+abbrev pub step_of : Point → Step Point Done
 step_of at.Founding = Step.New 0 1 at.Grounding at.Founded
 step_of at.Grounding = Step.New 1 0 at.FirstHead at.Dropping
 step_of at.Dropping = Step.Free 0 at.Founded
 step_of at.FirstHead = Step.SetPtr 0 0 1 at.FirstTail
 step_of at.FirstTail = Step.SetPtr 0 1 1 at.Placing
 step_of at.Placing = Step.SetGlobal 0 0 at.Founded
-step_of at.Founded = Step.End
+step_of at.Founded = Step.End Done.Empty
 step_of (at.Starting j) = Step.GetGlobal 0 0 (at.Checking j)
 step_of (at.Checking j) = Step.IsNull 0 (at.Ended (done_without j)) (with_ends j)
 step_of (at.Making n) = Step.New 1 0 (at.Filling n) (at.Ended Done.Full)
@@ -39,15 +42,12 @@ step_of at.Asking = Step.IsNull 3 (at.Ended Done.Empty) at.Taking
 step_of at.Taking = Step.CasPtr 0 0 2 3 at.Freeing at.Heading
 step_of at.Freeing = Step.Free 2 at.Reading
 step_of at.Reading = Step.GetNum 3 0 (at.Ended (Done.Dequeued 0))
-step_of (at.Ended d) = Step.End
+step_of (at.Ended d) = Step.End d
 
+-- the point, with the number that was loaded
 abbrev pub with_number : Point → ℕ → Point
 with_number (at.Ended (Done.Dequeued x)) n = at.Ended (Done.Dequeued n)
 with_number s n = s
-
-abbrev pub ended : Point → Option Done
-ended (at.Ended d) = Some d
-ended _ = None
 
 -- what registers 0 to 3 hold: the ends, the node that is enqueued, the tail or the head, and its link
 abbrev pub holds : Point → List Hold
@@ -73,15 +73,16 @@ holds at.Freeing = Anything ∷ Anything ∷ Owes 0 ∷ Points 0 ∷ []
 holds at.Reading = Anything ∷ Anything ∷ Anything ∷ Points 0 ∷ []
 holds _ = []
 
+-- what the layer is told of a queue
 abbrev pub queue_plan : Plan Job Done Point
 queue_plan = record {
   types = (Kind.Num ∷ Kind.To 0 0 ∷ []) ∷ (Kind.To 0 0 ∷ Kind.To 0 0 ∷ []) ∷ [];
   globals = 1 ∷ [];
+  registers = 4;
   founding = at.Founding;
   starting = at.Starting;
   step = step_of;
   with_number = with_number;
-  ended = ended;
   holds = holds;
 }
 
@@ -91,19 +92,11 @@ queue_steps_are_typed (at.Checking Job.Dequeue) = refl
 queue_steps_are_typed at.Reading = (refl, λ n. refl)
 queue_steps_are_typed x0 = refl
 
-abbrev IsNone : Option Done → Type 0
-IsNone None = Unit {0}
-IsNone (Some d) = ⊥
-
-end_asks_nothing : (s : Point) (d : Done) → ended s ≡ Some d → step_of s ≡ Step.End
-end_asks_nothing (at.Ended e) d is = refl
-end_asks_nothing at.Founded d is = refl
-end_asks_nothing _ d is = absurd (subst IsNone is tt)
-
+-- Each operation has in its registers what it asks.
 pub queue_is_typed : IsTyped queue_plan
 queue_is_typed = record {
+  few = omega arith;
   steps = queue_steps_are_typed;
   founding = refl;
   starting = λ j. refl;
-  ended = end_asks_nothing;
 }

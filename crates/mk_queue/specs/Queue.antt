@@ -13,6 +13,11 @@ left_by [] Job.Dequeue Done.Empty = Some []
 left_by (x ∷ xs) Job.Dequeue (Done.Dequeued n) = if x == n then Some xs else None
 left_by _ Job.Dequeue _ = None
 
+-- what became of a dequeue
+abbrev pub dequeued : Option ℕ → Done
+dequeued (Some n) = Done.Dequeued n
+dequeued None = Done.Empty
+
 -- Global 0 points to the ends. Their head points to a dummy, and the nodes that are linked from there have the numbers.
 pub record HasNodes (n : NeverState) (parts xs : List ℕ) : Type 0 where
   pub ends : ℕ

@@ -1,5 +1,15 @@
 //! The queue as points: the operation of each, and where its answers lead.
-ghost use Rattle.std.specs.Prelude.{◌≡◌, ℕ, List, [], Option};
+//!
+//! A dequeue looks at head once a try. It loads head, and then the link of the node that it found; if that is null, it
+//! answers Empty. Elsewhere a second look at head is needed, since the node could be freed in between, and its storage
+//! be another node's. Here a register that points to a node keeps its storage from being used again, so the link that
+//! is loaded is that node's. Head leaves a node only along its link, and a link that isn't null never changes. So if the
+//! link is null, head still points to the node, and the queue is empty at that very load. The same is why an exchange
+//! of head or tail needs no count beside the pointer.
+//!
+//! A caller that is stopped with an old dummy in a register keeps that node, and by the links all that were enqueued
+//! since, from being released. So an enqueue may be Full while few numbers are queued.
+ghost use Rattle.std.specs.Prelude.{◌≡◌, ℕ, List, []};
 ghost use Rattle.mk_never.specs.NeverHeap.{NeverState};
 ghost use Rattle.mk_queue.specs.Points.{done_without, queue_is_typed, queue_plan, with_ends};
 ghost use Rattle.mk_queue.specs.Queue.{HasNumbers, left_by};
@@ -8,8 +18,8 @@ use crate::jobs::{Done, Job};
 use crate::points::Point;
 use mk_core::GlobalTable;
 use mk_jobs::{
-    Object, Step, exchange, free, if_null, load, load_global, load_number, new, store,
-    store_global, store_number,
+    Linearizable, Object, Step, exchange, free, if_null, load, load_global, load_number, new,
+    store, store_global, store_number,
 };
 use mk_never::{Kind, NoMemory, TypeTable};
 use std::alloc::Global;
@@ -100,6 +110,10 @@ impl Object for Queue {
         Ok(globals)
     }
 
+    fn registers() -> u8 {
+        4
+    }
+
     fn founding() -> Point {
         Point::Founding
     }
@@ -108,7 +122,7 @@ impl Object for Queue {
         Point::Starting(job)
     }
 
-    fn step(point: Point) -> Step<Point> {
+    fn step(point: Point) -> Step<Point, Done> {
         use Point::*;
         match point {
             Founding => new(ENDS, ENDS_TYPE, Grounding, Founded),
@@ -138,7 +152,8 @@ impl Object for Queue {
             Taking => exchange(ENDS, HEAD, OLD, NEXT, Freeing, Heading),
             Freeing => free(OLD, Reading),
             Reading => load_number(NEXT, NUMBER, Ended(Done::Dequeued(0))),
-            Founded | Ended(_) => Step::End,
+            Founded => Step::End(Done::Empty),
+            Ended(done) => Step::End(done),
         }
     }
 
@@ -149,12 +164,10 @@ impl Object for Queue {
         }
     }
 
-    fn ended(point: Point) -> Option<Done> {
-        match point {
-            Point::Ended(done) => Some(done),
-            _ => None,
-        }
-    }
-
     ghost typed = { queue_is_typed };
+}
+
+impl Linearizable for Queue {
+    #[tactic(auto, using(crate::proofs::Kept::queue_explained))]
+    fn explained() {}
 }

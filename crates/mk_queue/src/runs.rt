@@ -1,0 +1,41 @@
+//! A queue from first to last: callers do their jobs on it, each on a thread of its own.
+ghost use Rattle.std.specs.Prelude.{◌≤◌, [], length, IfOk};
+ghost use Rattle.mk_core.specs.Config.{IsBetween};
+ghost use Rattle.mk_heap.specs.Reports.{history_of};
+ghost use Rattle.mk_jobs.specs.Runs.{AreExplainedJobs, IsRun, object_config};
+ghost use Rattle.mk_queue.specs.{Points.queue_plan, Queue.{HasNumbers, left_by}};
+
+use crate::jobs::{Done, Job};
+use crate::queues::Queue;
+use mk_heap::Pace;
+use mk_heap::lower::cycles::Engine;
+use mk_jobs::{Jobs, Outcome, run};
+use mk_never::NoMemory;
+use std::alloc::Global;
+use std::sync::Wait;
+use std::thread::Threads;
+
+/// Founds a queue on a heap of its own, has a caller for each list do its jobs, each on a thread of its own, with
+/// markers beside them, and joins all. A caller whose thread can't be started works here, and a marker whose thread
+/// can't be started does nothing. Where memory is refused to a caller, the others work on, and all are joined.
+pub fn run_queue<E: Engine + Send, P: Pace + Sync, R: Threads + Wait + Sync>(
+    rt: &R,
+    alloc: Global,
+    pages: u64,
+    resident: u64,
+    markers: u64,
+    lists: &[Jobs<Job>],
+    pace: &P,
+) -> Result<Outcome<Done>, NoMemory>
+    requires pages { IsBetween 1 4096 pages }
+    requires resident { IsBetween 1 pages resident }
+    requires markers { markers ≤ 8 }
+    requires callers { IsBetween 1 16 (length lists.now) }
+    ensures runs { IfOk result
+        (IsRun queue_plan E.on (object_config queue_plan pages resident (length lists.now) markers) lists.now) }
+    ensures explained { IfOk result (λ outcome. AreExplainedJobs queue_plan [] left_by HasNumbers
+        (object_config queue_plan pages resident (length lists.now) markers) (history_of outcome.report) lists.now
+        outcome.done.items) }
+{
+    run::<Queue, E, P, R>(rt, alloc, pages, resident, markers, lists, pace)
+}
