@@ -79,6 +79,7 @@ pub struct ThenTheRest {
 }
 
 impl ThenTheRest {
+    /// None of the others has done its jobs yet.
     pub fn new() -> ThenTheRest {
         ThenTheRest {
             ended: AtomicU64::new(0),

@@ -1,7 +1,6 @@
 //! A queue of numbers that callers share (Michael and Scott, PODC 1996), on a heap as it stands.
 //! A dequeued dummy is freed at once. The jobs of all callers stand in one order that a plain list explains.
-//! Start with `queues`: the points of a job, the operation of each, and why one look at head is enough. Then `calls` and
-//! `runs`. `specs/Queue.antt` has the plain list.
+//! Start with `queues`: the points of a job, and why one look at head is enough; then `runs` and `specs/Queue.antt`.
 #![tactic(auto)]
 
 mod calls;
