@@ -212,7 +212,8 @@ module _ {w w' : World} {xs : List ℕ} {k a b : ℕ} (q : IsQueue w xs) (is : w
               (ap (λ (c : ℕ). (allocation_at w.n c).ty) (sym dummy_is) ∙ q.chain.1.is_of) (sym f)) q.ends;
           chain = subst (λ (y : Value). IsChain w' 0 1 y (d ∷ ds)) (link_is ∙ sym stores.here)
               (chain_stays w 0 1 w' _ (d ∷ ds)
-              (λ c one h. (part_after 0 c (λ f. not_one_of (d ∷ ds) among one (f ∙ sym dummy_is)) h, word c 1 h)) chain);
+              (λ c one h.
+              (part_after 0 c (λ f. not_one_of (d ∷ ds) among one (f ∙ sym dummy_is)) h, word c 1 h)) chain);
           numbers = numbers_stay w 0 1 w'.n 0 _ ds (λ c one h. word c 0 h) chain.3;
           tail = points (nodes_on q stores taken).node (stores.beside 1 (λ e. omega arith)) q.tail;
           all = all_after d ds e;

@@ -123,8 +123,8 @@ module _ {w w' : World} (covers : Covers w w') where
     no_nodes = λ a h. let was = covers.shown a h.shown in
         none.no_nodes a (record { shown = was; is_of = sym (covers.types a was) ∙ h.is_of });
   })
-  shared_now (inr q) = inr (same_queue w' (λ a h. covers.words a h.shown) covers.types goes q (λ a h is. covers.shown a h)
-      covers.public covers.still (covers.globals 0) (word_of_ends q 0)
+  shared_now (inr q) = inr (same_queue w' (λ a h. covers.words a h.shown) covers.types goes q
+      (λ a h is. covers.shown a h) covers.public covers.still (covers.globals 0) (word_of_ends q 0)
       (points same_nodes.node (word_of_ends q 1) q.tail))
 
   pub covered : (xs : List ℕ) (j : ℕ) → Shared w xs → Shared w' xs × Rely j w w'

@@ -112,7 +112,8 @@ some_node : {w : World} {v : Value} → v ≢ Null → MayPointToNode w v → Po
 some_node ne (inl null) = absurd (ne null)
 some_node ne (inr h) = h
 
-pub moves : (callers : ℕ) (w : World) (k : ℕ) (s : Point) (u : Option Done) (x : List ℕ) → MovesAt client callers w k u x s
+pub moves : (callers : ℕ) (w : World) (k : ℕ) (s : Point) (u : Option Done) (x : List ℕ)
+    → MovesAt client callers w k u x s
 -- The first caller creates the ends
 moves callers w k Point.Founding u x there shared local o t asks =
     by_new client u there shared asks refl (λ a. refl) (undecided client refl)

@@ -3,9 +3,9 @@
 //! A dequeue looks at head once a try. It loads head, and then the link of the node that it found; if that is null, it
 //! answers Empty. Elsewhere a second look at head is needed, since the node could be freed in between, and its storage
 //! be another node's. Here a register that points to a node keeps its storage from being used again, so the link that
-//! is loaded is that node's. Head leaves a node only along its link, and a link that isn't null never changes. So if the
-//! link is null, head still points to the node, and the queue is empty at that very load. The same is why an exchange
-//! of head or tail needs no count beside the pointer.
+//! is loaded is that node's. Head leaves a node only along its link, and a link that isn't null never changes. So if
+//! the link is null, head still points to the node, and the queue is empty at that very load. The same is why an
+//! exchange of head or tail needs no count beside the pointer.
 //!
 //! A caller that is stopped with an old dummy in a register keeps that node, and by the links all that were enqueued
 //! since, from being released. So an enqueue may be Full while few numbers are queued.
