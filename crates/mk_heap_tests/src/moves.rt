@@ -108,7 +108,7 @@ impl Pace for ThenTheRest {
     }
 
     fn answered(&self, caller: u64, job: u64) {
-        if caller != 3 && job + 1 == JOBS_EACH {
+        if caller != 3 && job == JOBS_EACH - 1 {
             self.ended.fetch_add(1, Ordering::SeqCst);
         }
     }

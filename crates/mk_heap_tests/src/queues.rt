@@ -72,15 +72,24 @@ fn list_of(alloc: Global, caller: u64) -> Result<Jobs<Job>, AllocError> {
     Ok(Jobs { list })
 }
 
+/// The number that an enqueue put in, if there was room.
+fn number_put(job: Job, done: Done) -> Option<u64> {
+    match job {
+        Job::Enqueue(number) if matches!(done, Done::Enqueued) => Some(number),
+        _ => None,
+    }
+}
+
 /// What a caller enqueued and dequeued.
 fn moved(alloc: Global, jobs: &[Job], dones: &[Done]) -> Result<Moved, AllocError> {
     let mut put = Vec::new(alloc);
     let mut taken = Vec::new(alloc);
     for (job, done) in jobs.iter().zip(dones) {
-        match (*job, *done) {
-            (Job::Enqueue(number), Done::Enqueued) => put.push(number)?,
-            (_, Done::Dequeued(number)) => taken.push(number)?,
-            _ => {}
+        if let Some(number) = number_put(*job, *done) {
+            put.push(number)?;
+        }
+        if let Done::Dequeued(number) = *done {
+            taken.push(number)?;
         }
     }
     Ok(Moved { put, taken })

@@ -303,7 +303,7 @@ fn is_kept<R: Threads + Wait + Sync>(rt: &R, alloc: Global, row: &str) -> Result
         alloc,
         front.as_str(),
         limit.word,
-        limit.greatest + 1,
+        limit.greatest.wrapping_add(1),
         limit.end,
     )?;
     Ok(is_told(rt, alloc, "print", more.as_str(), limit.line)?)
