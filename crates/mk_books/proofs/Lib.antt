@@ -13,7 +13,9 @@ pub mod FitStays
 pub mod Showing
 pub mod Reading
 pub mod Storing
+pub mod RunPages
 pub mod FreeRanges
 pub mod FirstFit
 pub mod Uncleaned
+pub mod RunsTold
 pub mod Vocabulary

@@ -1,0 +1,42 @@
+//! What a page map is told of runs: the header words of all their pages at once.
+ghost use Rattle.std.specs.Prelude.{◌≡◌, ◌+◌, ◌*◌, ◌≤◌, ◌^◌, ◌<◌, true, false, length};
+ghost use Rattle.mk_geom.specs.PageUses.{PartOfRun};
+ghost use Rattle.mk_books.specs.Runs.{HeadersSay, RunIsTold, StandsOn, run_word, with_headers};
+
+use crate::page_map::PageMap;
+use mk_geom::Page;
+
+/// Stores the header words of so many pages of a run: its head's, and that of the next page, from which on each is 16
+/// higher.
+#[inline(always)]
+fn store_headers(pages: &mut [Page], first: u64, count: u64, head: u64, later: u64)
+    requires within { first + count ≤ length pages.old }
+    requires few { later + 16 * count < 2 ^ 64 }
+    ensures { pages.new ≡ with_headers pages.old first count (run_word head later) }
+{
+    for distance in 0..count {
+        let place = (first + distance) as usize;
+        let Page { header: _, used } = pages[place];
+        let header = if distance == 0 {
+            head
+        } else {
+            later + 16 * distance
+        };
+        pages[place] = Page { header, used };
+    }
+}
+
+impl PageMap {
+    /// The header words of a mapped run were stored, of which so many pages begin at this one. It is unmapped now.
+    #[inline(never)]
+    pub fn run_unmapped(&mut self, first: u64, count: u64, head: u64, later: u64)
+        requires within { first + count ≤ length self.old.pages }
+        requires few { later + 16 * count < 2 ^ 64 }
+        requires before { StandsOn (PartOfRun true) self.old.pages first count }
+        requires after { HeadersSay (PartOfRun false) count (run_word head later) }
+        ensures { RunIsTold self.old first count (run_word head later) self.new }
+    {
+        store_headers(&mut self.pages, first, count, head, later);
+        self.resident = self.resident - count;
+    }
+}
