@@ -6,6 +6,8 @@ pub mod FreeCellLemmas
 pub mod PlaceLemmas
 pub mod LowestBits
 pub mod SetWords
+pub mod BitRanges
+pub mod MovedPages
 pub mod NextPages
 pub mod BlockSets
 pub mod FreeSets

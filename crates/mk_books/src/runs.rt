@@ -1,9 +1,12 @@
 //! What a page map is told of runs: the header words of all their pages at once.
 ghost use Rattle.std.specs.Prelude.{◌≡◌, ◌+◌, ◌*◌, ◌≤◌, ◌^◌, ◌<◌, true, false, length};
 ghost use Rattle.mk_geom.specs.PageUses.{PartOfRun};
+ghost use Rattle.mk_books.specs.PageSets.{AreSets, MovesPages, is_between};
 ghost use Rattle.mk_books.specs.Runs.{HeadersSay, RunIsTold, StandsOn, run_word, with_headers};
 
 use crate::page_map::PageMap;
+use crate::sets::{bits_between, put_bits};
+use crate::sorting::{FREE, IN_USE, UNCLEANED};
 use mk_geom::Page;
 
 /// Stores the header words of so many pages of a run: its head's, and that of the next page, from which on each is 16
@@ -23,6 +26,22 @@ fn store_headers(pages: &mut [Page], first: u64, count: u64, head: u64, later: u
             later + 16 * distance
         };
         pages[place] = Page { header, used };
+    }
+}
+
+/// Puts pages among the free ones and among those of them that may be marked, or out of both and among those in use:
+/// those from one page on and below another.
+#[inline(always)]
+fn move_pages(sets: &mut [u64], from: u64, end: u64, free: bool)
+    requires sets { AreSets sets.old }
+    requires end { end ≤ 4096 }
+    ensures { MovesPages sets.old sets.new (is_between from end) free }
+{
+    for word in from / 64..end.div_ceil(64) {
+        let bits = bits_between(word, from, end);
+        put_bits(sets, FREE, word, bits, free);
+        put_bits(sets, IN_USE, word, bits, !free);
+        put_bits(sets, UNCLEANED, word, bits, free);
     }
 }
 
