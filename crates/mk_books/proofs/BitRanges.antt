@@ -1,11 +1,11 @@
 -- Words of sets of which several bits are put at once.
-use Rattle.std.proofs.Common.{bit_and, bit_or, le-leb, le-ltb, lt-ltb, nat_le, ne_eqb, ◌&&◌, ◌/◌, ◌||◌}
+use Rattle.std.proofs.Common.{bit_and, bit_or, le-leb, le-ltb, lt-ltb, ◌/◌}
 use Rattle.std.proofs.lemmas.{Bool.{cases_lt, lt-leb}, Nat.Bits.{bit_at-lt, bit_at_and, bit_at_not, bit_at_or}}
 use Rattle.std.specs.Int.{bit_not}
-use Rattle.mk_books.proofs.Vocabulary.{AreSets, Bool, List, ap, arith, bit_at, cases_eq, cond, false, inl, inr}
-use Rattle.mk_books.proofs.Vocabulary.{is_member, nat_eq, nat_lt, not, refl, sym, true, w64, ℕ, ◌%◌, ◌*◌, ◌+◌, ◌-◌}
-use Rattle.mk_books.proofs.Vocabulary.{◌<◌, ◌∙◌, ◌≡◌, ◌≤◌}
-use Rattle.mk_books.specs.PageSets.{MovesPages, PutsBits, StoresWord, is_between, tells_free, word_in_set}
+use Rattle.mk_books.proofs.Vocabulary.{Bool, List, ap, arith, bit_at, cond, false, inl, inr}
+use Rattle.mk_books.proofs.Vocabulary.{nat_eq, nat_lt, sym, true, w64, ℕ, ◌%◌, ◌*◌, ◌+◌, ◌-◌}
+use Rattle.mk_books.proofs.Vocabulary.{◌<◌, ◌∙◌, ◌≡◌}
+use Rattle.mk_books.specs.PageSets.{PutsBits, StoresWord, is_between, word_in_set}
 
 pub ones_put : (word bits place : ℕ) → nat_eq (bit_at (bit_or word bits) place) 1
     ≡ cond (nat_eq (bit_at bits place) 1) true (nat_eq (bit_at word place) 1)

@@ -1,9 +1,9 @@
 -- Pages that are put among the free ones, or taken out, word by word.
-use Rattle.std.proofs.Common.{le-leb, le-ltb, lt-ltb, nat_le, ne_eqb, ◌&&◌, ◌/◌, ◌||◌}
+use Rattle.std.proofs.Common.{le-leb, le-ltb, lt-ltb, nat_le, ne_eqb, ◌&&◌, ◌/◌}
 use Rattle.std.proofs.lemmas.Bool.{and_left, and_right, lt-leb}
 use Rattle.mk_books.proofs.Vocabulary.{AreSets, Bool, List, ap, arith, bit_at, cases_eq, cases_lt, cond, false, inl}
-use Rattle.mk_books.proofs.Vocabulary.{inr, is_member, nat_eq, nat_lt, not, refl, subst, sym, true, ℕ, ◌%◌, ◌*◌, ◌+◌}
-use Rattle.mk_books.proofs.{Vocabulary.{◌-◌, ◌<◌, ◌∙◌, ◌≡◌, ◌≤◌}}
+use Rattle.mk_books.proofs.Vocabulary.{inr, is_member, nat_eq, nat_lt, not, refl, subst, sym, ℕ, ◌%◌, ◌*◌, ◌+◌}
+use Rattle.mk_books.proofs.{Vocabulary.{◌<◌, ◌∙◌, ◌≡◌, ◌≤◌}}
 use Rattle.mk_books.specs.PageSets.{MovesPages, PutsBits, is_between, tells_free}
 
 -- of a range the pages of the first words
@@ -71,7 +71,7 @@ three_elsewhere {before} {third} puts number few differ =
     ∙ puts.into_free.other_sets 19 number (omega arith) few (λ same. absurd (omega arith)))
     (λ set not_free not_in_use other is_set. three_others puts set number is_set few not_free not_in_use other)
 
-no_teller : (set : ℕ) → (set ≡ 16 → ⊥) → (set ≡ 17 → ⊥) → (set ≡ 19 → ⊥) → tells_free set ≡ false
+pub no_teller : (set : ℕ) → (set ≡ 16 → ⊥) → (set ≡ 17 → ⊥) → (set ≡ 19 → ⊥) → tells_free set ≡ false
 no_teller set not_free not_in_use other = grind (arith, ne_eqb)
 
 -- and one of this word where its bit says

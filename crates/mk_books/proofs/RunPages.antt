@@ -1,6 +1,6 @@
 -- The pages of a run after its header words were stored together.
-use Rattle.std.proofs.Common.{take_at, ◌&&◌, ◌*◌, ◌==◌, ◌||◌}
-use Rattle.mk_books.proofs.Vocabulary.{Bool, List, Page, PageUse, ap, arith, cases_eq, cases_lt, drop, free_page}
+use Rattle.std.proofs.Common.{take_at, ◌*◌}
+use Rattle.mk_books.proofs.Vocabulary.{List, Page, ap, arith, cases_eq, cases_lt, drop, free_page}
 use Rattle.mk_books.proofs.Vocabulary.{get_or-set_other, get_or-set_same, inl, inr, length, length-set, page_at, refl}
 use Rattle.mk_books.proofs.Vocabulary.{resident_pages, set, subst, suc, sym, take, uses_of_pages, zero, ◌++◌, ◌+◌, ◌-◌}
 use Rattle.mk_books.proofs.{Vocabulary.{ℕ, ◌<◌, ◌∙◌, ◌≡◌, ◌≤◌}, FitStays.{resident_changed, resident_one}}

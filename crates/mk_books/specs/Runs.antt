@@ -24,6 +24,10 @@ abbrev pub StandsOn : PageUse → List Page → ℕ → ℕ → Type 0
 StandsOn stands pages first count =
     (distance : ℕ) → distance < count → use_of_page (page_at pages (first + distance)) ≡ stands
 
+-- so many pages are free, from this one on
+abbrev pub AreBare : List Page → ℕ → ℕ → Type 0
+AreBare pages first count = (distance : ℕ) → distance < count → (page_at pages (first + distance)).header ≡ 0
+
 -- A map that was told of these header words knows what it would know if it had been told of each: a range of pages is
 -- its pages.
 pub record RunIsTold (old : KnownPages) (first count : ℕ) (headers : ℕ → ℕ) (new : KnownPages) : Type 0 where

@@ -1,7 +1,9 @@
 //! Sets of page numbers, as bits: 64 pages in a word, and 64 words in a set, after a summary of which of them aren't 0.
 //! So a set's next page is found by two words of it and the summary.
-ghost use Rattle.std.specs.{Prelude.{◌≡◌, ℕ, ◌+◌, ◌*◌, ◌<◌, ◌≤◌, ◌==◌, false, true, nat_lt, not, if◌then◌else◌}, Int.bit_at};
-ghost use Rattle.mk_books.specs.{Members.IsNext, PageSets.{AreSets, PutsBits, PutsPage, StoresWord, is_between, is_member}};
+ghost use Rattle.std.specs.Prelude.{◌≡◌, ℕ, ◌+◌, ◌*◌, ◌<◌, ◌≤◌, ◌==◌, false, true, nat_lt, not, if◌then◌else◌};
+ghost use Rattle.std.specs.{Int.bit_at};
+ghost use Rattle.mk_books.specs.{Members.IsNext};
+ghost use Rattle.mk_books.specs.PageSets.{AreSets, PutsBits, PutsPage, StoresWord, is_between, is_member};
 
 /// A summary and 64 words.
 pub(crate) const SET_WORDS: usize = 65;

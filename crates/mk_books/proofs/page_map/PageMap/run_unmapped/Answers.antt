@@ -1,4 +1,5 @@
-use Rattle.mk_books.proofs.Vocabulary.{FitPages, KnownPages, List, Page, PartOfRun, ap, arith, false, true, drop, length, subst}
+use Rattle.mk_books.proofs.Vocabulary.{FitPages, KnownPages, List, Page, PartOfRun, ap, arith, false, true, drop}
+use Rattle.mk_books.proofs.Vocabulary.{length, subst}
 use Rattle.mk_books.proofs.Vocabulary.{sym, take, ℕ, ◌++◌, ◌+◌, ◌-◌, ◌∙◌, ◌≡◌, ◌≤◌}
 use Rattle.mk_books.proofs.{RunPages.{length-with_headers, pages_written}, Showing.known_by}
 use Rattle.mk_books.proofs.{RunsTold.{StoresRun, run_fits, run_told, unmapped_count, unmapped_stored}}
