@@ -12,6 +12,7 @@ mod laws;
 mod page_map;
 mod page_uses;
 mod quarantine;
+mod runs;
 mod sets;
 mod sorting;
 mod trigger;
