@@ -9,13 +9,13 @@ use crate::sets::{bits_between, put_bits};
 use crate::sorting::{FREE, IN_USE, UNCLEANED};
 use mk_geom::Page;
 
-/// Stores the header words of so many pages of a run: its head's, and that of the next page, from which on each is 16
-/// higher.
+/// Stores header words on this many pages: the first gets `head`, the second `next`, and each of the others 16 more
+/// than the page before it.
 #[inline(always)]
-fn store_headers(pages: &mut [Page], first: u64, count: u64, head: u64, later: u64)
+fn store_headers(pages: &mut [Page], first: u64, count: u64, head: u64, next: u64)
     requires within { first + count ≤ length pages.old }
-    requires few { later + 16 * count < 2 ^ 64 }
-    ensures { pages.new ≡ with_headers pages.old first count (run_word head later) }
+    requires few { next + 16 * count < 2 ^ 64 }
+    ensures { pages.new ≡ with_headers pages.old first count (run_word head next) }
 {
     for distance in 0..count {
         let place = (first + distance) as usize;
@@ -23,13 +23,13 @@ fn store_headers(pages: &mut [Page], first: u64, count: u64, head: u64, later: u
         let header = if distance == 0 {
             head
         } else {
-            later + 16 * distance
+            next + 16 * (distance - 1)
         };
         pages[place] = Page { header, used };
     }
 }
 
-/// Stores the header words of so many free pages.
+/// Stores 0 as the header word of this many pages.
 #[inline(always)]
 fn clear_headers(pages: &mut [Page], first: u64, count: u64)
     requires within { first + count ≤ length pages.old }
@@ -42,8 +42,8 @@ fn clear_headers(pages: &mut [Page], first: u64, count: u64)
     }
 }
 
-/// Puts pages among the free ones and among those of them that may be marked, or out of both and among those in use:
-/// those from one page on and below another.
+/// Moves the pages from one on and below another. As free ones they are in the sets of the free and of the uncleaned
+/// pages, and else in that of the pages in use.
 #[inline(always)]
 fn move_pages(sets: &mut [u64], from: u64, end: u64, free: bool)
     requires sets { AreSets sets.old }
@@ -59,35 +59,38 @@ fn move_pages(sets: &mut [u64], from: u64, end: u64, free: bool)
 }
 
 impl PageMap {
-    /// The header words of a mapped run were stored on so many free pages, of which this is the first.
+    /// Tells the map that a mapped run was made of this many free pages. The first page's header word is `head`, the
+    /// second's is `next`, and each of the others is 16 more than that of the page before it.
     #[inline(never)]
-    pub fn run_made(&mut self, first: u64, count: u64, head: u64, later: u64)
+    pub fn run_made(&mut self, first: u64, count: u64, head: u64, next: u64)
         requires within { first + count ≤ length self.old.pages }
         requires some { 0 < count }
-        requires few { later + 16 * count < 2 ^ 64 }
+        requires few { next + 16 * count < 2 ^ 64 }
         requires before { AreBare self.old.pages first count }
-        requires after { HeadersSay (PartOfRun true) count (run_word head later) }
-        ensures { RunIsTold self.old first count (run_word head later) self.new }
+        requires after { HeadersSay (PartOfRun true) count (run_word head next) }
+        ensures { RunIsTold self.old first count (run_word head next) self.new }
     {
-        store_headers(&mut self.pages, first, count, head, later);
+        store_headers(&mut self.pages, first, count, head, next);
         move_pages(&mut self.sets, first, first + count, false);
         self.resident = self.resident + count;
     }
 
-    /// The header words of a mapped run were stored, of which so many pages begin at this one. It is unmapped now.
+    /// Tells the map that this many pages of a mapped run were unmapped. Their header words are now `head`, `next`, and
+    /// so on, each 16 more.
     #[inline(never)]
-    pub fn run_unmapped(&mut self, first: u64, count: u64, head: u64, later: u64)
+    pub fn run_unmapped(&mut self, first: u64, count: u64, head: u64, next: u64)
         requires within { first + count ≤ length self.old.pages }
-        requires few { later + 16 * count < 2 ^ 64 }
+        requires few { next + 16 * count < 2 ^ 64 }
         requires before { StandsOn (PartOfRun true) self.old.pages first count }
-        requires after { HeadersSay (PartOfRun false) count (run_word head later) }
-        ensures { RunIsTold self.old first count (run_word head later) self.new }
+        requires after { HeadersSay (PartOfRun false) count (run_word head next) }
+        ensures { RunIsTold self.old first count (run_word head next) self.new }
     {
-        store_headers(&mut self.pages, first, count, head, later);
+        store_headers(&mut self.pages, first, count, head, next);
         self.resident = self.resident - count;
     }
 
-    /// So many pages of an unmapped run, of which this is the first, are free now. They are to be cleaned.
+    /// Tells the map that this many pages of an unmapped run are free now: their header words are 0. They are
+    /// uncleaned.
     #[inline(never)]
     pub fn run_freed(&mut self, first: u64, count: u64)
         requires within { first + count ≤ length self.old.pages }

@@ -10,7 +10,7 @@ abbrev held : After-move_pages → List Page
 held c = c.self.inside.pages.items
 
 abbrev headers : After-move_pages → ℕ → ℕ
-headers c = run_word c.args.head c.args.later
+headers c = run_word c.args.head c.args.next
 
 same_pages : (c : After-move_pages) → held c ≡ c.args.self.now.pages
 same_pages c = ap (λ (k : KnownPages). k.pages) c.self.view_is

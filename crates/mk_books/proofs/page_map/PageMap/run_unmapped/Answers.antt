@@ -11,7 +11,7 @@ abbrev held : After-store_headers → List Page
 held c = c.self.inside.pages.items
 
 abbrev headers : After-store_headers → ℕ → ℕ
-headers c = run_word c.args.head c.args.later
+headers c = run_word c.args.head c.args.next
 
 same_pages : (c : After-store_headers) → held c ≡ c.args.self.now.pages
 same_pages c = ap (λ (k : KnownPages). k.pages) c.self.view_is
