@@ -1,4 +1,5 @@
-//! Steps of the turn's holder that store the headers of a whole run. The map is told of all of them at once.
+//! Steps of the turn's holder that store the header words of a whole run. The page map is told of all of them at once,
+//! which takes fewer instructions than a call for each page.
 ghost use Rattle.std.specs.Prelude.{◌≡◌, ◌+◌, ◌*◌, ◌<◌, ◌≤◌, ◌^◌, true, false, ℕ};
 ghost use Rattle.mk_books.specs.Runs.{HeadersSay, StandsOn, AreBare, run_word};
 ghost use Rattle.mk_geom.specs.PageUses.{PartOfRun};
@@ -12,7 +13,7 @@ use crate::turns::TurnAt;
 use crate::words::Words;
 use mk_core::{Access, Step, TableWord, Word};
 
-/// Stores a page's header. The map isn't told.
+/// Stores a page's header word. The map isn't told.
 #[inline(always)]
 fn store_header(pass: &mut TurnToken, words: &Words, page: u64, value: u64)
     requires one_table { pass.old.table ≡ words.now }
@@ -29,28 +30,28 @@ fn store_header(pass: &mut TurnToken, words: &Words, page: u64, value: u64)
     );
 }
 
-/// Stores the headers of so many pages of a run: its head's, and that of the next page, from which on each is 16
-/// higher.
+/// Stores header words on this many pages: the first gets `head`, the second `next`, and each of the others 16 more
+/// than the page before it. The map isn't told.
 #[inline(always)]
-fn store_headers(pass: &mut TurnToken, words: &Words, first: u64, count: u64, head: u64, later: u64)
+fn store_headers(pass: &mut TurnToken, words: &Words, first: u64, count: u64, head: u64, next: u64)
     requires one_table { pass.old.table ≡ words.now }
     requires turn { IsTurn pass.old }
     requires within { first + count < 2 ^ 64 }
-    requires few { later + 16 * count < 2 ^ 64 }
-    requires may { MayStoreHeads pass.old first count (run_word head later) }
-    ensures { StoresHeads pass.old first count (run_word head later) pass.new }
+    requires few { next + 16 * count < 2 ^ 64 }
+    requires may { MayStoreHeads pass.old first count (run_word head next) }
+    ensures { StoresHeads pass.old first count (run_word head next) pass.new }
 {
     for distance in 0..count {
         let header = if distance == 0 {
             head
         } else {
-            later + 16 * distance
+            next + 16 * (distance - 1)
         };
         store_header(pass, words, first + distance, header);
     }
 }
 
-/// Stores 0 as the header of so many pages.
+/// Stores 0 as the header word of this many pages. The map isn't told.
 #[inline(always)]
 fn clear_headers(pass: &mut TurnToken, words: &Words, first: u64, count: u64)
     requires one_table { pass.old.table ≡ words.now }
@@ -65,40 +66,40 @@ fn clear_headers(pass: &mut TurnToken, words: &Words, first: u64, count: u64)
 }
 
 impl<G: Gates> TurnAt<G> {
-    /// Makes a mapped run of so many free pages, of which this is the first: stores their headers. The head's header
-    /// word is given, and that of the next page, from which on each is 16 higher.
-    pub fn make_run(&mut self, words: &Words, first: u64, count: u64, head: u64, later: u64)
+    /// Makes a mapped run of this many free pages. The first page's header word will be `head`, the second's `next`,
+    /// and each of the others 16 more than that of the page before it.
+    pub fn make_run(&mut self, words: &Words, first: u64, count: u64, head: u64, next: u64)
         requires one_table { self.old.pass.table ≡ words.now }
         requires within { first + count ≤ words.now.config.pages }
         requires some { 0 < count }
-        requires few { later + 16 * count < 2 ^ 64 }
+        requires few { next + 16 * count < 2 ^ 64 }
         requires bare { AreBare (now_of self.old.pass).words.pages first count }
-        requires headers { HeadersSay (PartOfRun true) count (run_word head later) }
-        requires may { MayStoreHeads self.old.pass first count (run_word head later) }
-        ensures { StoresHeads self.old.pass first count (run_word head later) self.new.pass }
+        requires headers { HeadersSay (PartOfRun true) count (run_word head next) }
+        requires may { MayStoreHeads self.old.pass first count (run_word head next) }
+        ensures { StoresHeads self.old.pass first count (run_word head next) self.new.pass }
     {
         words.is_within_limits();
-        store_headers(&mut self.pass, words, first, count, head, later);
-        self.map.run_made(first, count, head, later);
+        store_headers(&mut self.pass, words, first, count, head, next);
+        self.map.run_made(first, count, head, next);
     }
 
-    /// Unmaps a mapped run, of so many pages from this one on: stores their headers. The head's header word is given,
-    /// and that of the next page, from which on each is 16 higher.
-    pub fn unmap_run(&mut self, words: &Words, first: u64, count: u64, head: u64, later: u64)
+    /// Unmaps this many pages of a mapped run. The first page's header word will be `head`, the second's `next`, and
+    /// each of the others 16 more than that of the page before it.
+    pub fn unmap_run(&mut self, words: &Words, first: u64, count: u64, head: u64, next: u64)
         requires one_table { self.old.pass.table ≡ words.now }
         requires within { first + count ≤ words.now.config.pages }
-        requires few { later + 16 * count < 2 ^ 64 }
+        requires few { next + 16 * count < 2 ^ 64 }
         requires mapped { StandsOn (PartOfRun true) (now_of self.old.pass).words.pages first count }
-        requires headers { HeadersSay (PartOfRun false) count (run_word head later) }
-        requires may { MayStoreHeads self.old.pass first count (run_word head later) }
-        ensures { StoresHeads self.old.pass first count (run_word head later) self.new.pass }
+        requires headers { HeadersSay (PartOfRun false) count (run_word head next) }
+        requires may { MayStoreHeads self.old.pass first count (run_word head next) }
+        ensures { StoresHeads self.old.pass first count (run_word head next) self.new.pass }
     {
         words.is_within_limits();
-        store_headers(&mut self.pass, words, first, count, head, later);
-        self.map.run_unmapped(first, count, head, later);
+        store_headers(&mut self.pass, words, first, count, head, next);
+        self.map.run_unmapped(first, count, head, next);
     }
 
-    /// Frees so many pages of an unmapped run, from this one on.
+    /// Frees this many pages of an unmapped run: their header words will be 0.
     pub fn free_pages(&mut self, words: &Words, first: u64, count: u64)
         requires one_table { self.old.pass.table ≡ words.now }
         requires within { first + count ≤ words.now.config.pages }

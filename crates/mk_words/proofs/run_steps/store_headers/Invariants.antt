@@ -4,4 +4,4 @@ use Rattle.mk_words.specs.RunSteps.{StoresHeads}
 
 abbrev pub invariant-loop-distance : goal.invariant-loop-distance
 invariant-loop-distance l =
-    record { stores : StoresHeads l.initial.pass l.first l.distance (run_word l.head l.later) l.pass }
+    record { stores : StoresHeads l.initial.pass l.first l.distance (run_word l.head l.next) l.pass }

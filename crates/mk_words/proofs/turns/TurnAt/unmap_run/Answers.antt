@@ -14,7 +14,7 @@ run_unmapped-requires-clause-within g c = omega (
 
 pub invariant_of-self-inside : goal.invariant_of-self-inside
 invariant_of-self-inside g c = (
-  heads_keep_turn c.self.inside.pass c.args.first c.args.count (run_word c.args.head c.args.later)
+  heads_keep_turn c.self.inside.pass c.args.first c.args.count (run_word c.args.head c.args.next)
       c.store_headers.new.pass c.store_headers.ensures c.self.inside.in_order,
   tt,
 )
@@ -22,7 +22,7 @@ invariant_of-self-inside g c = (
 pub invariant_of-self : goal.invariant_of-self
 invariant_of-self g c =
     let held = map_that c.deref_mut.ensures.value c.self.invariant in
-    run_goes_on c.args.first c.args.count (run_word c.args.head c.args.later) (omega (
+    run_goes_on c.args.first c.args.count (run_word c.args.head c.args.next) (omega (
       arith,
       c.requires.within,
       ap (λ (w : WordsState). w.config.pages) (rw (sym c.self.view_is) at c.requires.one_table),
