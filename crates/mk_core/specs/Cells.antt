@@ -87,6 +87,10 @@ is_marked w cell = has_bit (slice_index w.marks cell.page) cell.index
 abbrev pub has_no_pointers : Option Header → Bool
 has_no_pointers header = is_leaf_header header || is_unmapped_header header
 
+-- How many words of a cell under the header are scanned: none of a leaf cell, or of an unmapped run.
+abbrev pub words_scanned : Option Header → ℕ
+words_scanned header = if has_no_pointers header then 0 else words_under header
+
 -- The value points into nothing, or into a marked cell.
 abbrev pub points_well : ℕ → Words → ℕ → Bool
 points_well pages w value = is_none_or (is_marked w) (pointed_cell pages w.pages value)
