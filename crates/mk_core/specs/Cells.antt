@@ -1,6 +1,6 @@
 -- Cells and runs as the words show them.
 use Rattle.std.specs.Prelude.{ℕ, ◌+◌, ◌-◌, ◌*◌, ◌/◌, ◌^◌, Bool, true, false, ◌&&◌, ◌||◌, not, ◌==◌, nat_le, nat_lt}
-use Rattle.std.specs.Prelude.{List, Option, Some, None, slice_index, slice_index_or}
+use Rattle.std.specs.Prelude.{List, Option, Some, None, if◌then◌else◌, slice_index, slice_index_or}
 use Rattle.mk_geom.specs.{declared.addresses.Cell.Cell, declared.headers.Header.Header}
 use Rattle.mk_geom.specs.declared.headers.Header.TheVariants.{Block, Run, Later, LeafBlock, LeafRun}
 use Rattle.mk_geom.specs.{declared.pages.Page.Page, Storages.free_page, Classes.{cells_of, class_words_of}}
