@@ -68,8 +68,8 @@ impl Patience {
         Some(sleep)
     }
 
-    /// Pauses once, where another has the turn. Who has waited long is late while it sleeps, and when it wakes it pauses
-    /// as at first: others may let it have the turn then.
+    /// Pauses once, if another has the turn. Who has waited long is late while it sleeps. When it wakes it pauses as at
+    /// first, since others may let it have the turn then.
     pub fn pause_for_turn<R: Wait>(&mut self, rt: &R, words: &Words)
         ensures { PausesOnce self.old self.new }
     {

@@ -75,8 +75,8 @@ impl Words {
         }
     }
 
-    /// Lets one of those who are late for the turn have it first. It is called after a turn with a cycle: who sleeps would
-    /// hardly find the turn free between one cycle and the next. If nobody is late it does nothing.
+    /// Lets one of those who are late for the turn have it first. It is called after a turn with a cycle: who sleeps
+    /// would hardly find the turn free between one cycle and the next. If nobody is late it does nothing.
     pub fn let_late_first(&self) {
         if self.late.load(Ordering::SeqCst) > 0 {
             self.wake_late();
