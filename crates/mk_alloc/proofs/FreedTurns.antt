@@ -276,8 +276,9 @@ module _ {flag due : Bool} {r : ℕ} {p taken retired done : PassState} (f : Fre
     abbrev given : GivenBack (Op.Free r) Answer.Done p taken done q
     given = record { took = f.took; fresh = f.begins.fresh; on = freed; gives = gives; rests = rests }
 
-    pub freed_keeps : {sweeps : Bool} {begins : Config → Seat → List Event → List Event → Type 0}
-        → KeepsYet sweeps begins retired done → PassKeeps sweeps begins p q
+    pub freed_keeps : {V : Type 0} {sweeps : Bool} {begins : Config → Seat → List Event → List Event → Type 0}
+        {tells : V → Config → World → Type 0}
+        → KeepsYet sweeps begins tells retired done → PassKeeps sweeps begins tells p q
     freed_keeps run = turn_keeps_yet given (kinds_yet (λ x h. grind arith) f.retires.decides.does run)
 
     told : IsDueIn (turn_of given) → due ≡ true
@@ -317,8 +318,9 @@ module _ {r : ℕ} {p taken done : PassState} (f : Refuses r p taken done) where
     abbrev given_double : GivenBack (Op.Free r) Answer.Double p taken done q
     given_double = record { took = f.took; fresh = f.begins.fresh; on = refused; gives = gives; rests = rests }
 
-    pub refused_keeps : {sweeps : Bool} {begins : Config → Seat → List Event → List Event → Type 0}
-        → PassKeeps sweeps begins p q
+    pub refused_keeps : {V : Type 0} {sweeps : Bool} {begins : Config → Seat → List Event → List Event → Type 0}
+        {tells : V → Config → World → Type 0}
+        → PassKeeps sweeps begins tells p q
     refused_keeps = turn_keeps given_double (kinds_keep (λ x h. grind arith) f.finds.decides.does)
 
     loading : Part is_loading taken done

@@ -7,7 +7,8 @@ use Rattle.mk_laws.proofs.Vocabulary.{false, get_or, length, refl, slice_index_o
 use Rattle.mk_laws.proofs.Vocabulary.{◌∙◌, ◌∷◌, ◌≡◌, ◌≤◌}
 use Rattle.mk_check.specs.{Declarations.config_of, Laws.IsScript, declared.text.Text.Text}
 use Rattle.mk_check.specs.{Feed.is_refusal, Output.answers_given}
-use Rattle.mk_run.specs.Below.Cycles.Roots.{CyclesMarkRootsFirst}
+use Rattle.mk_run.specs.Below.Cycles.{Begun.CyclesHoldGatesFirst, Roots.CyclesMarkRootsFirst}
+use Rattle.mk_run.specs.Below.Heaps.Reports.{MarkersAreBelow}
 use Rattle.mk_run.specs.Headline.{cycles_go_on}
 use Rattle.mk_run.specs.{Running.{IsRunOf, answers_in}, Below.Heaps.Unswept.IsUnswept}
 use Rattle.mk_run.specs.Below.Heaps.Reports as report
@@ -130,11 +131,13 @@ module _ (start count markers : ℕ) (outcome : Outcome)
       let counted = runs.count in
       cc (lines, sums, counted)
 
-  pub run_is_summed : (cycles_go_on markers ≡ true → CyclesMarkRootsFirst c es) → IsUnswept c es
+  pub run_is_summed : (cycles_go_on markers ≡ true → CyclesMarkRootsFirst c es)
+      → (cycles_go_on markers ≡ false → CyclesHoldGatesFirst c es) → MarkersAreBelow markers es → IsUnswept c es
       → (bytes : List ℕ) → bytes ≡ summary_of_texts outcome.texts.items
       → IsSummaryOfRun program markers es bytes
-  run_is_summed begun unswept bytes is =
-      let stands = runs_stand_in_one_history program markers false false outcome runs begun (λ none. unswept) in
+  run_is_summed begun stops below unswept bytes is =
+      let stands =
+      runs_stand_in_one_history program markers false false outcome runs begun stops below (λ none. unswept) in
       record {
         stands = stands;
         promises = runs_keep_their_promises program markers false false es stands;

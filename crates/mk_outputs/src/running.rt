@@ -1,8 +1,8 @@
 //! The run of a program on the heap.
 ghost use Rattle.std.specs.Prelude.{◌≡◌, ◌≤◌, ◌++◌, [], IfOk, OnOk, if◌then◌else◌, true, false};
 ghost use Rattle.mk_check.specs.Declarations.{config_of};
-ghost use Rattle.mk_run.specs.{Below.Cycles.Begun.CyclesAreBegun, Below.Cycles.Roots.CyclesMarkRootsFirst};
-ghost use Rattle.mk_run.specs.{Below.Heaps.Reports.history_of, Headline.cycles_go_on};
+ghost use Rattle.mk_run.specs.Below.Cycles.{Begun.{CyclesAreBegun, CyclesHoldGatesFirst}, Roots.CyclesMarkRootsFirst};
+ghost use Rattle.mk_run.specs.{Below.Heaps.Reports.{MarkersAreBelow, history_of}, Headline.cycles_go_on};
 ghost use Rattle.mk_run.specs.{Running.IsRunOf, Below.Heaps.Unswept.IsUnswept};
 ghost use Rattle.mk_outputs.specs.declared.commands.TextCommand.TheVariants as TextCommand;
 ghost use Rattle.mk_outputs.specs.Commands.{MarkersAreWithin, is_sweep, markers_beside};
@@ -42,6 +42,7 @@ fn run_by<E: Engine + Send, P: Pace + Sync, R: Threads + Wait + Sync>(
     ensures runs { IfOk result (λ ran. IsRunOf E.on why program.now markers ran.0) }
     ensures begun { IfOk result (λ ran.
         CyclesAreBegun E.begins (config_of program.now markers) (history_of ran.0.report)) }
+    ensures markers { IfOk result (λ ran. MarkersAreBelow markers (history_of ran.0.report)) }
     ensures reached { IfOk result (λ ran. E.sweeps ≡ false
         → IsUnswept (config_of program.now markers) (history_of ran.0.report)) }
     ensures kept { IfOk result (λ ran. AreEntries why ran.1.items (config_of program.now markers)
@@ -68,6 +69,10 @@ pub fn outcome_of<P: Pace + Sync, R: Threads + Wait + Sync>(
         (markers_beside options.marking) ran.0) }
     ensures begun { IfOk result (λ ran. cycles_go_on (markers_beside options.marking) ≡ true
         → CyclesMarkRootsFirst (config_of program.now (markers_beside options.marking)) (history_of ran.0.report)) }
+    ensures stops { IfOk result (λ ran. cycles_go_on (markers_beside options.marking) ≡ false
+        → CyclesHoldGatesFirst (config_of program.now (markers_beside options.marking)) (history_of ran.0.report)) }
+    ensures markers { IfOk result (λ ran.
+        MarkersAreBelow (markers_beside options.marking) (history_of ran.0.report)) }
     ensures reached { IfOk result (λ ran. is_sweep options.marking ≡ false
         → IsUnswept (config_of program.now (markers_beside options.marking)) (history_of ran.0.report)) }
     ensures kept { IfOk result (λ ran. AreEntries options.why ran.1.items

@@ -11,7 +11,12 @@ use Rattle.mk_check.{proofs.GivenAnswers.serves, specs.Feed.has_ended, specs.Law
 use Rattle.mk_check.{specs.Laws.ops_of_caller, specs.Output.answers_among}
 use Rattle.mk_check.{specs.Output.answers_given, specs.Output.ended_calls, specs.Output.text_behind}
 use Rattle.mk_heap.proofs.{BoundedQuarantine.quarantine_is_bounded, UnsweptHistories.unswept_is_precise}
+use Rattle.mk_heap.proofs.Below.Objects.{DeedBounds.bounds_are_over_deeds, DeedFulls.deeds_say_why_full}
+use Rattle.mk_heap.proofs.Below.Objects.Deeds.{deeds_leave_the_storage}
+use Rattle.mk_laws.proofs.Waiting.{nobody_ever_waits_in_a_ring, resting_calls_are_admitted}
+use Rattle.mk_laws.specs.Waiting.{CallsInFlightAreAdmitted}
 use Rattle.mk_run.specs.Headline.{NoAnswerIsLeft, RunsKeepTheirPromises, RunsPrintTheirTexts, RunsStandInOneHistory}
+use Rattle.mk_run.specs.Headline.{cycles_go_on}
 use Rattle.mk_heap.specs.Reports as report
 
 -- A caller has as many answers among the calls as operations.
@@ -84,25 +89,39 @@ no_answer_is_left program markers sweep last_cycle es k h is =
     none_is_left program markers k h.whole is (h.operations k is)
 
 unfoldable pub runs_stand_in_one_history : RunsStandInOneHistory
-runs_stand_in_one_history program markers sweep last_cycle outcome runs begun unswept = record {
+runs_stand_in_one_history program markers sweep last_cycle outcome runs begun stops markers_below unswept = record {
   whole = runs.whole;
   operations = noted_of_run runs;
   ends = ends_of_run runs;
   cycles = λ k is. (runs.follows k is).exact;
   roots = begun;
+  stops = stops;
+  no_others = markers_below;
   host = runs.host;
   over = runs.over;
   unswept = unswept;
 }
 
+-- All callers rest at the end, so nobody ever waits in a ring.
+
+pub whole_calls_are_admitted : (c : Config) (es : List Event) → IsWhole c es → CallsInFlightAreAdmitted c es
+whole_calls_are_admitted c es whole = resting_calls_are_admitted c es (λ k lt.
+    let rests = whole.rests (Caller k) (exists c k lt) in
+    record { call = rests.call; out = rests.out })
+
 pub runs_keep_their_promises : RunsKeepTheirPromises
 runs_keep_their_promises program markers sweep last_cycle es h =
     let c = config_of program markers in
     let kept = histories_keep_all_promises c es h.whole.history in
+    let bounded = quarantine_is_bounded h.whole.history h.cycles h.host in
     record {
       promises = kept;
       releases = λ none. unswept_is_precise c es kept (h.unswept none);
-      bounded = quarantine_is_bounded h.whole.history h.cycles h.host;
+      bounded = bounded;
+      deeds_leave = deeds_leave_the_storage c es;
+      deeds_bound = bounds_are_over_deeds (cycles_go_on markers) c es h.whole.history bounded;
+      fulls = deeds_say_why_full c es h.whole.history;
+      waits = nobody_ever_waits_in_a_ring c es h.whole.history (whole_calls_are_admitted c es h.whole);
     }
 
 pub runs_print_their_texts : RunsPrintTheirTexts

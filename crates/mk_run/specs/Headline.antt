@@ -8,7 +8,12 @@ use Rattle.mk_check.specs.{Output.{answers_given, output}, declared.text.Text.Te
 use Rattle.mk_heap.specs.Reports.{IsWhole}
 use Rattle.mk_heap.specs.{Below.Cycles.Roots.CyclesMarkRootsFirst, Below.Objects.TurnCycles.TurnsOfAreExact}
 use Rattle.mk_heap.specs.{Below.Words.Seats.has_over, Below.Objects.Bounds.QuarantineIsBounded}
-use Rattle.mk_laws.specs.{Precision.CyclesArePrecise, Promises.KeepsAllPromises}
+use Rattle.mk_heap.specs.{Below.Cycles.Begun.CyclesHoldGatesFirst, Reports.MarkersAreBelow}
+use Rattle.mk_heap.specs.Below.Objects.{DeedLaws.{DeedsBoundQuarantine, deeds_of}, Deeds.FullsHaveCauses}
+use Rattle.mk_heap.specs.Below.Objects.Deeds.{storage_after}
+use Rattle.mk_core.specs.History.{left}
+use Rattle.mk_laws.specs.{Precision.CyclesArePrecise, Promises.{AtEachMoment, KeepsAllPromises}}
+use Rattle.mk_laws.specs.Waiting.{NobodyWaitsInARing}
 use Rattle.mk_heap.specs.HostTurns.{HostComesLast}
 use Rattle.mk_run.specs.{declared.outcomes.Outcome.Outcome, Running.IsRunOf}
 use Rattle.mk_heap.specs.Unswept.{IsUnswept}
@@ -42,6 +47,11 @@ pub record StandsInOneHistory (program : List Item) (markers : ℕ) (sweep last_
   -- register of each caller and at each global, and by their end what was found there points into nothing or into a
   -- marked cell.
   pub roots : cycles_go_on markers ≡ true → CyclesMarkRootsFirst (config_of program markers) history
+  -- Without markers nothing is marked beside the scripts: after its `begin` the turn's holder only holds gates until it
+  -- wants the marks to be closed.
+  pub stops : cycles_go_on markers ≡ false → CyclesHoldGatesFirst (config_of program markers) history
+  -- No event is of a marker that the run doesn't have: their numbers are below this one.
+  pub no_others : MarkersAreBelow markers history
   -- No step of a script stands after one of the host. The host begins one cycle where a last one is asked for, and else
   -- none.
   pub host : HostComesLast (config_of program markers).callers last_cycle history
@@ -63,6 +73,19 @@ pub record KeepsRunPromises (program : List Item) (markers : ℕ) (sweep : Bool)
   -- Quarantine is bounded: where nobody holds the turn, what was freed since the last `begin` is at most a quarter of
   -- what is held and was given back since, the last cycle kept the rest, and freed large objects take no memory.
   pub bounded : QuarantineIsBounded (cycles_go_on markers) (config_of program markers) history
+  -- That is said once more without events, over the deeds of the history, which are of seven kinds. They leave its
+  -- allocations; whenever a turn ends, what was freed since the last cycle began is bounded so; and each New that is full
+  -- came after a cycle begun and ended in its own turn, and its object fits nowhere beside what is left.
+  pub deeds_leave :
+      storage_after (deeds_of (config_of program markers) history)
+      ≡ (left (config_of program markers) history).allocations
+  pub deeds_bound :
+      DeedsBoundQuarantine (cycles_go_on markers) (config_of program markers)
+      (deeds_of (config_of program markers) history)
+  pub fulls : FullsHaveCauses (config_of program markers) (deeds_of (config_of program markers) history)
+  -- Nobody waits in a ring, at any moment of it: who is waited for has the turn, or is out of the way after at most seven
+  -- steps of its own, each of which may come whatever others did; and so is whoever the turn's holder waits for.
+  pub waits : AtEachMoment NobodyWaitsInARing (config_of program markers) history
 
 -- Each run that stands in one history keeps them.
 abbrev pub RunsKeepTheirPromises : Type 0
@@ -89,6 +112,9 @@ RunsStandInOneHistory =
     → IsRunOf (cycles_go_on markers) last_cycle program markers outcome
     → (cycles_go_on markers ≡ true
     → CyclesMarkRootsFirst (config_of program markers) (report.history_of outcome.report))
+    → (cycles_go_on markers ≡ false
+    → CyclesHoldGatesFirst (config_of program markers) (report.history_of outcome.report))
+    → MarkersAreBelow markers (report.history_of outcome.report)
     → (sweep ≡ false → IsUnswept (config_of program markers) (report.history_of outcome.report))
     → StandsInOneHistory program markers sweep last_cycle (report.history_of outcome.report)
 

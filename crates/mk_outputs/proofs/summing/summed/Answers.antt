@@ -29,5 +29,7 @@ returns g c =
     ∙ (c.in_ok-lines.ensures ∙ ap summary_of_texts c.deref.ensures.value) in
     let unswept = rw beside at (rw c.in_ok-program.ensures at (c.in_ok-outcome.ensures.reached traced)) in
     let begun = rw beside at (rw c.in_ok-program.ensures at c.in_ok-outcome.ensures.begun) in
-    run_is_summed request.start request.count request.markers c.in_ok-outcome.outcome runs begun unswept
+    let stops = rw beside at (rw c.in_ok-program.ensures at c.in_ok-outcome.ensures.stops) in
+    let below = rw beside at c.in_ok-outcome.ensures.markers in
+    run_is_summed request.start request.count request.markers c.in_ok-outcome.outcome runs begun stops below unswept
     c.into_bytes.result.items is
