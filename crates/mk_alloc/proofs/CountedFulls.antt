@@ -15,7 +15,7 @@ use Rattle.mk_alloc.proofs.{FullLeaves.{leaves_then, made_leaves}, Going.{IsCall
 use Rattle.mk_alloc.proofs.{Going.tidy_kept, SeekingTurns.{new_callers, still_nowhere, unplaced_kept}}
 use Rattle.mk_alloc.proofs.{Stretches.{SomeKinds, does_both, does_once, widened}, CalledTurns.step_adds_none}
 use Rattle.mk_alloc.proofs.{FreedTurns.given_is_decided, GrantParts.{calm_last, room_lacks}, OneCycles.begins_none_by}
-use Rattle.mk_alloc.proofs.{Parts.Part, PlacedTurns.none_freed_yet, SaidCloses.closes_none_by}
+use Rattle.mk_alloc.proofs.{Parts.Part, PlacedTurns.none_freed_yet, OneCycles.closes_none_by}
 use Rattle.mk_alloc.specs.Rooms.{ClosesNone}
 use Rattle.mk_caller.proofs.Below.Laws.Vocabulary.{Tally, Word, is_new_at, ◌-◌, ◌^◌}
 use Rattle.mk_caller.proofs.Below.Laws.InvariantHistories.{first_fit_finds_the_place}

@@ -5,17 +5,17 @@ use Rattle.mk_alloc.proofs.Vocabulary.{IsPlaced, IsTurn, List, Makes, PassState,
 use Rattle.mk_alloc.proofs.Vocabulary.{append-nil, append_assoc, append_cancel_left, are_of, arith, event_of, false}
 use Rattle.mk_alloc.proofs.Vocabulary.{is_close, is_look, is_same_seat, left, not, not-true, refl, same_self, subst, sym}
 use Rattle.mk_alloc.proofs.Vocabulary.{true, true≢false, world_of, [], ⊎_elim, ◌++◌, ◌∙◌, ◌∷◌, ◌≡◌}
-use Rattle.mk_alloc.proofs.{CycleParts.{ends_marking, gives_back, gives_room, part_closing}, Going.look_part}
+use Rattle.mk_alloc.proofs.CycleParts.{ends_marking, gives_back, gives_room, part_closing}
 use Rattle.mk_alloc.proofs.ListParts.{InFirst, InSecond, IsAt, Lacks, none_at, only_at, stands}
 use Rattle.mk_alloc.proofs.Parts.{AreApart, IsHolders, Part, StepBehind, part_lacks, seen_by, seen_then, step_behind}
-use Rattle.mk_alloc.proofs.{PlacedTurns.{place_part, served_by}, Stretches.{SomeKinds, does_both, does_once, widened}}
+use Rattle.mk_alloc.proofs.Stretches.{SomeKinds, does_both, does_once, widened}
 use Rattle.mk_caller.proofs.Below.Words.Doing.{own_in_parts}
 use Rattle.mk_core.specs.Growing.{own_from}
 use Rattle.mk_cycle.specs.{FinishCycle.MakesFinish, Releasing.MakesRelease, Telling.IsToldAtClose}
 use Rattle.mk_alloc.specs.{Closes.{AreSaidAtCloses, EachIsSaid, IsSaid}, Rooms.ClosesNone}
 
 -- A `close` is the holder's.
-closes_held : IsHolders is_close
+pub closes_held : IsHolders is_close
 closes_held x h = grind arith
 
 abbrev no_close : SomeKinds
@@ -26,19 +26,7 @@ abbrev gives_all_back : SomeKinds
 gives_all_back Step.Close = false
 gives_all_back x = gives_room x
 
--- parts of a turn without one
-
-pub closes_none_by : {kinds : SomeKinds} {p q : PassState} → Part kinds p q → AreApart kinds is_close → ClosesNone p q
-closes_none_by x apart = record { more = x.does.more; is = seen_by x.does; none = part_lacks is_close x closes_held apart }
-
-pub placed_closes_none : {p q : PassState} → IsTurn p → IsPlaced p q → IsHistory q.table.config q.seen → ClosesNone p q
-placed_closes_none t placed history = closes_none_by (place_part t (served_by placed) history) (λ x h. grind arith)
-
-pub looks_close_none : {p q : PassState} → IsTurn p → Does is_look p q → IsHistory q.table.config q.seen
-    → ClosesNone p q
-looks_close_none t d history = closes_none_by (look_part t d history) (λ x h. grind arith)
-
--- and kinds of step without one
+-- kinds of step without one
 
 own_kind : (kinds : Step → Bool) (c : Config) (s : Seat) (w : World) (before : List Event) (e : Event)
     (behind : List Event) → are_of kinds (own_from c s w (before ++ e ∷ behind)) ≡ true → is_same_seat s e.seat ≡ true

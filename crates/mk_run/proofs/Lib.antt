@@ -8,4 +8,5 @@ mod WholeRuns
 pub mod Headline
 pub mod ObservedRuns
 pub mod KeptScripts
+pub mod SaidRuns
 pub mod Vocabulary

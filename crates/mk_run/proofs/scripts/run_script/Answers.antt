@@ -4,6 +4,7 @@ use Rattle.mk_run.proofs.ScriptCalls.{asked_stays_admitted, exists_on, follows_n
 use Rattle.mk_run.proofs.ScriptCalls.{runs_on, seat_is}
 use Rattle.mk_run.{proofs.scripts.run_script.Goals.In-Some, specs.Scripts.script_of}
 use Rattle.mk_heap.proofs.{Below.Cycles.Begun.nothing_begun, Below.Words.Sweeping.nothing_sweeps, Dispatched.then_seen}
+use Rattle.mk_heap.proofs.Below.Objects.SaidCloses.{nothing_said}
 use Rattle.mk_run.proofs.scripts.run_script.Goals as goal
 
 -- the script's next operation is admitted
@@ -84,4 +85,4 @@ returns-in_err-take_answer g c =
     }
 
 pub instructions-init : goal.instructions-init
-instructions-init g c = grind (arith, refused_within, nothing_sweeps, nothing_begun)
+instructions-init g c = grind (arith, refused_within, nothing_sweeps, nothing_begun, nothing_said)
