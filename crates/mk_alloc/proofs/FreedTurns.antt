@@ -14,6 +14,7 @@ use Rattle.mk_alloc.proofs.DueParts.{RunIn, at_behind, end_at, ends_before, run_
 use Rattle.mk_alloc.proofs.{Going.{IsCallers, callers_then, same_phase, then_on}, ListParts.{InFirst, InSecond, IsAt}}
 use Rattle.mk_alloc.proofs.ListParts.{Lacks, SomeKind, cycle_in, lacks_append, lacks_at, lacks_first, none_at, only_at}
 use Rattle.mk_alloc.proofs.{ListParts.stands, Parts.{Part, part_lacks, seen_by, seen_then}}
+use Rattle.mk_alloc.proofs.Vocabulary.{World}
 use Rattle.mk_alloc.proofs.{UnsweptTurns.{kinds_keep, kinds_yet, turn_keeps, turn_keeps_yet}, CycleParts.{EndsIn, begins_held}}
 use Rattle.mk_alloc.{proofs.Stretches.{SomeKinds, Within}, specs.TurnCycles.{CycleIsOn}, specs.Underway.KeepsYet}
 use Rattle.mk_caller.proofs.Below.Laws.Vocabulary.{register_at}

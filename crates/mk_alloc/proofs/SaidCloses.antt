@@ -8,7 +8,7 @@ use Rattle.mk_alloc.proofs.Vocabulary.{true, true≢false, world_of, [], ⊎_eli
 use Rattle.mk_alloc.proofs.CycleParts.{ends_marking, gives_back, gives_room, part_closing}
 use Rattle.mk_alloc.proofs.ListParts.{InFirst, InSecond, IsAt, Lacks, none_at, only_at, stands}
 use Rattle.mk_alloc.proofs.Parts.{AreApart, IsHolders, Part, StepBehind, part_lacks, seen_by, seen_then, step_behind}
-use Rattle.mk_alloc.proofs.Stretches.{SomeKinds, does_both, does_once, widened}
+use Rattle.mk_alloc.proofs.Stretches.{AreOfTurn, SomeKinds, does_both, does_once, widened}
 use Rattle.mk_caller.proofs.Below.Words.Doing.{own_in_parts}
 use Rattle.mk_core.specs.Growing.{own_from}
 use Rattle.mk_cycle.specs.{FinishCycle.MakesFinish, Releasing.MakesRelease, Telling.IsToldAtClose}
@@ -25,6 +25,15 @@ no_close x = not (is_close x)
 abbrev gives_all_back : SomeKinds
 gives_all_back Step.Close = false
 gives_all_back x = gives_room x
+
+gives_in_turn : AreOfTurn gives_all_back
+gives_in_turn x h = grind arith
+
+gives_done : {p q : PassState} (law : FinishesCycle p q) → Does gives_all_back law.makes.releases.closed q
+gives_done law =
+    let m = law.makes in
+    does_both (does_once m.releases.release refl) (does_both (widened (λ y h. grind arith) (gives_back law))
+    (does_both (does_once m.end refl) (widened (λ y h. grind arith) m.behind)))
 
 -- kinds of step without one
 
@@ -116,13 +125,7 @@ module _ {V : Type 0} (tells : V → Config → World → Type 0) where
     x = step_behind (part_closing law t) r.close refl
 
     abbrev after : Part gives_all_back r.closed q
-    after = record {
-      turn = x.turn;
-      stays = λ y h. grind arith;
-      does = does_both (does_once r.release refl) (does_both (widened (λ y h. grind arith) (gives_back law))
-          (does_both (does_once m.end refl) (widened (λ y h. grind arith) m.behind)));
-      history = history;
-    }
+    after = record { turn = x.turn; stays = gives_in_turn; does = gives_done law; history = history }
 
     first : Lacks is_close x.before
     first = x.lacks is_close closes_held (λ y h. grind arith)

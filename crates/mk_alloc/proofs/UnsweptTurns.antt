@@ -98,7 +98,7 @@ module _ {V : Type 0} {sweeps : Bool} {begins : Config → Seat → List Event �
   finish_keeps {engine} {p} {q} t law history reached told = record {
     reached = reached;
     begun = finish_begins_none begins p q t.own law;
-    said = finish_says tells {engine} t law history told;
+    said = finish_says tells {engine = engine} t law history told;
   }
 
   -- one part after another
