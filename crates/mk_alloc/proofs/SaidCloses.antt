@@ -110,7 +110,7 @@ module _ {V : Type 0} (tells : V → Config → World → Type 0) where
       (does_both (does_once m.begin refl) (widened (λ x h. grind arith) m.behind)))
 
   -- A cycle that is finished has one close, and there it is said.
-  module _ {engine : V} {p q : PassState} (t : IsTurn p) (law : FinishesCycle p q)
+  module _ (engine : V) {p q : PassState} (t : IsTurn p) (law : FinishesCycle p q)
       (history : IsHistory q.table.config q.seen) (told : IsToldAtClose (tells engine) p q) where
     abbrev m : MakesFinish p q
     m = law.makes

@@ -92,13 +92,13 @@ module _ {V : Type 0} {sweeps : Bool} {begins : Config → Seat → List Event �
     said = unclosed_says_none tells unclosed;
   }
 
-  pub finish_keeps : {engine : V} {p q : PassState} → IsTurn p → FinishesCycle p q
+  pub finish_keeps : (engine : V) {p q : PassState} → IsTurn p → FinishesCycle p q
       → IsHistory q.table.config q.seen → (sweeps ≡ false → SweepsNothing p q) → IsToldAtClose (tells engine) p q
       → PassKeeps sweeps begins tells p q
-  finish_keeps {engine} {p} {q} t law history reached told = record {
+  finish_keeps engine {p} {q} t law history reached told = record {
     reached = reached;
     begun = finish_begins_none begins p q t.own law;
-    said = finish_says tells {engine = engine} t law history told;
+    said = finish_says tells engine t law history told;
   }
 
   -- one part after another

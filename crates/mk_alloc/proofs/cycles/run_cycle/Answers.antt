@@ -26,7 +26,7 @@ returns-else-keeps_on-clause-keeps g c =
     let own = c.begin_cycle.new.turn.in_order.own in
     let same = c.begin_cycle.ensures.law.pass in
     let both = then_leaves same (begun g (goal.at.returns-else-keeps_on-clause-keeps g c).After-begin_cycle)
-    (finish_keeps c.begin_cycle.new.turn.in_order finished.law c.finish_cycle-turn.result.0.in_order.history
+    (finish_keeps c.finish_cycle-turn.new.engine c.begin_cycle.new.turn.in_order finished.law c.finish_cycle-turn.result.0.in_order.history
     finished.reached finished.told) (finish_holds own finished.law) in
     yet_then (older_same c.requires.may_run.quiet.phase older.ends) older.keeps
     (keeps_yet (finished.law.pass ∙ ap (λ (x : PassState). record x { seen = c.finish_cycle-turn.result.0.pass.seen })

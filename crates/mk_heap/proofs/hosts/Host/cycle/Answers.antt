@@ -96,7 +96,7 @@ returns-clause-said g c =
     subst (λ (h : HostState). EachIsSaid tells h.pass q) view (idle_then_says tells
     c.take_idle_turn-turn.ensures.takes c.take_idle_turn-turn.ensures.said (said_then tells
     c.take_idle_turn-turn.result.pass b q begun.law.pass (begin_says_none tells begun.law) (said_then tells b r q
-    ended.law.pass (finish_says tells c.begin_cycle.new.turn.in_order ended.law
+    ended.law.pass (finish_says tells c.finish_cycle-turn.new.engine c.begin_cycle.new.turn.in_order ended.law
     c.finish_cycle-turn.result.0.in_order.history ended.told)
     (step_says_none tells c.give-back.ensures.acts.makes refl))))
 
