@@ -137,8 +137,7 @@ module _ (start count markers : ℕ) (outcome : Outcome)
       → IsSummaryOfRun program markers es bytes
   run_is_summed begun stops below unswept bytes is =
       let stands =
-      runs_stand_in_one_history program markers false false outcome runs begun stops below (λ none. unswept)
-      (λ sweeps. cc) in
+      runs_stand_in_one_history program markers false false outcome runs begun stops below (λ none. unswept) in
       record {
         stands = stands;
         promises = runs_keep_their_promises program markers false false es stands;

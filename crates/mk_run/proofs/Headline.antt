@@ -13,7 +13,7 @@ use Rattle.mk_check.{specs.Output.answers_given, specs.Output.ended_calls, specs
 use Rattle.mk_heap.proofs.{BoundedQuarantine.quarantine_is_bounded, UnsweptHistories.unswept_is_precise}
 use Rattle.mk_heap.proofs.Below.Objects.{DeedBounds.bounds_are_over_deeds, DeedFulls.deeds_say_why_full}
 use Rattle.mk_heap.proofs.Below.Objects.Deeds.{deeds_leave_the_storage}
-use Rattle.mk_laws.proofs.Waiting.{nobody_ever_waits_in_a_ring, resting_calls_are_admitted}
+use Rattle.mk_laws.proofs.Waiting.{resting_calls_are_admitted}
 use Rattle.mk_laws.specs.Waiting.{CallsInFlightAreAdmitted}
 use Rattle.mk_run.specs.Headline.{NoAnswerIsLeft, RunsKeepTheirPromises, RunsPrintTheirTexts, RunsStandInOneHistory}
 use Rattle.mk_run.specs.Headline.{cycles_go_on}
@@ -89,14 +89,14 @@ no_answer_is_left program markers sweep last_cycle es k h is =
     none_is_left program markers k h.whole is (h.operations k is)
 
 unfoldable pub runs_stand_in_one_history : RunsStandInOneHistory
-runs_stand_in_one_history program markers sweep last_cycle outcome runs begun stops markers_below unswept swept = record {
+runs_stand_in_one_history program markers sweep last_cycle outcome runs begun stops markers_below unswept = record {
   whole = runs.whole;
   operations = noted_of_run runs;
   ends = ends_of_run runs;
   cycles = λ k is. (runs.follows k is).exact;
   roots = begun;
   stops = stops;
-  no_others = markers_below;
+  few_markers = markers_below;
   host = runs.host;
   over = runs.over;
   unswept = unswept;
@@ -122,7 +122,7 @@ runs_keep_their_promises program markers sweep last_cycle es h =
       deeds_leave = deeds_leave_the_storage c es;
       deeds_bound = bounds_are_over_deeds (cycles_go_on markers) c es h.whole.history bounded;
       fulls = deeds_say_why_full c es h.whole.history;
-      waits = nobody_ever_waits_in_a_ring c es h.whole.history (whole_calls_are_admitted c es h.whole);
+      no_ring = kept.waits (whole_calls_are_admitted c es h.whole);
     }
 
 pub runs_print_their_texts : RunsPrintTheirTexts

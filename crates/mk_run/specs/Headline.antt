@@ -51,7 +51,7 @@ pub record StandsInOneHistory (program : List Item) (markers : ℕ) (sweep last_
   -- wants the marks to be closed.
   pub stops : cycles_go_on markers ≡ false → CyclesHoldGatesFirst (config_of program markers) history
   -- No event is of a marker that the run doesn't have: their numbers are below this one.
-  pub no_others : MarkersAreBelow markers history
+  pub few_markers : MarkersAreBelow markers history
   -- No step of a script stands after one of the host. The host begins one cycle where a last one is asked for, and else
   -- none.
   pub host : HostComesLast (config_of program markers).callers last_cycle history
@@ -77,7 +77,7 @@ pub record KeepsRunPromises (program : List Item) (markers : ℕ) (sweep : Bool)
   -- what is held and was given back since, the last cycle kept the rest, and freed large objects take no memory.
   pub bounded : QuarantineIsBounded (cycles_go_on markers) (config_of program markers) history
   -- That is said once more without events, over the deeds of the history, which are of seven kinds. They leave its
-  -- allocations; whenever a turn ends, what was freed since the last cycle began is bounded so; and each New that is full
+  -- allocations. Whenever a turn ends, what was freed since the last cycle began is bounded so. Each New that is full
   -- came after a cycle begun and ended in its own turn, and its object fits nowhere beside what is left.
   pub deeds_leave :
       storage_after (deeds_of (config_of program markers) history)
@@ -86,9 +86,9 @@ pub record KeepsRunPromises (program : List Item) (markers : ℕ) (sweep : Bool)
       DeedsBoundQuarantine (cycles_go_on markers) (config_of program markers)
       (deeds_of (config_of program markers) history)
   pub fulls : FullsHaveCauses (config_of program markers) (deeds_of (config_of program markers) history)
-  -- Nobody waits in a ring, at any moment of it: who is waited for has the turn, or is out of the way after at most seven
-  -- steps of its own, each of which may come whatever others did; and so is whoever the turn's holder waits for.
-  pub waits : AtEachMoment NobodyWaitsInARing (config_of program markers) history
+  -- Nobody ever waits in a ring: who is waited for has the turn, or is out of the way after at most seven steps of its
+  -- own, each of which may come whatever others did; and so is whoever the turn's holder waits for.
+  pub no_ring : AtEachMoment NobodyWaitsInARing (config_of program markers) history
 
 -- Each run that stands in one history keeps them.
 abbrev pub RunsKeepTheirPromises : Type 0
