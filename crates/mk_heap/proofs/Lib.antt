@@ -6,6 +6,7 @@ pub mod ClientSteps
 pub mod Overs
 pub mod HomeCallers
 pub mod BegunHosts
+pub mod SaidHosts
 pub mod Dispatched
 pub mod HostTurns
 pub mod HostTurnParts

@@ -48,6 +48,8 @@ pub run_is_output : (options : Options) (program : List Item) (outcome : Outcome
     → MarkersAreBelow (markers_beside options.marking) (report.history_of outcome.report)
     → (is_sweep options.marking ≡ false
     → IsUnswept (config_of program (markers_beside options.marking)) (report.history_of outcome.report))
+    → (is_sweep options.marking ≡ true
+    → CyclesMarkTheSwept (config_of program (markers_beside options.marking)) (report.history_of outcome.report))
     → AreEntries options.why entries (config_of program (markers_beside options.marking))
     (report.history_of outcome.report)
     → bytes ≡ printed outcome ++ ((if options.report then lines_of_report outcome.report else [])

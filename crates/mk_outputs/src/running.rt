@@ -45,6 +45,8 @@ fn run_by<E: Engine + Send, P: Pace + Sync, R: Threads + Wait + Sync>(
     ensures markers { IfOk result (λ ran. MarkersAreBelow markers (history_of ran.0.report)) }
     ensures reached { IfOk result (λ ran. E.sweeps ≡ false
         → IsUnswept (config_of program.now markers) (history_of ran.0.report)) }
+    ensures said { IfOk result (λ ran.
+        CyclesAreSaid E.tells (config_of program.now markers) (history_of ran.0.report)) }
     ensures kept { IfOk result (λ ran. AreEntries why ran.1.items (config_of program.now markers)
         (history_of ran.0.report)) }
 {
@@ -75,6 +77,8 @@ pub fn outcome_of<P: Pace + Sync, R: Threads + Wait + Sync>(
         MarkersAreBelow (markers_beside options.marking) (history_of ran.0.report)) }
     ensures reached { IfOk result (λ ran. is_sweep options.marking ≡ false
         → IsUnswept (config_of program.now (markers_beside options.marking)) (history_of ran.0.report)) }
+    ensures swept { IfOk result (λ ran. is_sweep options.marking ≡ true
+        → CyclesMarkTheSwept (config_of program.now (markers_beside options.marking)) (history_of ran.0.report)) }
     ensures kept { IfOk result (λ ran. AreEntries options.why ran.1.items
         (config_of program.now (markers_beside options.marking)) (history_of ran.0.report)) }
 {

@@ -100,6 +100,7 @@ runs_stand_in_one_history program markers sweep last_cycle outcome runs begun st
   host = runs.host;
   over = runs.over;
   unswept = unswept;
+  swept = swept;
 }
 
 -- All callers rest at the end, so nobody ever waits in a ring.

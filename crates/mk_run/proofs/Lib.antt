@@ -8,5 +8,6 @@ mod WholeRuns
 pub mod Headline
 pub mod ObservedRuns
 pub mod KeptScripts
+pub mod SaidRuns
 pub mod Vocabulary
 pub mod AtOnceOrLater

@@ -37,7 +37,7 @@ fn run_scripts<E: Engine + Send, F: Engine + Send, P: Pace + Sync, R: Threads + 
         result.1 }
     ensures turns { run.now.with_cycle ≡ true
         → TakesLastTurns (F.tells result.1.engine) run.now.heap.now result.0.pass }
-    ensures keep { RunKeeps E.sweeps E.begins F.sweeps F.begins run.now.program.now run.now.heap.now.config
+    ensures keep { RunKeeps E.sweeps E.begins E.tells F.sweeps F.begins F.tells run.now.program.now run.now.heap.now.config
         result.0.pass.seen }
 {
     let ReadyRun {
@@ -64,7 +64,7 @@ pub(crate) fn run_beside<
     ensures joined { AllAreJoined result.0 }
     ensures turns { run.now.with_cycle ≡ true
         → TakesLastTurns (F.tells result.1.engine) run.now.heap.now result.0.pass }
-    ensures keep { RunKeeps E.sweeps E.begins F.sweeps F.begins run.now.program.now run.now.heap.now.config
+    ensures keep { RunKeeps E.sweeps E.begins E.tells F.sweeps F.begins F.tells run.now.program.now run.now.heap.now.config
         result.0.pass.seen }
 {
     let heap = run.heap;
@@ -84,7 +84,7 @@ pub(crate) fn run_beside<
                 run.entry.now.markers result.0 result.1 }
             ensures turns { run.entry.now.with_cycle ≡ true
                 → TakesLastTurns (F.tells result.1.engine) run.entry.now.heap.now result.0.pass }
-            ensures keep { RunKeeps E.sweeps E.begins F.sweeps F.begins run.entry.now.program.now
+            ensures keep { RunKeeps E.sweeps E.begins E.tells F.sweeps F.begins F.tells run.entry.now.program.now
                 run.entry.now.heap.now.config result.0.pass.seen }
         { run_scripts(rt, run, pace, host, ready) },
     )

@@ -9,6 +9,7 @@ pub mod EvaluatedSwept
 pub mod Kept
 pub mod ScannedCells
 pub mod SweepSteps
+pub mod StillMarked
 pub mod SweptMarks
 pub mod Unswept
 pub mod UnsweptReleased

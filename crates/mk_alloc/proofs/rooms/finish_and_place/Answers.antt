@@ -30,5 +30,7 @@ returns-clause-holds g c =
 pub returns-clause-keeps : goal.returns-clause-keeps
 returns-clause-keeps g c =
     let finished = c.finish_cycle-turn.ensures in
-    keeps_then finished.law.pass (finish_keeps c.args.turn.in_order.own finished.law finished.reached)
-    (unbegun_keeps c.try_place-placed.ensures.begins c.try_place-placed.ensures.reached)
+    let placed = c.try_place-placed.ensures in
+    keeps_then finished.law.pass (finish_keeps c.finish_cycle-turn.new.engine c.args.turn.in_order finished.law
+    c.finish_cycle-turn.result.0.in_order.history finished.reached finished.told)
+    (unbegun_keeps placed.begins placed.closes placed.reached)

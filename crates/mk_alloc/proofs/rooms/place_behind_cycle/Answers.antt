@@ -1,6 +1,6 @@
 use Rattle.mk_alloc.proofs.{Vocabulary.{Done, Misfits, ap, cycle_ended, ◌∙◌}, OneCycles.begin_then_ends}
 use Rattle.mk_alloc.proofs.{SeekingTurns.{idly_then, misfits_begun, still_needs, tried_then}, UnsweptTurns.then_leaves}
-use Rattle.mk_alloc.proofs.rooms.place_behind_cycle.Goals.{After-begin_cycle}
+use Rattle.mk_alloc.proofs.{SaidCloses.begin_says_none, rooms.place_behind_cycle.Goals.After-begin_cycle}
 use Rattle.mk_alloc.proofs.rooms.place_behind_cycle.Goals as goal
 
 -- the cycle that begins
@@ -31,5 +31,9 @@ returns-clause-one g c =
 pub returns-clause-keeps : goal.returns-clause-keeps
 returns-clause-keeps g c =
     let begins = c.begin_cycle.ensures in
-    then_leaves begins.law.pass (record { reached = begins.reached; begun = begins.begun })
+    then_leaves begins.law.pass (record {
+      reached = begins.reached;
+      begun = begins.begun;
+      said = begin_says_none g.E.Engine.tells begins.law;
+    })
     c.finish_and_place.ensures.keeps c.finish_and_place.ensures.holds

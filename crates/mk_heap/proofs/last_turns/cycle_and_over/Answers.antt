@@ -20,8 +20,12 @@ returns g c =
         is = c.over.ensures.host ∙ ap (λ (x : HostState). with_seen x over.pass.seen) c.cycle.ensures.host;
         still = still_behind_both c.args.heap.now h cycled over at.seat c.cycle.ensures.host told c.over.ensures.over;
         keeps = keeps_then (ap (λ (x : HostState). x.pass) c.cycle.ensures.host)
-            (record { reached = c.cycle.ensures.reached; begun = c.cycle.ensures.begun })
-            (record { reached = c.over.ensures.reached; begun = over_begun _ _ _ c.over.ensures.over });
+            (record { reached = c.cycle.ensures.reached; begun = c.cycle.ensures.begun; said = c.cycle.ensures.said })
+            (record {
+              reached = c.over.ensures.reached;
+              begun = over_begun _ _ _ c.over.ensures.over;
+              said = c.over.ensures.said;
+            });
       };
       turns =
           rw (c.over.ensures.engine c.cycle.ensures.idle) (last_turns c.args.heap.now h cycled over at.seat

@@ -16,6 +16,7 @@ returns-else-with_cycle-clause-host g c =
       keeps = record {
         reached = c.over.ensures.reached;
         begun = over_begun g.E.Engine.begins p q c.over.ensures.over;
+        said = c.over.ensures.said;
       };
     }
 
