@@ -4,6 +4,7 @@ ghost use Rattle.mk_check.specs.Declarations.{config_of};
 ghost use Rattle.mk_run.specs.Below.Cycles.{Begun.{CyclesAreBegun, CyclesHoldGatesFirst}, Roots.CyclesMarkRootsFirst};
 ghost use Rattle.mk_run.specs.{Below.Heaps.Reports.{MarkersAreBelow, history_of}, Headline.cycles_go_on};
 ghost use Rattle.mk_run.specs.{Running.IsRunOf, Below.Heaps.Unswept.IsUnswept};
+ghost use Rattle.mk_run.specs.Said.{CyclesAreSaid, CyclesMarkTheSwept};
 ghost use Rattle.mk_outputs.specs.declared.commands.TextCommand.TheVariants as TextCommand;
 ghost use Rattle.mk_outputs.specs.Commands.{MarkersAreWithin, is_sweep, markers_beside};
 ghost use Rattle.mk_outputs.specs.{Outputs.IsOutputOf, ReportText.lines_of_report};
