@@ -279,8 +279,8 @@ module _ {flag due : Bool} {r : ℕ} {p taken retired done : PassState} (f : Fre
     given = record { took = f.took; fresh = f.begins.fresh; on = freed; gives = gives; rests = rests }
 
     pub freed_keeps : {V : Type 0} {sweeps : Bool} {begins : Config → Seat → List Event → List Event → Type 0}
-        {tells : V → Config → World → Type 0}
-        → KeepsYet sweeps begins tells retired done → PassKeeps sweeps begins tells p q
+        {on : Bool} {tells : V → Config → World → Type 0} {closes : V → PassState → PassState → Type 0}
+        → KeepsYet on sweeps begins tells closes retired done → PassKeeps on sweeps begins tells closes p q
     freed_keeps run = turn_keeps_yet given (kinds_yet (λ x h. grind arith) f.retires.decides.does run)
 
     told : IsDueIn (turn_of given) → due ≡ true
@@ -321,8 +321,8 @@ module _ {r : ℕ} {p taken done : PassState} (f : Refuses r p taken done) where
     given_double = record { took = f.took; fresh = f.begins.fresh; on = refused; gives = gives; rests = rests }
 
     pub refused_keeps : {V : Type 0} {sweeps : Bool} {begins : Config → Seat → List Event → List Event → Type 0}
-        {tells : V → Config → World → Type 0}
-        → PassKeeps sweeps begins tells p q
+        {on : Bool} {tells : V → Config → World → Type 0} {closes : V → PassState → PassState → Type 0}
+        → PassKeeps on sweeps begins tells closes p q
     refused_keeps = turn_keeps given_double (kinds_keep (λ x h. grind arith) f.finds.decides.does)
 
     loading : Part is_loading taken done

@@ -17,6 +17,7 @@ pub mod PlacedTurns
 pub mod GrantParts
 pub mod OneCycles
 pub mod SaidCloses
+pub mod FinishedCycles
 pub mod SeekingTurns
 pub mod CountedFulls
 pub mod NewTurns

@@ -2,7 +2,7 @@
 ghost use Rattle.std.specs.Prelude.{◌≡◌, None, false};
 ghost use Rattle.mk_alloc.specs.{Below.Words.Seats.{Has, HasCallers, has_over}, Below.Words.Steps.IsEnabledTo};
 ghost use Rattle.mk_alloc.specs.{Below.Cycles.Begun.EachIsBegun, Below.Cycles.EngineLaw.IsAtPhase};
-ghost use Rattle.mk_alloc.specs.{Below.Words.Sweeping.SweepsNothing, Closes.EachIsSaid};
+ghost use Rattle.mk_alloc.specs.{Below.Words.Sweeping.SweepsNothing, Closes.{EachIsFinished, EachIsSaid}};
 ghost use Rattle.mk_heap.specs.Ending.{CallersAreJoined, IsIdleTurn, MakesToldCycle, SaysOver, TakesIdleTurn};
 ghost use Rattle.mk_heap.specs.Hosts.{with_seen};
 ghost use Rattle.mk_core.specs.declared.events.Seat.TheVariants as seat;
@@ -59,6 +59,7 @@ impl Host {
         ensures reached { E.sweeps ≡ false → SweepsNothing self.old.pass self.new.pass }
         ensures begun { EachIsBegun E.begins self.old.pass self.new.pass }
         ensures said { EachIsSaid E.tells self.old.pass self.new.pass }
+        ensures finished { EachIsFinished E.closes self.old.pass self.new.pass }
     {
         let words = &heap.words;
         let home = take_home(&mut self.pass);

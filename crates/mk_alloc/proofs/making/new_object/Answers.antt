@@ -71,7 +71,8 @@ later g c = record {
 }
 
 later_keeps : (g : _) (c : After-give-2 g)
-    → PassKeeps g.E.Engine.sweeps g.E.Engine.begins g.E.Engine.tells c.args.caller.now.pass c.give-2.result
+    → PassKeeps g.E.Engine.on g.E.Engine.sweeps g.E.Engine.begins g.E.Engine.tells g.E.Engine.closes
+    c.args.caller.now.pass c.give-2.result
 later_keeps g c =
     let tried = c.try_place.ensures in
     turn_keeps (given (later g c)) (part_then (tried.tried.misfits c.if-try_place.false).seeks.on.does

@@ -1,5 +1,6 @@
 use Rattle.mk_alloc.proofs.SeekingTurns.{misfits_finished, room_finished, seeks_finished, tried_then}
 use Rattle.mk_alloc.proofs.{UnsweptTurns.{finish_keeps, keeps_then, unbegun_keeps}, OneCycles.finish_then_none}
+use Rattle.mk_alloc.proofs.FinishedCycles.{closed_longer}
 use Rattle.mk_cycle.proofs.HeldFirst.{finish_holds, first_then}
 use Rattle.mk_alloc.proofs.rooms.finish_and_place.Goals as goal
 
@@ -26,6 +27,11 @@ pub returns-clause-holds : goal.returns-clause-holds
 returns-clause-holds g c =
     let looked = c.try_place-placed.ensures.begins in
     first_then (finish_holds c.args.turn.in_order.own c.finish_cycle-turn.ensures.law) looked.more looked.is
+
+pub returns-clause-closed : goal.returns-clause-closed
+returns-clause-closed g c =
+    let placed = c.try_place-placed.ensures.begins in
+    closed_longer c.finish_cycle-turn.ensures.closed placed.more placed.is
 
 pub returns-clause-keeps : goal.returns-clause-keeps
 returns-clause-keeps g c =
