@@ -8,6 +8,7 @@ pub mod EachOnce
 pub mod EvaluatedSwept
 pub mod Kept
 pub mod ScannedCells
+pub mod SweepParts
 pub mod SweepSteps
 pub mod StillMarked
 pub mod SweptMarks

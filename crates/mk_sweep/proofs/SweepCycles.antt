@@ -4,6 +4,7 @@ use Rattle.mk_sweep.proofs.Vocabulary.{IsSwept, PassState, PlacedAllocation, Sea
 use Rattle.mk_sweep.proofs.Vocabulary.{cell_of_allocation, is_marked, is_tracing, left, others_are_held, phase_of}
 use Rattle.mk_sweep.proofs.Vocabulary.{Untouched, Words, placed_at}
 use Rattle.mk_sweep.proofs.BesideTurn.{IsOf, OthersAreNoMarkers, PartOfTurn, holds_still, leave_first}
+use Rattle.mk_sweep.proofs.SweepParts.{NoneOfMarkers, SweepParts, in_five, own_are_so}
 use Rattle.mk_sweep.proofs.BesideTurn.{leave_in_parts, left_unmarked_by, none_marks, none_of_kind, others_mark_none}
 use Rattle.mk_sweep.proofs.{BesideTurn.still_holds, CycleParts.{close_apart, close_of_holder, holding_leaves_marks}}
 use Rattle.mk_sweep.proofs.CycleParts.{holding_leaves_turn, looking_leaves_marks, looking_leaves_turn, no_kind}
@@ -22,53 +23,10 @@ use Rattle.mk_cycle.proofs.{Below.Laws.LastEvents.{ComesLast, comes_last}, Below
 use Rattle.mk_cycle.proofs.{Below.Laws.OrderlyLists.actor_of, Below.Laws.OthersMoves.WorldBehind}
 use Rattle.mk_cycle.proofs.{Below.Laws.Precise.IsPrecise, Below.Laws.ProtocolFrames.others_leave}
 use Rattle.mk_cycle.proofs.{Below.Laws.Stretches.{None_of, none_joined}, Parts.{kinds_keep, others_keep}}
-use Rattle.mk_cycle.proofs.{Below.Words.Seats.others_own, Stilled.but_phase}
+use Rattle.mk_cycle.proofs.Below.Words.Seats.{others_own}
 use Rattle.mk_cycle.specs.{Below.Laws.Releases.allocation_behind, Tracing.OwnStepsKeep}
-use Rattle.mk_cycle.specs.Below.Words.Doing.{Does}
 use Rattle.mk_core.specs.Cycles.{IsInSnapshot}
-use Rattle.mk_cycle.{proofs.GivingAll.{held_phase}, specs.{Holding.HoldsGates, Kinds.holds_gates}}
-
--- five parts of a list, one after the other
-in_five : (a b d e f held swept looked : List Event) → held ≡ a ++ b → swept ≡ held ++ d → looked ≡ swept ++ e
-    → looked ++ f ≡ a ++ (b ++ (d ++ (e ++ f)))
-in_five a b d e f held swept looked first second third =
-    ap (λ (xs : List Event). xs ++ f) third ∙ append_assoc swept e f
-    ∙ ap (λ (xs : List Event). xs ++ (e ++ f)) second ∙ append_assoc held d (e ++ f)
-    ∙ ap (λ (xs : List Event). xs ++ (d ++ (e ++ f))) first ∙ append_assoc a b (d ++ (e ++ f))
-
--- All words but the phase are left, and the allocations.
-pub record LeavesWords (w v : World) : Type 0 where
-  pub words : but_phase v.now.words ≡ but_phase w.now.words
-  pub allocations : v.allocations ≡ w.allocations
-
--- What was seen up to and after each part of the cycle, by a pass with this beginning. After the sweep it may have looked
--- at words, while all was still.
-pub record SweepParts (p : PassState) (looks : ℕ) (es : List Event) : Type 0 where
-  pub front : List Event
-  pub held : List Event
-  pub swept : List Event
-  pub looked : List Event
-  pub waited : List Event
-  pub stopped : List Event
-  pub rest : List Event
-  pub holds : HoldsGates (record p { seen = front ++ record { seat = p.seat; step = Step.Begin } ∷ [] })
-      (record p { seen = held })
-  pub sweeps : Sweeps (record p { seen = held }) (record p { seen = swept }) looks
-  pub looks_on : Does only_looks (record p { seen = swept }) (record p { seen = looked })
-  pub still : LeavesWords (left p.table.config swept) (left p.table.config looked)
-  pub may_close : IsEnabledTo (record p { seen = looked }) Step.Close
-  pub while_waiting : AreOfOthers p.seats waited
-  pub while_stopped : AreOfOthers p.seats stopped
-  pub is : es ≡ looked ++ (waited ++ record { seat = p.seat; step = Step.Close } ∷ (stopped
-      ++ record { seat = p.seat; step = Step.Release } ∷ rest))
-
--- In its parts no marker steps.
-pub record NoneOfMarkers {p : PassState} {looks : ℕ} {es : List Event} (k : SweepParts p looks es) : Type 0 where
-  pub holding : OthersAreNoMarkers p.seat k.holds.does.more
-  pub sweeping : OthersAreNoMarkers p.seat k.sweeps.traces.does.more
-  pub looking : OthersAreNoMarkers p.seat k.looks_on.more
-  pub waiting : OthersAreNoMarkers p.seat k.waited
-  pub stopping : OthersAreNoMarkers p.seat k.stopped
+use Rattle.mk_cycle.specs.Kinds.{holds_gates}
 
 module _ {p : PassState} {looks : ℕ} {es : List Event} (has : Has p.seats p.seat)
     (history : IsHistory p.table.config es) (k : SweepParts p looks es) (none : NoneOfMarkers k) where
@@ -93,13 +51,10 @@ module _ {p : PassState} {looks : ℕ} {es : List Event} (has : Has p.seats p.se
 
   -- while the gates were held, and while it swept
   abbrev holding : List Event
-  holding = k.holds.does.more
+  holding = k.holding
 
   abbrev sweeping : List Event
   sweeping = k.sweeps.traces.does.more
-
-  held_is : k.held ≡ start ++ holding
-  held_is = ap (λ (x : PassState). x.seen) k.holds.does.is
 
   swept_is : k.swept ≡ k.held ++ sweeping
   swept_is = ap (λ (x : PassState). x.seen) k.sweeps.traces.does.is
@@ -146,7 +101,7 @@ module _ {p : PassState} {looks : ℕ} {es : List Event} (has : Has p.seats p.se
   held_history = earlier_part_is_history c k.held sweeping sweeping_history
 
   holding_history : IsHistory c (start ++ holding)
-  holding_history = subst (IsHistory c) held_is held_history
+  holding_history = subst (IsHistory c) k.held_is held_history
 
   start_history : IsHistory c start
   start_history = earlier_part_is_history c start holding holding_history
@@ -189,10 +144,10 @@ module _ {p : PassState} {looks : ℕ} {es : List Event} (has : Has p.seats p.se
   holding_part : PartOfTurn holds_gates c s (left c start) holding
   holding_part =
       part holds_gates start holding holding_history start_holds none.holding
-      (kinds_keep holds_gates (IsOf holds_gates) c s (left c start) holding (λ m x is. is) k.holds.does.of_kinds)
+      (own_are_so holds_gates c s (left c start) holding k.holds)
 
   held_world : left c k.held ≡ left_from c (left c start) holding
-  held_world = ap (left c) held_is ∙ left_in_parts c start holding
+  held_world = ap (left c) k.held_is ∙ left_in_parts c start holding
 
   held_holds : Holds c (left c k.held).now s
   held_holds = grind (arith, held_world, still_holds, holding_leaves_turn, holding_part, Holds)
@@ -280,7 +235,7 @@ module _ {p : PassState} {looks : ℕ} {es : List Event} (has : Has p.seats p.se
 
   closing_is : closing ≡ start ++ marking
   closing_is =
-      in_five start holding sweeping looking k.waited k.held k.swept k.looked held_is swept_is looked_is
+      in_five start holding sweeping looking k.waited k.held k.swept k.looked k.held_is swept_is looked_is
 
   pub begin_is : es ≡ k.front ++ begin ∷ (marking ++ close ∷ (k.stopped ++ release ∷ k.rest))
   begin_is =
@@ -422,9 +377,7 @@ module _ {p : PassState} {looks : ℕ} {es : List Event} (has : Has p.seats p.se
         → (allocation_behind c cycle i).released ≡ true
     is_released_by_it out =
         unswept_is_released (record p { seen = k.held }) (record p { seen = k.swept }) looks k.sweeps es cycle
-        since_sweep i history held_history release_is (held_phase (record p { seen = start })
-        (record p { seen = k.held }) 1 k.holds (ap (λ (w : World). phase_of w.now.words) last_begin.leaves
-        ∙ phase_moves c first.now s Step.Begin last_begin.meets)) snapshot unreleased_there
+        since_sweep i history held_history release_is k.phase snapshot unreleased_there
         (λ x. out (subst (λ (xs : List Event). IsSwept c (left c xs) i) closing_is (swept_before (swept_there x))))
         (subst (λ (x : Cell). is_marked (left c k.held).now.words x ≡ false)
         (sym same_cell) unmarked_there) (subst (λ (x : Cell). OthersLeaveUnmarked c s x (left c k.held) sweeping)

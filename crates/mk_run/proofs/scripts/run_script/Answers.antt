@@ -30,7 +30,8 @@ answer_at_once-requires-clause-admitted g c =
 
 -- the operation is answered, at once or later
 joined : (g : _) (c : Joined-answer_at_once g)
-    → IsAnsweredAs g.E.Engine.on g.E.Engine.sweeps g.E.Engine.begins g.E.Engine.tells c.instructions.caller.pass
+    → IsAnsweredAs g.E.Engine.on g.E.Engine.sweeps g.E.Engine.begins g.E.Engine.tells g.E.Engine.closes
+    c.instructions.caller.pass
     c.in-Some.op c.match-answer_at_once.answer c.match-answer_at_once.caller
 joined g c =
     let q = c.answer_at_once.new.caller in
