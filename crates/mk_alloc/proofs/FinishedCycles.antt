@@ -3,7 +3,7 @@ use Rattle.mk_alloc.proofs.Vocabulary.{At, BeginsCycle, BeginsNone, Config, Even
 use Rattle.mk_alloc.proofs.Vocabulary.{append-nil, append_assoc, is_begin, only_seen, subst, sym, [], ⊎_elim}
 use Rattle.mk_alloc.proofs.Vocabulary.{◌++◌, ◌∙◌, ◌∷◌, ◌≡◌}
 use Rattle.mk_alloc.{proofs.ListParts.none_at, specs.Closes.{AreFinishedAtOnce, EachIsFinished, IsFinishedAtOnce}}
-use Rattle.mk_core.specs.Cycles.{through}
+use Rattle.mk_core.specs.{Cycles.through, Frames.Steady}
 use Rattle.mk_cycle.proofs.Begun.{begin_begun, begins_none, begun_then, does_begin_none, has_on}
 use Rattle.mk_cycle.proofs.InParts.{InFirst, InSecond, in_parts}
 use Rattle.mk_cycle.specs.{BeginCycle.MakesBegin, Begun.{EachIsBegunUpTo, EachIsBegunYet, IsBegunUpTo}}
@@ -49,12 +49,16 @@ module _ {V : Type 0} (closes : V → PassState → PassState → Type 0) where
   longer {es = es} {xs = xs} ys f = record {
     engine = f.engine;
     first = f.first;
+    then = f.then ++ ys;
+    split = ap (λ (l : List Event). l ++ ys) f.split ∙ append_assoc f.first f.then ys;
+    marking = f.marking;
     begun = f.begun;
     finished = f.finished;
     rest = f.rest ++ ys;
-    marking = f.marking;
     config = f.config;
     seat = f.seat;
+    own = f.own;
+    phase = f.phase;
     seen = f.seen;
     closed = f.closed;
     is = sym (append_assoc es xs ys) ∙ ap (λ (l : List Event). l ++ ys) f.is
@@ -137,12 +141,17 @@ module _ {V : Type 0} (closes : V → PassState → PassState → Type 0) where
         record {
           engine = engine;
           first = u.first;
+          then = u.rest ++ none.more;
+          split = t.then ∙ ap (λ (l : List Event). l ++ none.more) u.is
+              ∙ append_assoc u.first u.rest none.more;
+          marking = u.marking;
           begun = b;
           finished = q;
           rest = [];
-          marking = u.marking;
           config = ap (λ (x : PassState). x.table.config) law.pass;
           seat = seat_is;
+          own = has_on p b law.pass own;
+          phase = ap (λ (x : Steady). x.phase) law.steady;
           seen = sym u.part;
           closed = closed;
           is = around p.seen k.before k.event k.behind (begun.more ++ none.more) q.seen seen_is k.is;

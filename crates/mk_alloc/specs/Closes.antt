@@ -2,8 +2,8 @@
 use Rattle.std.specs.Prelude.{◌≡◌, true, List, ◌++◌}
 use Rattle.mk_core.specs.{declared.config.Config.Config, declared.events.Event.Event, declared.events.Seat.Seat}
 use Rattle.mk_core.specs.{Cycles.{At, is_begin, is_close, through}, History.{World, left}}
-use Rattle.mk_caller.specs.Below.Words.States.{PassState}
-use Rattle.mk_cycle.specs.{Begun.are_own_of, Closing.IsClosedBy, Kinds.begins_marking}
+use Rattle.mk_caller.specs.Below.Words.{Seats.Has, States.PassState}
+use Rattle.mk_cycle.specs.{Begun.are_own_of, Closing.IsClosedBy, EngineLaw.IsAtPhase, Kinds.begins_marking}
 
 -- An engine says this of the world.
 pub record IsSaid {V : Type 0} (tells : V → Config → World → Type 0) (c : Config) (w : World) : Type 0 where
@@ -29,12 +29,16 @@ pub record IsFinishedAtOnce {V : Type 0} (closes : V → PassState → PassState
     (es more : List Event) : Type 0 where
   pub engine : V
   pub first : List Event
+  pub then : List Event
+  pub split : more ≡ first ++ then
+  pub marking : are_own_of begins_marking s first ≡ true
   pub begun : PassState
   pub finished : PassState
   pub rest : List Event
-  pub marking : are_own_of begins_marking s first ≡ true
   pub config : begun.table.config ≡ c
   pub seat : begun.seat ≡ s
+  pub own : Has begun.seats begun.seat
+  pub phase : IsAtPhase begun 1
   pub seen : begun.seen ≡ es ++ first
   pub closed : IsClosedBy (closes engine) begun finished
   pub is : es ++ more ≡ finished.seen ++ rest

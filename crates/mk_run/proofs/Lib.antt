@@ -9,5 +9,6 @@ pub mod Headline
 pub mod ObservedRuns
 pub mod KeptScripts
 pub mod SaidRuns
+pub mod SweptRuns
 pub mod Vocabulary
 pub mod AtOnceOrLater
