@@ -1,6 +1,6 @@
 -- What others do beside a turn where no marker steps: they mark nothing, and take no step of a holder.
 use Rattle.std.specs.Prelude.{⊤}
-use Rattle.mk_sweep.proofs.Vocabulary.{AreOfOthers, Caller, Cell, Config, Event, HasMarkers, Holds, Host, Marker, Moment, Seat}
+use Rattle.mk_sweep.proofs.Vocabulary.{Caller, Cell, Config, Event, HasMarkers, Holds, Host, Marker, Moment, Seat}
 use Rattle.mk_sweep.proofs.Vocabulary.{Steady, Step, World, has_bit, is_marked, world_behind}
 use Rattle.mk_cycle.proofs.Below.Laws.Vocabulary.{Bool, IsEnabled, List, ℕ, ap, arith, cases_Bool, enabled_meets, false}
 use Rattle.mk_cycle.proofs.Below.Laws.Vocabulary.{false_from_ne_true, holder_number, inl, inr, is_one_of, list_any}
@@ -13,7 +13,7 @@ use Rattle.mk_cycle.proofs.{Below.Laws.Protocols.protocol_of, Below.Laws.Stretch
 use Rattle.mk_cycle.proofs.{Below.Laws.TurnFrame.turn_after, Below.Laws.Views.{HoldsTurn, view_of}}
 use Rattle.mk_cycle.proofs.Below.Words.Seats.{has_first, not_both, same_self}
 use Rattle.mk_cycle.specs.{Tracing.OwnStepsKeep, Below.Words.Doing.AreOwnOrOfOthers}
-use Rattle.mk_core.specs.{Growing.is_same_seat, History.{AreEnabledFrom, left_from}}
+use Rattle.mk_core.specs.{Growing.{AreOfOthers, is_same_seat}, History.{AreEnabledFrom, left_from}}
 use Rattle.mk_sweep.specs.Unswept.{LeaveUnmarked, OthersLeaveUnmarked}
 
 -- The turn word names a seat that may hold the turn, so it does.

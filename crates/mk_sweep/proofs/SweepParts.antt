@@ -72,8 +72,15 @@ pub none_of_all : {p : PassState} {looks : ℕ} {es : List Event} (k : SweepPart
     → OthersAreNoMarkers p.seat es → NoneOfMarkers k
 unfolding OthersAreNoMarkers
 none_of_all {p} k none =
-    let held = (markers_in_parts p.seat _ _ (subst (OthersAreNoMarkers p.seat) (all_parts k) none)).1 in
-    let swept = markers_in_parts p.seat k.holding _ held in
+    let start : List Event = k.front ++ record { seat = p.seat; step = Step.Begin } ∷ [] in
+    let rest : List Event = k.sweeps.traces.does.more ++ (k.looks_on.more ++ (k.waited ++ record {
+      seat = p.seat;
+      step = Step.Close;
+    } ∷ (k.stopped ++ record { seat = p.seat; step = Step.Release } ∷ k.rest))) in
+    let all : OthersAreNoMarkers p.seat (start ++ (k.holding ++ rest)) = rw (← all_parts k) none in
+    let held : OthersAreNoMarkers p.seat (k.holding ++ rest) =
+    (markers_in_parts p.seat start (k.holding ++ rest) all).1 in
+    let swept = markers_in_parts p.seat k.holding rest held in
     let looked = markers_in_parts p.seat k.sweeps.traces.does.more _ swept.1 in
     let waited = markers_in_parts p.seat k.looks_on.more _ looked.1 in
     let closed = markers_in_parts p.seat k.waited _ waited.1 in
@@ -106,7 +113,7 @@ pub record SweepsThenLooks (looks : ℕ) (p q : PassState) : Type 0 where
   pub looks_on : Does only_looks inner q
   pub still : LeavesWords (world_of inner) (world_of q)
 
-longer : (a b d e f : List Event) (x y : Event)
+pub longer : (a b d e f : List Event) (x y : Event)
     → (a ++ (b ++ x ∷ (d ++ y ∷ e))) ++ f ≡ a ++ (b ++ x ∷ (d ++ y ∷ (e ++ f)))
 longer a b d e f x y =
     append_assoc a (b ++ x ∷ (d ++ y ∷ e)) f
@@ -124,20 +131,22 @@ module _ (b q : PassState) (looks : ℕ) (front first rest es : List Event)
   abbrev inner : PassState
   inner = closed.part.inner
 
-  held_is : closed.held ≡ record b { seen = closed.held.seen }
+  pub held_is : closed.held ≡ record b { seen = closed.held.seen }
   held_is = closed.holds.keeps.call.pass
 
-  inner_is : inner ≡ record b { seen = inner.seen }
+  pub inner_is : inner ≡ record b { seen = inner.seen }
   inner_is =
       let d = closed.part.sweeps.traces.does in
       only_seen closed.held inner d.more d.is ∙ ap (λ (x : PassState). record x { seen = inner.seen }) held_is
 
-  closing_is : makes.closing ≡ record b { seen = makes.closing.seen }
+  pub closing_is : makes.closing ≡ record b { seen = makes.closing.seen }
   closing_is =
       makes.marks.keeps.call.pass ∙ ap (λ (x : PassState). record x { seen = makes.closing.seen }) held_is
 
-  closed_is : makes.closed ≡ record b { seen = makes.closed.seen }
-  closed_is = cc (only_seen_by makes.closing makes.closed Step.Close makes.close, closing_is)
+  pub closed_is : makes.closed ≡ record b { seen = makes.closed.seen }
+  closed_is =
+      only_seen_by makes.closing makes.closed Step.Close makes.close
+      ∙ ap (λ (x : PassState). record x { seen = makes.closed.seen }) closing_is
 
   abbrev close : Event
   close = event_of b Step.Close
@@ -151,19 +160,19 @@ module _ (b q : PassState) (looks : ℕ) (front first rest es : List Event)
   abbrev stopped : List Event
   stopped = makes.release.others
 
-  whole : q.seen ≡ makes.closing.seen ++ (waited ++ close ∷ (stopped ++ release ∷ closed.rest))
+  pub whole : q.seen ≡ makes.closing.seen ++ (waited ++ close ∷ (stopped ++ release ∷ closed.rest))
   whole =
       let last = closed.is in
       grind (arith, last, makes, stopped, closed_is, release, waited, closing_is, close, append_assoc)
 
-  own_holds : are_own_of holds_gates b.seat (first ++ closed.holds.does.more) ≡ true
+  pub own_holds : are_own_of holds_gates b.seat (first ++ closed.holds.does.more) ≡ true
   own_holds =
       let d = closed.holds.does in
       list_all-append _ first d.more
       ∙ and_from (are_own_of holds_gates b.seat first) (are_own_of holds_gates b.seat d.more) holds
       (own_kinds holds_gates b.table.config b.seat (world_of b) d.more d.of_kinds)
 
-  pub parts : SweepParts b looks es
+  abbrev pub parts : SweepParts b looks es
   parts = record {
     front = front;
     holding = first ++ closed.holds.does.more;

@@ -2,7 +2,8 @@
 use Rattle.mk_sweep.proofs.Vocabulary.{Event, Has, HasMarkers, IsHistory, PassState, Step, Sweeps, event_of}
 use Rattle.mk_sweep.proofs.{BesideTurn.joined_markers, CycleParts.only_looks, SweepCycles.{cycle, is_released_by_it}}
 use Rattle.mk_sweep.proofs.SweepParts.{NoneOfMarkers, SweepParts, SweepsThenLooks, parts}
-use Rattle.mk_cycle.proofs.Below.Laws.Vocabulary.{List, ℕ, ap, append-nil, append_assoc, arith, refl, subst, sym, []}
+use Rattle.mk_cycle.proofs.Below.Laws.Vocabulary.{List, ℕ, ap, append-nil, append_assoc, arith, refl, subst, sym, true}
+use Rattle.mk_cycle.proofs.Below.Laws.Vocabulary.{[]}
 use Rattle.mk_cycle.proofs.{Below.Laws.Vocabulary.{◌++◌, ◌∙◌, ◌∷◌, ◌≡◌}, Below.Words.Doing.{does_nothing, others_are_so}}
 use Rattle.mk_cycle.specs.{Begun.{DoesNothing, IsBegunLast}, Closing.IsClosedBy, EngineLaw.IsAtPhase}
 use Rattle.mk_core.specs.Cycles.{IsInSnapshot, before_close}
@@ -21,7 +22,7 @@ module _ (p b q : PassState) (looks : ℕ) (same : b ≡ record p { seen = b.see
   start_is = grind (arith, append-nil, append_assoc)
 
   -- No look comes after the sweep.
-  swept : IsClosedBy (SweepsThenLooks looks) b q
+  abbrev swept : IsClosedBy (SweepsThenLooks looks) b q
   swept = record {
     held = closed.held;
     released = closed.released;
