@@ -1,7 +1,7 @@
 -- Cycles that are finished at once, in parts of a turn.
-use Rattle.mk_alloc.proofs.Vocabulary.{At, BeginsCycle, BeginsNone, Config, Event, Has, List, PassState, Seat, ap}
-use Rattle.mk_alloc.proofs.Vocabulary.{append-nil, append_assoc, is_begin, only_seen, subst, sym, [], ⊎_elim}
-use Rattle.mk_alloc.proofs.Vocabulary.{◌++◌, ◌∙◌, ◌∷◌, ◌≡◌}
+use Rattle.mk_alloc.proofs.Vocabulary.{At, BeginsCycle, BeginsNone, Bool, Config, Event, Has, List, PassState, Seat, ap}
+use Rattle.mk_alloc.proofs.Vocabulary.{append-nil, append_assoc, false, is_begin, only_seen, refl, subst, sym, true, []}
+use Rattle.mk_alloc.proofs.Vocabulary.{⊎_elim, ◌++◌, ◌∙◌, ◌∷◌, ◌≡◌}
 use Rattle.mk_alloc.{proofs.ListParts.none_at, specs.Closes.{AreFinishedAtOnce, EachIsFinished, IsFinishedAtOnce}}
 use Rattle.mk_core.specs.{Cycles.through, Frames.Steady}
 use Rattle.mk_cycle.proofs.Begun.{begin_begun, begins_none, begun_then, does_begin_none, has_on}
