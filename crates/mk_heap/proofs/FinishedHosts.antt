@@ -1,5 +1,5 @@
 -- Each cycle that the host begins is finished at once.
-use Rattle.mk_alloc.proofs.Below.Laws.Vocabulary.{Step, ap, refl, ◌∙◌}
+use Rattle.mk_alloc.proofs.Below.Laws.Vocabulary.{Step, ap, false, refl, ◌∙◌}
 use Rattle.mk_alloc.proofs.Below.Cycles.Begun.{finish_begins_none, has_on, step_begins_none}
 use Rattle.mk_alloc.proofs.Below.Words.Sweeping.{only_seen}
 use Rattle.mk_alloc.proofs.FinishedCycles.{Never, begun_and_finished, finished_then, unbegun_finished}

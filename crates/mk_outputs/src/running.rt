@@ -4,7 +4,7 @@ ghost use Rattle.mk_check.specs.Declarations.{config_of};
 ghost use Rattle.mk_run.specs.Below.Cycles.{Begun.{CyclesAreBegun, CyclesHoldGatesFirst}, Roots.CyclesMarkRootsFirst};
 ghost use Rattle.mk_run.specs.{Below.Heaps.Reports.{MarkersAreBelow, history_of}, Headline.cycles_go_on};
 ghost use Rattle.mk_run.specs.{Running.IsRunOf, Below.Heaps.Unswept.IsUnswept};
-ghost use Rattle.mk_run.specs.Said.{CyclesAreSaid, CyclesMarkTheSwept};
+ghost use Rattle.mk_run.specs.Said.{CyclesAreFinished, CyclesAreSaid, CyclesSweep};
 ghost use Rattle.mk_outputs.specs.declared.commands.TextCommand.TheVariants as TextCommand;
 ghost use Rattle.mk_outputs.specs.Commands.{MarkersAreWithin, is_sweep, markers_beside};
 ghost use Rattle.mk_outputs.specs.{Outputs.IsOutputOf, ReportText.lines_of_report};
@@ -48,6 +48,8 @@ fn run_by<E: Engine + Send, P: Pace + Sync, R: Threads + Wait + Sync>(
         → IsUnswept (config_of program.now markers) (history_of ran.0.report)) }
     ensures said { IfOk result (λ ran.
         CyclesAreSaid E.tells (config_of program.now markers) (history_of ran.0.report)) }
+    ensures finished { IfOk result (λ ran. E.on ≡ false
+        → CyclesAreFinished E.closes (config_of program.now markers) (history_of ran.0.report)) }
     ensures kept { IfOk result (λ ran. AreEntries why ran.1.items (config_of program.now markers)
         (history_of ran.0.report)) }
 {
@@ -79,7 +81,7 @@ pub fn outcome_of<P: Pace + Sync, R: Threads + Wait + Sync>(
     ensures reached { IfOk result (λ ran. is_sweep options.marking ≡ false
         → IsUnswept (config_of program.now (markers_beside options.marking)) (history_of ran.0.report)) }
     ensures swept { IfOk result (λ ran. is_sweep options.marking ≡ true
-        → CyclesMarkTheSwept (config_of program.now (markers_beside options.marking)) (history_of ran.0.report)) }
+        → CyclesSweep (config_of program.now (markers_beside options.marking)) (history_of ran.0.report)) }
     ensures kept { IfOk result (λ ran. AreEntries options.why ran.1.items
         (config_of program.now (markers_beside options.marking)) (history_of ran.0.report)) }
 {

@@ -13,7 +13,9 @@ use Rattle.mk_heap.proofs.Below.Objects.Vocabulary.{does_wider}
 use Rattle.mk_why.proofs.Below.Sweeps.{BesideTurn.unmade_markers, SweepCycles.{cycle, is_released_by_it}}
 use Rattle.mk_why.proofs.Below.Sweeps.SweepParts.{NoneOfMarkers, SweepParts, SweepsThenLooks, none_of_all, parts}
 use Rattle.mk_why.specs.{Below.Sweeps.Swept.IsSwept, Below.Sweeps.Sweeps.Sweeps, Stops.{IsClosedBefore, View}}
-use Rattle.mk_run.specs.Said.{CyclesAreFinished, CyclesReleaseTheUnswept}
+use Rattle.mk_why.specs.Below.Sweeps.Swept.{SweptAreMarked}
+use Rattle.mk_run.{proofs.SaidRuns.said_is_swept, specs.Said.{CyclesAreFinished, CyclesAreSaid, CyclesReleaseTheUnswept}}
+use Rattle.mk_run.specs.Said.{CyclesSweep}
 
 -- Where a seat only holds gates until it wants the close, an engine that begins to mark only holds gates.
 
@@ -165,3 +167,10 @@ module _ {V : Type 0} (looks : V → ℕ) {c : Config} {es : List Event} (histor
       (λ x. out (subst (λ (d : Config). IsSwept d (left d (before_close r.marking)) n) same
       (subst (λ (l : List Event). IsSwept (begun b).table.config (left (begun b).table.config l) n)
       (sym (close_is r)) x)))))
+
+-- So what its engines say and do is what the headline says.
+pub run_sweeps : {V : Type 0} {looks : V → ℕ} {c : Config} {es : List Event} → IsHistory c es → MarkersAreBelow 0 es
+    → CyclesHoldGatesFirst c es → CyclesAreSaid (λ (engine : V) d w. SweptAreMarked d w) c es
+    → CyclesAreFinished (λ (engine : V) p q. Sweeps p q (looks engine)) c es → CyclesSweep c es
+run_sweeps {looks = looks} history few stops said finished =
+    record { marks = said_is_swept said; releases = releases_the_unswept looks history few stops finished }

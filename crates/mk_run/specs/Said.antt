@@ -42,3 +42,11 @@ CyclesReleaseTheUnswept c es =
     (k : Releasing es) (i : ℕ) → IsInSnapshot c k.marking i
     → (IsSwept c (left c (before_close k.marking)) i → ⊥)
     → (placed_at (left c (through_release k)).allocations i).released ≡ true
+
+-- What the cycles of a run do whose marks sweeps make.
+pub record CyclesSweep (c : Config) (es : List Event) : Type 0 where
+  -- At its `close` each unreleased allocation is marked into which a register points, or a global, or a word of a mapped
+  -- allocation that isn't leaf, whether that allocation is reached or not.
+  pub marks : CyclesMarkTheSwept c es
+  -- No other allocation of its snapshot is kept.
+  pub releases : CyclesReleaseTheUnswept c es
