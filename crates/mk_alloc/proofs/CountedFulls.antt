@@ -15,7 +15,8 @@ use Rattle.mk_alloc.proofs.{FullLeaves.{leaves_then, made_leaves}, Going.{IsCall
 use Rattle.mk_alloc.proofs.{Going.tidy_kept, SeekingTurns.{new_callers, still_nowhere, unplaced_kept}}
 use Rattle.mk_alloc.proofs.{Stretches.{SomeKinds, does_both, does_once, widened}, CalledTurns.step_adds_none}
 use Rattle.mk_alloc.proofs.{FreedTurns.given_is_decided, GrantParts.{calm_last, room_lacks}, OneCycles.begins_none_by}
-use Rattle.mk_alloc.proofs.{Parts.Part, PlacedTurns.none_freed_yet}
+use Rattle.mk_alloc.proofs.{Parts.Part, PlacedTurns.none_freed_yet, OneCycles.closes_none_by}
+use Rattle.mk_alloc.specs.Rooms.{ClosesNone}
 use Rattle.mk_caller.proofs.Below.Laws.Vocabulary.{Tally, Word, is_new_at, ◌-◌, ◌^◌}
 use Rattle.mk_caller.proofs.Below.Laws.InvariantHistories.{first_fit_finds_the_place}
 use Rattle.mk_caller.proofs.{Below.Laws.LayoutHolders.seat_operands, Below.Words.Seats.others_own}
@@ -168,6 +169,9 @@ module _ {p p1 p2 : PassState} {n v : ℕ} (quiet : IsQuiet p) (u : IsUnplaced p
 
     pub full_begins_none : BeginsNone p q
     full_begins_none = begins_none_by part (λ x h. grind arith)
+
+    pub full_closes_none : ClosesNone p q
+    full_closes_none = closes_none_by part (λ x h. grind arith)
 
     pub answers_full : AnswersFull p q
     answers_full = record {

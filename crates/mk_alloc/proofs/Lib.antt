@@ -16,6 +16,8 @@ pub mod FreedTurns
 pub mod PlacedTurns
 pub mod GrantParts
 pub mod OneCycles
+pub mod SaidCloses
+pub mod FinishedCycles
 pub mod SeekingTurns
 pub mod CountedFulls
 pub mod NewTurns

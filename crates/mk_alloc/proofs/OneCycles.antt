@@ -7,7 +7,7 @@ use Rattle.mk_alloc.proofs.{ListParts.{lacks_append, lacks_at, none_at, only_at,
 use Rattle.mk_alloc.proofs.{Parts.{part_lacks, seen_by, seen_then}, DueParts.{at_behind, end_at}, Going.look_part}
 use Rattle.mk_alloc.proofs.{GrantParts.first_behind, PlacedTurns.{place_part, served_by}, Stretches.SomeKinds}
 use Rattle.mk_caller.proofs.Below.Laws.Longer.{longer_at}
-use Rattle.mk_alloc.specs.Rooms.{EndsOnly}
+use Rattle.mk_alloc.{proofs.{SaidCloses.closes_held, Vocabulary.is_close}, specs.Rooms.{ClosesNone, EndsOnly}}
 
 -- lists
 
@@ -58,6 +58,18 @@ placed_begins_none t placed history = begins_none_by (place_part t (served_by pl
 pub looks_begins_none : {p q : PassState} → IsTurn p → Does is_look p q → IsHistory q.table.config q.seen
     → BeginsNone p q
 looks_begins_none t d history = begins_none_by (look_part t d history) (λ x h. grind arith)
+
+-- or have no close of one
+
+pub closes_none_by : {kinds : SomeKinds} {p q : PassState} → Part kinds p q → AreApart kinds is_close → ClosesNone p q
+closes_none_by x apart = record { more = x.does.more; is = seen_by x.does; none = part_lacks is_close x closes_held apart }
+
+pub placed_closes_none : {p q : PassState} → IsTurn p → IsPlaced p q → IsHistory q.table.config q.seen → ClosesNone p q
+placed_closes_none t placed history = closes_none_by (place_part t (served_by placed) history) (λ x h. grind arith)
+
+pub looks_close_none : {p q : PassState} → IsTurn p → Does is_look p q → IsHistory q.table.config q.seen
+    → ClosesNone p q
+looks_close_none t d history = closes_none_by (look_part t d history) (λ x h. grind arith)
 
 -- one after the other
 

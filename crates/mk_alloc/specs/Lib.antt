@@ -23,3 +23,4 @@ pub mod GivenBack
 pub mod KeptAllocations
 pub mod Deeds
 pub mod DeedLaws
+pub mod Closes

@@ -2,7 +2,7 @@
 use Rattle.std.specs.Prelude.{◌≡◌, ℕ, Bool, true, false, ◌||◌, List, ◌∷◌, ◌++◌, Option, Some, None}
 use Rattle.mk_core.specs.{declared.events.Answer.Answer, declared.events.Event.Event, declared.events.Step.Step}
 use Rattle.mk_core.specs.{declared.seats.Object.Object, declared.seats.OwnCycle.TheVariants.Ended}
-use Rattle.mk_core.specs.Cycles.{At, is_begin, is_end}
+use Rattle.mk_core.specs.Cycles.{At, is_begin, is_close, is_end}
 use Rattle.mk_geom.specs.{declared.pages.Census.Census, PageUses.census_among, PageWords.uses_of_pages}
 use Rattle.mk_caller.specs.Below.Words.States.{IsTurn, PassState, WordsState, event_of, now_of, world_of}
 use Rattle.mk_alloc.specs.{Placing.{IsUnplaced, Requests, object_for, place_now_for}, declared.objects.Request.Request}
@@ -37,6 +37,12 @@ pub record BeginsNone (p q : PassState) : Type 0 where
   pub more : List Event
   pub is : q.seen ≡ p.seen ++ more
   pub none : has_step is_begin more ≡ false
+
+-- or no close of one,
+pub record ClosesNone (p q : PassState) : Type 0 where
+  pub more : List Event
+  pub is : q.seen ≡ p.seen ++ more
+  pub none : has_step is_close more ≡ false
 
 -- or only the end of one,
 pub record EndsOnly (p q : PassState) : Type 0 where

@@ -4,7 +4,7 @@ ghost use Rattle.mk_core.specs.declared.seats.OwnCycle.TheVariants.{Ended};
 ghost use Rattle.mk_caller.specs.{Below.Words.States.now_of, Below.Words.Sweeping.SweepsNothing};
 ghost use Rattle.mk_alloc.specs.Placing.{IsUnplaced, place_now_for};
 ghost use Rattle.mk_cycle.specs.EngineLaw.{IsAtPhase};
-ghost use Rattle.mk_alloc.specs.{Rooms.{AnswersFull, BeginsNone}, Underway.IsQuiet};
+ghost use Rattle.mk_alloc.specs.{Rooms.{AnswersFull, BeginsNone, ClosesNone}, Underway.IsQuiet};
 
 use mk_caller::lower::words::{Turn, Words};
 use mk_core::{Tally, Word};
@@ -19,6 +19,7 @@ pub(crate) fn answer_full(words: &Words, turn: &mut Turn)
     requires ended { (now_of turn.old.pass).seats.holding.cycle ≡ Ended }
     ensures full { AnswersFull turn.old.pass turn.new.pass }
     ensures begins { BeginsNone turn.old.pass turn.new.pass }
+    ensures closes { ClosesNone turn.old.pass turn.new.pass }
     ensures reached { SweepsNothing turn.old.pass turn.new.pass }
 {
     let count = turn.look(words, Word::Full);

@@ -2,9 +2,9 @@
 ghost use Rattle.std.specs.Prelude.{◌≡◌, false};
 ghost use Rattle.mk_caller.specs.{Below.Words.States.now_of, Below.Words.Sweeping.SweepsNothing};
 ghost use Rattle.mk_alloc.specs.Placing.{OnlyLooks};
-ghost use Rattle.mk_cycle.specs.{Begun.HoldsFirst, EngineLaw.IsAtPhase};
+ghost use Rattle.mk_cycle.specs.{Begun.HoldsFirst, Closing.IsClosedBy, EngineLaw.IsAtPhase};
 ghost use Rattle.mk_core.specs.Effects.{cycle_ended};
-ghost use Rattle.mk_alloc.specs.Rooms.{BeginsNone, EndsOnly, IsPlacedOr, Misfits, MisfitsAtLast, MisfitsIdly};
+ghost use Rattle.mk_alloc.specs.Rooms.{BeginsNone, ClosesNone, EndsOnly, IsPlacedOr, Misfits, MisfitsAtLast, MisfitsIdly};
 ghost use Rattle.mk_alloc.specs.{Rooms.{NeedsRoom, RunsOne, SeeksRoom}, Underway.PassKeeps};
 
 use crate::objects::Request;
@@ -22,6 +22,7 @@ pub(crate) fn try_place(words: &Words, turn: &mut Turn, request: Request) -> boo
     ensures tried { IsPlacedOr Misfits result turn.old.pass turn.new.pass }
     ensures looks { result ≡ false → OnlyLooks turn.old.pass turn.new.pass }
     ensures begins { BeginsNone turn.old.pass turn.new.pass }
+    ensures closes { ClosesNone turn.old.pass turn.new.pass }
     ensures reached { SweepsNothing turn.old.pass turn.new.pass }
 {
     place_object(words, turn, request)
@@ -45,7 +46,8 @@ fn finish_and_place<E: Engine, R: Threads + Wait + Sync>(
         ≡ cycle_ended (now_of turn.pass).seats.holding.cycle }
     ensures ends { EndsOnly turn.pass result.0.pass }
     ensures holds { HoldsFirst turn.pass result.0.pass }
-    ensures keeps { PassKeeps E.sweeps E.begins turn.pass result.0.pass }
+    ensures closed { IsClosedBy (E.closes engine.new) turn.pass result.0.pass }
+    ensures keeps { PassKeeps E.on E.sweeps E.begins E.tells E.closes turn.pass result.0.pass }
 {
     let (mut turn, _) = finish_cycle(rt, words, turn, engine);
     let placed = try_place(words, &mut turn, request);
@@ -64,7 +66,7 @@ fn place_behind_older<E: Engine, R: Threads + Wait + Sync>(
     ensures made_for { E.made_for engine.new ≡ E.made_for engine.old }
     ensures tried { IsPlacedOr MisfitsIdly result.1 turn.pass result.0.pass }
     ensures begins { BeginsNone turn.pass result.0.pass }
-    ensures keeps { PassKeeps E.sweeps E.begins turn.pass result.0.pass }
+    ensures keeps { PassKeeps E.on E.sweeps E.begins E.tells E.closes turn.pass result.0.pass }
 {
     let mut turn = turn;
     let is_on = is_cycle_on(words, &mut turn);
@@ -89,7 +91,7 @@ fn place_behind_cycle<E: Engine, R: Threads + Wait + Sync>(
     ensures made_for { E.made_for engine.new ≡ E.made_for engine.old }
     ensures tried { IsPlacedOr MisfitsAtLast result.1 turn.pass result.0.pass }
     ensures one { RunsOne turn.pass result.0.pass }
-    ensures keeps { PassKeeps E.sweeps E.begins turn.pass result.0.pass }
+    ensures keeps { PassKeeps E.on E.sweeps E.begins E.tells E.closes turn.pass result.0.pass }
 {
     let mut turn = turn;
     begin_cycle(rt, words, &mut turn, engine);
@@ -110,7 +112,7 @@ pub(crate) fn make_room<E: Engine, R: Threads + Wait + Sync>(
     ensures made_for { E.made_for engine.new ≡ E.made_for engine.old }
     ensures tried { IsPlacedOr MisfitsAtLast result.1 turn.pass result.0.pass }
     ensures one { RunsOne turn.pass result.0.pass }
-    ensures keeps { PassKeeps E.sweeps E.begins turn.pass result.0.pass }
+    ensures keeps { PassKeeps E.on E.sweeps E.begins E.tells E.closes turn.pass result.0.pass }
 {
     let (turn, placed) = place_behind_older(rt, words, turn, request, engine);
     if placed {

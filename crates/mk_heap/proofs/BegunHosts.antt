@@ -29,7 +29,7 @@ module _ (begins : Config → Seat → List Event → List Event → Type 0) whe
   idle_same : {p idle : PassState} → TakesIdleTurn p idle → idle ≡ record p { seen = idle.seen }
   idle_same {p} {idle} takes = let m = idle_moves p idle takes in only_seen p idle m.more m.is
 
-  idle_begun : {p idle : PassState} → TakesIdleTurn p idle → EachIsBegun begins p idle
+  pub idle_begun : {p idle : PassState} → TakesIdleTurn p idle → EachIsBegun begins p idle
   idle_begun {p} {idle} takes =
       let own = taken_own takes.takes in
       let m = turn_moves p takes.taken takes.takes in

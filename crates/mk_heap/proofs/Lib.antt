@@ -6,6 +6,8 @@ pub mod ClientSteps
 pub mod Overs
 pub mod HomeCallers
 pub mod BegunHosts
+pub mod SaidHosts
+pub mod FinishedHosts
 pub mod Dispatched
 pub mod HostTurns
 pub mod HostTurnParts

@@ -21,11 +21,12 @@ abbrev pub CallersAreStill : PassState → List Event → Type 0
 CallersAreStill p es = (k : ℕ) → Has p.seats (Caller k) → Grows (Caller k ∷ []) p.seen es
 
 -- The host goes on, and no caller whose seat is home.
-pub record GoesOnAlone (sweeps : Bool) (begins : Config → Seat → List Event → List Event → Type 0) (h g : HostState)
+pub record GoesOnAlone {V : Type 0} (on sweeps : Bool) (begins : Config → Seat → List Event → List Event → Type 0)
+    (tells : V → Config → World → Type 0) (closes : V → PassState → PassState → Type 0) (h g : HostState)
     : Type 0 where
   pub is : g ≡ with_seen h g.pass.seen
   pub still : CallersAreStill h.pass g.pass.seen
-  pub keeps : PassKeeps sweeps begins h.pass g.pass
+  pub keeps : PassKeeps on sweeps begins tells closes h.pass g.pass
 
 -- Since this was seen the host made its last turns, where asked with a last cycle: no other is begun there.
 pub record BeginsAsAsked (with_cycle : Bool) (seen es : List Event) : Type 0 where

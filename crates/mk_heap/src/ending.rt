@@ -2,7 +2,7 @@
 ghost use Rattle.std.specs.Prelude.{◌≡◌, None, false};
 ghost use Rattle.mk_alloc.specs.{Below.Words.Seats.{Has, HasCallers, has_over}, Below.Words.Steps.IsEnabledTo};
 ghost use Rattle.mk_alloc.specs.{Below.Cycles.Begun.EachIsBegun, Below.Cycles.EngineLaw.IsAtPhase};
-ghost use Rattle.mk_alloc.specs.Below.Words.Sweeping.{SweepsNothing};
+ghost use Rattle.mk_alloc.specs.{Below.Words.Sweeping.SweepsNothing, Closes.{EachIsFinished, EachIsSaid}};
 ghost use Rattle.mk_heap.specs.Ending.{CallersAreJoined, IsIdleTurn, MakesToldCycle, SaysOver, TakesIdleTurn};
 ghost use Rattle.mk_heap.specs.Hosts.{with_seen};
 ghost use Rattle.mk_core.specs.declared.events.Seat.TheVariants as seat;
@@ -29,6 +29,7 @@ impl Host {
         ensures host { self.new ≡ with_seen self.old self.new.pass.seen }
         ensures over { SaysOver self.old.pass self.new.pass }
         ensures reached { E.sweeps ≡ false → SweepsNothing self.old.pass self.new.pass }
+        ensures said { EachIsSaid E.tells self.old.pass self.new.pass }
     {
         let words = &heap.words;
         let home = take_home(&mut self.pass);
@@ -57,6 +58,8 @@ impl Host {
         ensures overs { has_over self.new.pass.seen ≡ has_over self.old.pass.seen }
         ensures reached { E.sweeps ≡ false → SweepsNothing self.old.pass self.new.pass }
         ensures begun { EachIsBegun E.begins self.old.pass self.new.pass }
+        ensures said { EachIsSaid E.tells self.old.pass self.new.pass }
+        ensures finished { EachIsFinished E.closes self.old.pass self.new.pass }
     {
         let words = &heap.words;
         let home = take_home(&mut self.pass);
@@ -85,6 +88,7 @@ fn take_idle_turn<E: Engine, R: Threads + Wait + Sync>(
     ensures takes { TakesIdleTurn home result.pass }
     ensures idle { IsIdleTurn result.pass }
     ensures reached { E.sweeps ≡ false → SweepsNothing home result.pass }
+    ensures said { EachIsSaid E.tells home result.pass }
 {
     let mut turn = take_turn(rt, words, home, None);
     let found = turn.look(words, Word::Phase);

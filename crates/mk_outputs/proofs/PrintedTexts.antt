@@ -8,6 +8,7 @@ use Rattle.mk_run.specs.Below.{Cycles.Roots.CyclesMarkRootsFirst, Heaps.Reports.
 use Rattle.mk_run.specs.Below.Cycles.Begun.{CyclesHoldGatesFirst}
 use Rattle.mk_run.specs.{Below.Heaps.declared.reports.Report.Report, declared.outcomes.Outcome.Outcome}
 use Rattle.mk_run.specs.{Headline.{cycles_go_on, printed}, Running.IsRunOf, Below.Heaps.Unswept.IsUnswept}
+use Rattle.mk_run.specs.Said.{CyclesSweep}
 use Rattle.mk_run.specs.Below.Chains.declared.kept.Kept.{Kept}
 use Rattle.mk_run.specs.Below.Heaps.Reports as report
 use Rattle.mk_run.proofs.Headline.{runs_keep_their_promises, runs_print_their_texts}
@@ -48,15 +49,18 @@ pub run_is_output : (options : Options) (program : List Item) (outcome : Outcome
     → MarkersAreBelow (markers_beside options.marking) (report.history_of outcome.report)
     → (is_sweep options.marking ≡ false
     → IsUnswept (config_of program (markers_beside options.marking)) (report.history_of outcome.report))
+    → (is_sweep options.marking ≡ true
+    → CyclesSweep (config_of program (markers_beside options.marking)) (report.history_of outcome.report))
     → AreEntries options.why entries (config_of program (markers_beside options.marking))
     (report.history_of outcome.report)
     → bytes ≡ printed outcome ++ ((if options.report then lines_of_report outcome.report else [])
     ++ kept_text program entries)
     → IsOutputOfRun options program (report.history_of outcome.report) bytes
-run_is_output options program outcome entries bytes runs begun stops below unswept kept are =
+run_is_output options program outcome entries bytes runs begun stops below unswept swept kept are =
     let markers = markers_beside options.marking in
     let sweep = is_sweep options.marking in
-    let stands = runs_stand_in_one_history program markers sweep options.why outcome runs begun stops below unswept in
+    let stands =
+    runs_stand_in_one_history program markers sweep options.why outcome runs begun stops below unswept swept in
     record {
       stands = stands;
       promises =

@@ -4,6 +4,7 @@ ghost use Rattle.mk_check.specs.Declarations.{config_of};
 ghost use Rattle.mk_run.specs.Below.Cycles.{Begun.{CyclesAreBegun, CyclesHoldGatesFirst}, Roots.CyclesMarkRootsFirst};
 ghost use Rattle.mk_run.specs.{Below.Heaps.Reports.{MarkersAreBelow, history_of}, Headline.cycles_go_on};
 ghost use Rattle.mk_run.specs.{Running.IsRunOf, Below.Heaps.Unswept.IsUnswept};
+ghost use Rattle.mk_run.specs.Said.{CyclesAreFinished, CyclesAreSaid, CyclesSweep};
 ghost use Rattle.mk_outputs.specs.declared.commands.TextCommand.TheVariants as TextCommand;
 ghost use Rattle.mk_outputs.specs.Commands.{MarkersAreWithin, is_sweep, markers_beside};
 ghost use Rattle.mk_outputs.specs.{Outputs.IsOutputOf, ReportText.lines_of_report};
@@ -45,6 +46,10 @@ fn run_by<E: Engine + Send, P: Pace + Sync, R: Threads + Wait + Sync>(
     ensures markers { IfOk result (λ ran. MarkersAreBelow markers (history_of ran.0.report)) }
     ensures reached { IfOk result (λ ran. E.sweeps ≡ false
         → IsUnswept (config_of program.now markers) (history_of ran.0.report)) }
+    ensures said { IfOk result (λ ran.
+        CyclesAreSaid E.tells (config_of program.now markers) (history_of ran.0.report)) }
+    ensures finished { IfOk result (λ ran. E.on ≡ false
+        → CyclesAreFinished E.closes (config_of program.now markers) (history_of ran.0.report)) }
     ensures kept { IfOk result (λ ran. AreEntries why ran.1.items (config_of program.now markers)
         (history_of ran.0.report)) }
 {
@@ -75,6 +80,8 @@ pub fn outcome_of<P: Pace + Sync, R: Threads + Wait + Sync>(
         MarkersAreBelow (markers_beside options.marking) (history_of ran.0.report)) }
     ensures reached { IfOk result (λ ran. is_sweep options.marking ≡ false
         → IsUnswept (config_of program.now (markers_beside options.marking)) (history_of ran.0.report)) }
+    ensures swept { IfOk result (λ ran. is_sweep options.marking ≡ true
+        → CyclesSweep (config_of program.now (markers_beside options.marking)) (history_of ran.0.report)) }
     ensures kept { IfOk result (λ ran. AreEntries options.why ran.1.items
         (config_of program.now (markers_beside options.marking)) (history_of ran.0.report)) }
 {

@@ -89,18 +89,20 @@ no_answer_is_left program markers sweep last_cycle es k h is =
     none_is_left program markers k h.whole is (h.operations k is)
 
 unfoldable pub runs_stand_in_one_history : RunsStandInOneHistory
-runs_stand_in_one_history program markers sweep last_cycle outcome runs begun stops markers_below unswept = record {
-  whole = runs.whole;
-  operations = noted_of_run runs;
-  ends = ends_of_run runs;
-  cycles = λ k is. (runs.follows k is).exact;
-  roots = begun;
-  stops = stops;
-  few_markers = markers_below;
-  host = runs.host;
-  over = runs.over;
-  unswept = unswept;
-}
+runs_stand_in_one_history program markers sweep last_cycle outcome runs begun stops markers_below unswept swept =
+    record {
+      whole = runs.whole;
+      operations = noted_of_run runs;
+      ends = ends_of_run runs;
+      cycles = λ k is. (runs.follows k is).exact;
+      roots = begun;
+      stops = stops;
+      few_markers = markers_below;
+      host = runs.host;
+      over = runs.over;
+      unswept = unswept;
+      swept = swept;
+    }
 
 -- All callers rest at the end, so nobody ever waits in a ring.
 

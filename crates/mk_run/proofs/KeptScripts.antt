@@ -11,60 +11,77 @@ use Rattle.mk_heap.specs.Below.Cycles.Begun.{AreBegunFirst, CyclesAreBegun, IsBe
 use Rattle.mk_heap.{proofs.UnsweptHistories.{markers_sweep, none_sweeps}, specs.Unswept.{IsUnswept}}
 use Rattle.mk_heap.proofs.UnsweptSeats.{first_sweeps, others_on as others_sweep_on, seat_on as seat_sweeps_on}
 use Rattle.mk_run.proofs.JoinedScripts.{same_or_later}
-use Rattle.mk_run.specs.Keeping.{RunKeeps, ScriptsKeep, SeatKeeps, by_seat}
+use Rattle.mk_laws.proofs.Vocabulary.{Step, World, inl, inr, is_close, left, ◌⊎◌}
+use Rattle.mk_heap.proofs.Below.Objects.{FinishedCycles.finished_append, SaidCloses.said_append}
+use Rattle.mk_heap.specs.Below.Objects.Closes.{AreFinishedAtOnce, AreSaidAtCloses, IsFinishedAtOnce, IsSaid}
+use Rattle.mk_run.specs.{Keeping.{RunKeeps, ScriptsKeep, SeatKeeps, by_seat}, Said.{BeginsAreFinished, ClosesAreSaid}}
 
 nowhere : (before : List Event) (e : Event) (behind : List Event) → [] ≡ before ++ e ∷ behind → ⊥
 nowhere [] e behind is = cc
 nowhere (x ∷ xs) e behind is = cc
 
 -- An event of an enabled list is of a seat that exists, and of a kind that is open to it.
-open_to_its_seat : {c : Config} {es : List Event} (b : At is_begin es) → IsHistory c es
+open_to_its_seat : {kind : Step → Bool} {c : Config} {es : List Event} (b : At kind es) → IsHistory c es
     → (seat_exists c b.event.seat ≡ true) × (is_open_to b.event.seat (group_of b.event.step) ≡ true)
 unfolding AreEnabledFrom
 open_to_its_seat b history = grind (arith, enabled_in_parts, enabled_meets)
 
-module _ {sweeps : Bool} {begins : Config → Seat → List Event → List Event → Type 0} where
+module _ {V : Type 0} {on sweeps : Bool} {begins : Config → Seat → List Event → List Event → Type 0}
+    {tells : V → Config → World → Type 0} {closes : V → PassState → PassState → Type 0} where
   -- before the first event
-  first_keeps : (c : Config) (s : Seat) (es : List Event) → es ≡ [] → SeatKeeps sweeps begins c s es
+  first_keeps : (c : Config) (s : Seat) (es : List Event) → es ≡ [] → SeatKeeps on sweeps begins tells closes c s es
   first_keeps c s es is = record {
     unswept = λ off. first_sweeps c s es is;
     begun = λ b own. absurd (nowhere b.before b.event b.behind (sym is ∙ b.is));
+    said = λ k own. absurd (nowhere k.before k.event k.behind (sym is ∙ k.is));
+    finished = λ off b own. absurd (nowhere b.before b.event b.behind (sym is ∙ b.is));
   }
 
   -- after more that its pass has seen, and after events of others
 
-  seat_on : (p q : PassState) → PassKeeps sweeps begins p q → SeatKeeps sweeps begins p.table.config p.seat p.seen
-      → SeatKeeps sweeps begins p.table.config p.seat q.seen
+  seat_on : (p q : PassState) → PassKeeps on sweeps begins tells closes p q → SeatKeeps on sweeps begins tells closes p.table.config p.seat p.seen
+      → SeatKeeps on sweeps begins tells closes p.table.config p.seat q.seen
   seat_on p q more before = record {
     unswept = λ off. seat_sweeps_on p q (more.reached off) (before.unswept off);
     begun = subst (λ (l : List Event). AreBegunFirst begins p.table.config p.seat [] l) (sym more.begun.is)
         (begun_append begins p.table.config p.seat [] p.seen more.begun.more before.begun more.begun.each);
+    said = subst (λ (l : List Event). AreSaidAtCloses tells p.table.config p.seat [] l) (sym more.said.is)
+        (said_append tells p.table.config p.seat [] p.seen more.said.more before.said more.said.each);
+    finished = λ off. let finished = more.finished off in
+        subst (λ (l : List Event). AreFinishedAtOnce closes p.table.config p.seat [] l) (sym finished.is)
+        (finished_append closes p.table.config p.seat [] p.seen finished.more (before.finished off) finished.each);
   }
 
   pub others_on : (c : Config) (s : Seat) (seats : List Seat) (es fs : List Event) → Has seats s → Grows seats es fs
-      → SeatKeeps sweeps begins c s es → SeatKeeps sweeps begins c s fs
+      → SeatKeeps on sweeps begins tells closes c s es → SeatKeeps on sweeps begins tells closes c s fs
   others_on c s seats es fs has g before = record {
     unswept = λ off. others_sweep_on c s seats es fs has g (before.unswept off);
     begun = subst (λ (l : List Event). AreBegunFirst begins c s [] l) (sym g.is)
         (begun_append begins c s [] es g.more before.begun
         (λ b own. absurd (others_begin_none seats s g.more has g.of_others b.before b.event b.behind b.is own)));
+    said = subst (λ (l : List Event). AreSaidAtCloses tells c s [] l) (sym g.is)
+        (said_append tells c s [] es g.more before.said
+        (λ k own. absurd (others_begin_none seats s g.more has g.of_others k.before k.event k.behind k.is own)));
+    finished = λ off. subst (λ (l : List Event). AreFinishedAtOnce closes c s [] l) (sym g.is)
+        (finished_append closes c s [] es g.more (before.finished off)
+        (λ b own. absurd (others_begin_none seats s g.more has g.of_others b.before b.event b.behind b.is own)));
   }
 
   -- the run of one script, from its first pass
   pub script_keeps : {w : WordsState} {k : ℕ} {first : PassState} (s : CallerState) (q r : PassState)
-      → IsFirstPass w k first → IsAtHome s first → PassKeeps sweeps begins s.pass q → r ≡ q
-      → SeatKeeps sweeps begins w.config (Caller k) r.seen
+      → IsFirstPass w k first → IsAtHome s first → PassKeeps on sweeps begins tells closes s.pass q → r ≡ q
+      → SeatKeeps on sweeps begins tells closes w.config (Caller k) r.seen
   script_keeps s q r at is more same = grind (arith, first_keeps, seat_on)
 
   -- The host goes on.
-  pub host_on : (w : WordsState) {p q : PassState} → p.table ≡ w → p.seat ≡ Host → PassKeeps sweeps begins p q
-      → SeatKeeps sweeps begins w.config Host p.seen → SeatKeeps sweeps begins w.config Host q.seen
+  pub host_on : (w : WordsState) {p q : PassState} → p.table ≡ w → p.seat ≡ Host → PassKeeps on sweeps begins tells closes p q
+      → SeatKeeps on sweeps begins tells closes w.config Host p.seen → SeatKeeps on sweeps begins tells closes w.config Host q.seen
   host_on w table seat more before = grind (arith, seat_on)
 
   -- The callers are still.
   pub scripts_on : {program : List Item} {k : ℕ} {c : Config} {es : List Event} (fs : List Event)
       → ((j : ℕ) → k ≤ j → IsScript program j → Grows (Caller j ∷ []) es fs)
-      → ScriptsKeep sweeps begins program k c es → ScriptsKeep sweeps begins program k c fs
+      → ScriptsKeep on sweeps begins tells closes program k c es → ScriptsKeep on sweeps begins tells closes program k c fs
   scripts_on {c} {es} fs still before = record {
     callers = λ j le is. others_on c (Caller j) (Caller j ∷ []) es fs (has_first (Caller j) []) (still j le is)
         (before.callers j le is);
@@ -72,8 +89,8 @@ module _ {sweeps : Bool} {begins : Config → Seat → List Event → List Event
 
   -- One more is joined.
   pub script_joined : {program : List Item} {k : ℕ} {c : Config} {seats : List Seat} {es fs : List Event}
-      → seats ≡ Caller k ∷ [] → Grows seats es fs → SeatKeeps sweeps begins c (Caller k) es
-      → ScriptsKeep sweeps begins program (k + 1) c fs → ScriptsKeep sweeps begins program k c fs
+      → seats ≡ Caller k ∷ [] → Grows seats es fs → SeatKeeps on sweeps begins tells closes c (Caller k) es
+      → ScriptsKeep on sweeps begins tells closes program (k + 1) c fs → ScriptsKeep on sweeps begins tells closes program k c fs
   script_joined {k} {c} {es} {fs} alone came mine others = record {
     callers = λ j le is. ⊎_elim (λ (same : j ≡ k). rw same (others_on c (Caller k) (Caller k ∷ []) es fs
         (has_first (Caller k) []) (subst (λ (l : List Seat). Grows l es fs) alone came) mine))
@@ -82,12 +99,12 @@ module _ {sweeps : Bool} {begins : Config → Seat → List Event → List Event
 
   -- before any is made
   pub none_joined : (program : List Item) (k : ℕ) (c : Config) (es : List Event) → es ≡ []
-      → k ≡ length (script_names program) → ScriptsKeep sweeps begins program k c es
+      → k ≡ length (script_names program) → ScriptsKeep on sweeps begins tells closes program k c es
   none_joined program k c es none all = record { callers = λ j le is. absurd (omega arith) }
 
   -- The host has taken no step.
   pub unseen_keeps : (c : Config) (s : Seat) (es : List Event) → AreOfOthers (s ∷ []) es
-      → SeatKeeps sweeps begins c s es
+      → SeatKeeps on sweeps begins tells closes c s es
   unseen_keeps c s es others =
       others_on c s (s ∷ []) [] es (has_first s []) (record { more = es; is = refl; of_others = others })
       (first_keeps c s [] refl)
@@ -111,19 +128,21 @@ same_by_seat {begins} {c} are b =
     same Host part = part
 
 -- All seats of the whole run are the scripts', the host's and markers'. No marker begins a cycle or sweeps.
-module _ {sweeps : Bool} {begins : Config → Seat → List Event → List Event → Type 0} {host_sweeps : Bool}
-    {host_begins : Config → Seat → List Event → List Event → Type 0} (program : List Item) (markers : ℕ)
+module _ {V : Type 0} {W : Type 0} {on sweeps : Bool} {begins : Config → Seat → List Event → List Event → Type 0}
+    {tells : V → Config → World → Type 0} {closes : V → PassState → PassState → Type 0} {host_on host_sweeps : Bool}
+    {host_begins : Config → Seat → List Event → List Event → Type 0} {host_tells : W → Config → World → Type 0}
+    {host_closes : W → PassState → PassState → Type 0} (program : List Item) (markers : ℕ)
     {w d : Config} {es seen : List Event} (made : w ≡ config_of program markers) (same : d ≡ w) (is : es ≡ seen)
-    (whole : IsWhole d es) (keep : RunKeeps sweeps begins host_sweeps host_begins program w seen) where
+    (whole : IsWhole d es) (keep : RunKeeps on sweeps begins tells closes host_on host_sweeps host_begins host_tells host_closes program w seen) where
   abbrev c : Config
   c = config_of program markers
 
   history : IsHistory c es
   history = (subst (λ (x : Config). IsWhole x es) (same ∙ made) whole).history
 
-  keeps : RunKeeps sweeps begins host_sweeps host_begins program c es
+  keeps : RunKeeps on sweeps begins tells closes host_on host_sweeps host_begins host_tells host_closes program c es
   keeps =
-      rw is (subst (λ (x : Config). RunKeeps sweeps begins host_sweeps host_begins program x seen) made keep)
+      rw is (subst (λ (x : Config). RunKeeps on sweeps begins tells closes host_on host_sweeps host_begins host_tells host_closes program x seen) made keep)
 
   pub run_is_begun : CyclesAreBegun (by_seat begins host_begins) c es
   run_is_begun b = let at = open_to_its_seat b history in by b.event.seat at.0 at.1 refl
@@ -154,6 +173,27 @@ module _ {sweeps : Bool} {begins : Config → Seat → List Event → List Event
             marking = one.marking;
             holds = one.holds;
           }
+
+  pub run_is_said : ClosesAreSaid tells host_tells c es
+  run_is_said k = let at = open_to_its_seat k history in by k.event.seat at.0 at.1 refl
+    where
+      by : (s : Seat) → seat_exists c s ≡ true → is_open_to s (group_of k.event.step) ≡ true → k.event.seat ≡ s
+          → IsSaid tells c (left c k.before) ⊎ IsSaid host_tells c (left c k.before)
+      by (Caller j) exists may of_seat =
+          inl ((keeps.scripts.callers j (omega arith) (ltb-true j (length (script_names program)) exists)).said k of_seat)
+      by (Marker j) exists may of_seat = absurd (true≢false (sym k.of_kind ∙ (grind arith)))
+      by Host exists may of_seat = inr (keeps.host.said k of_seat)
+
+  pub run_is_finished : on ≡ false → host_on ≡ false → BeginsAreFinished closes host_closes c es
+  run_is_finished off host_off b = let at = open_to_its_seat b history in by b.event.seat at.0 at.1 refl
+    where
+      by : (s : Seat) → seat_exists c s ≡ true → is_open_to s (group_of b.event.step) ≡ true → b.event.seat ≡ s
+          → IsFinishedAtOnce closes c s (through b) b.behind ⊎ IsFinishedAtOnce host_closes c s (through b) b.behind
+      by (Caller j) exists may of_seat =
+          inl ((keeps.scripts.callers j (omega arith)
+          (ltb-true j (length (script_names program)) exists)).finished off b of_seat)
+      by (Marker j) exists may of_seat = absurd (true≢false (sym b.of_kind ∙ (grind arith)))
+      by Host exists may of_seat = inr (keeps.host.finished host_off b of_seat)
 
   pub run_is_unswept : sweeps ≡ false → host_sweeps ≡ false → IsUnswept c es
   run_is_unswept off host_off = grind (arith, none_sweeps, history, keeps, ltb-true, markers_sweep)

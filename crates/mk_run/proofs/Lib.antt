@@ -8,5 +8,7 @@ mod WholeRuns
 pub mod Headline
 pub mod ObservedRuns
 pub mod KeptScripts
+pub mod SaidRuns
+pub mod SweptRuns
 pub mod Vocabulary
 pub mod AtOnceOrLater

@@ -15,7 +15,7 @@ use Rattle.mk_core.specs.History.{left}
 use Rattle.mk_laws.specs.{Precision.CyclesArePrecise, Promises.{AtEachMoment, KeepsAllPromises}}
 use Rattle.mk_laws.specs.Waiting.{NobodyWaitsInARing}
 use Rattle.mk_heap.specs.HostTurns.{HostComesLast}
-use Rattle.mk_run.specs.{declared.outcomes.Outcome.Outcome, Running.IsRunOf}
+use Rattle.mk_run.specs.{declared.outcomes.Outcome.Outcome, Running.IsRunOf, Said.CyclesSweep}
 use Rattle.mk_heap.specs.Unswept.{IsUnswept}
 use Rattle.mk_heap.specs.Reports as report
 
@@ -59,6 +59,8 @@ pub record StandsInOneHistory (program : List Item) (markers : ℕ) (sweep last_
   pub over : has_over history ≡ true
   -- Unless a sweep makes the marks, none of them is a sweeping one.
   pub unswept : sweep ≡ false → IsUnswept (config_of program markers) history
+  -- If sweeps make the marks, each cycle marks whatever is swept, reached or not, and releases all else of its snapshot.
+  pub swept : sweep ≡ true → CyclesSweep (config_of program markers) history
 
 -- What follows of it, by laws.
 pub record KeepsRunPromises (program : List Item) (markers : ℕ) (sweep : Bool) (history : List Event) : Type 0 where
@@ -116,6 +118,7 @@ RunsStandInOneHistory =
     → CyclesHoldGatesFirst (config_of program markers) (report.history_of outcome.report))
     → MarkersAreBelow markers (report.history_of outcome.report)
     → (sweep ≡ false → IsUnswept (config_of program markers) (report.history_of outcome.report))
+    → (sweep ≡ true → CyclesSweep (config_of program markers) (report.history_of outcome.report))
     → StandsInOneHistory program markers sweep last_cycle (report.history_of outcome.report)
 
 -- What the scripts print of it are the texts of the outcome, whole.

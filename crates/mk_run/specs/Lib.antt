@@ -7,3 +7,4 @@ pub mod ObservedRuns
 pub mod Running
 pub mod Scripts
 pub mod Keeping
+pub mod Said

@@ -37,8 +37,8 @@ fn run_scripts<E: Engine + Send, F: Engine + Send, P: Pace + Sync, R: Threads + 
         result.1 }
     ensures turns { run.now.with_cycle ≡ true
         → TakesLastTurns (F.tells result.1.engine) run.now.heap.now result.0.pass }
-    ensures keep { RunKeeps E.sweeps E.begins F.sweeps F.begins run.now.program.now run.now.heap.now.config
-        result.0.pass.seen }
+    ensures keep { RunKeeps E.on E.sweeps E.begins E.tells E.closes F.on F.sweeps F.begins F.tells F.closes
+        run.now.program.now run.now.heap.now.config result.0.pass.seen }
 {
     let ReadyRun {
         scripts,
@@ -64,8 +64,8 @@ pub(crate) fn run_beside<
     ensures joined { AllAreJoined result.0 }
     ensures turns { run.now.with_cycle ≡ true
         → TakesLastTurns (F.tells result.1.engine) run.now.heap.now result.0.pass }
-    ensures keep { RunKeeps E.sweeps E.begins F.sweeps F.begins run.now.program.now run.now.heap.now.config
-        result.0.pass.seen }
+    ensures keep { RunKeeps E.on E.sweeps E.begins E.tells E.closes F.on F.sweeps F.begins F.tells F.closes
+        run.now.program.now run.now.heap.now.config result.0.pass.seen }
 {
     let heap = run.heap;
     let markers = run.markers;
@@ -84,8 +84,8 @@ pub(crate) fn run_beside<
                 run.entry.now.markers result.0 result.1 }
             ensures turns { run.entry.now.with_cycle ≡ true
                 → TakesLastTurns (F.tells result.1.engine) run.entry.now.heap.now result.0.pass }
-            ensures keep { RunKeeps E.sweeps E.begins F.sweeps F.begins run.entry.now.program.now
-                run.entry.now.heap.now.config result.0.pass.seen }
+            ensures keep { RunKeeps E.on E.sweeps E.begins E.tells E.closes F.on F.sweeps F.begins F.tells F.closes
+                run.entry.now.program.now run.entry.now.heap.now.config result.0.pass.seen }
         { run_scripts(rt, run, pace, host, ready) },
     )
 }

@@ -4,6 +4,7 @@ ghost use Rattle.mk_check.specs.{Declarations.config_of, Observed.ObservedRun};
 ghost use Rattle.mk_heap.specs.{Below.Cycles.Begun.CyclesAreBegun, LastCycle.EndsWithCycle, Unswept.IsUnswept};
 ghost use Rattle.mk_heap.specs.Reports.{MarkersAreBelow, history_of};
 ghost use Rattle.mk_run.specs.{Headline.printed, Keeping.by_seat, Running.IsRunOf};
+ghost use Rattle.mk_run.specs.Said.{BeginsAreFinished, ClosesAreSaid, CyclesAreFinished, CyclesAreSaid};
 
 use crate::marking::{Done, run_beside};
 use crate::outcomes::Outcome;
@@ -43,6 +44,10 @@ pub(crate) fn run_and_close<
     ensures begun { IfOk result (λ ran.
         CyclesAreBegun (by_seat E.begins F.begins) (config_of program.now markers) (history_of ran.0.report)) }
     ensures markers { IfOk result (λ ran. MarkersAreBelow markers (history_of ran.0.report)) }
+    ensures said { IfOk result (λ ran.
+        ClosesAreSaid E.tells F.tells (config_of program.now markers) (history_of ran.0.report)) }
+    ensures finished { IfOk result (λ ran. E.on ≡ false → F.on ≡ false
+        → BeginsAreFinished E.closes F.closes (config_of program.now markers) (history_of ran.0.report)) }
 {
     // No thread is started before all is ready.
     let config = program.config(alloc, markers)?;
@@ -83,6 +88,10 @@ pub fn run_all<E: Engine + Send, P: Pace + Sync, R: Threads + Wait + Sync>(
     ensures begun { IfOk result (λ outcome.
         CyclesAreBegun E.begins (config_of program.now markers) (history_of outcome.report)) }
     ensures markers { IfOk result (λ outcome. MarkersAreBelow markers (history_of outcome.report)) }
+    ensures said { IfOk result (λ outcome.
+        CyclesAreSaid E.tells (config_of program.now markers) (history_of outcome.report)) }
+    ensures finished { IfOk result (λ outcome. E.on ≡ false
+        → CyclesAreFinished E.closes (config_of program.now markers) (history_of outcome.report)) }
 {
     let ran: (Outcome, E) = run_and_close::<E, E, P, R>(rt, alloc, program, markers, pace, false)?;
     Ok(ran.0)

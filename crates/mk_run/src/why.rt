@@ -4,7 +4,7 @@ ghost use Rattle.mk_check.specs.{Declarations.config_of, Observed.ObservedRun};
 ghost use Rattle.mk_heap.specs.{Below.Cycles.Begun.CyclesAreBegun, LastCycle.EndsWithCycle, Unswept.IsUnswept};
 ghost use Rattle.mk_heap.specs.Reports.{MarkersAreBelow, history_of};
 ghost use Rattle.mk_why.specs.Chains.{AreKept};
-ghost use Rattle.mk_run.specs.{Headline.printed, Running.IsRunOf};
+ghost use Rattle.mk_run.specs.{Headline.printed, Running.IsRunOf, Said.{CyclesAreFinished, CyclesAreSaid}};
 
 use crate::outcomes::Outcome;
 use crate::running::run_and_close;
@@ -36,6 +36,10 @@ pub fn run_why<E: Engine + Send, P: Pace + Sync, R: Threads + Wait + Sync>(
     ensures begun { IfOk result (λ ran.
         CyclesAreBegun E.begins (config_of program.now markers) (history_of ran.0.report)) }
     ensures markers { IfOk result (λ ran. MarkersAreBelow markers (history_of ran.0.report)) }
+    ensures said { IfOk result (λ ran.
+        CyclesAreSaid E.tells (config_of program.now markers) (history_of ran.0.report)) }
+    ensures finished { IfOk result (λ ran. E.on ≡ false
+        → CyclesAreFinished E.closes (config_of program.now markers) (history_of ran.0.report)) }
 {
     let ran: (Outcome, Why<E>) = run_and_close::<E, Why<E>, P, R>(
         rt, alloc, program, markers, pace, true,

@@ -1,5 +1,4 @@
--- What others do beside a turn whose pass has the seats of all markers: they mark nothing, and take no step of a
--- holder.
+-- What others do beside a turn where no marker steps: they mark nothing, and take no step of a holder.
 use Rattle.std.specs.Prelude.{⊤}
 use Rattle.mk_sweep.proofs.Vocabulary.{Caller, Cell, Config, Event, HasMarkers, Holds, Host, Marker, Moment, Seat}
 use Rattle.mk_sweep.proofs.Vocabulary.{Steady, Step, World, has_bit, is_marked, world_behind}
@@ -12,9 +11,9 @@ use Rattle.mk_cycle.proofs.{Below.Laws.FramesHolders.acts_as_holder, Below.Laws.
 use Rattle.mk_cycle.proofs.{Below.Laws.OrderlyLists.actor_of, Below.Laws.PrecisionStepKinds.both_fail}
 use Rattle.mk_cycle.proofs.{Below.Laws.Protocols.protocol_of, Below.Laws.Stretches.None_of}
 use Rattle.mk_cycle.proofs.{Below.Laws.TurnFrame.turn_after, Below.Laws.Views.{HoldsTurn, view_of}}
-use Rattle.mk_cycle.proofs.Below.Words.Seats.{not_both, same_self}
+use Rattle.mk_cycle.proofs.Below.Words.Seats.{has_first, not_both, same_self}
 use Rattle.mk_cycle.specs.{Tracing.OwnStepsKeep, Below.Words.Doing.AreOwnOrOfOthers}
-use Rattle.mk_core.specs.{Growing.is_same_seat, History.{AreEnabledFrom, left_from}}
+use Rattle.mk_core.specs.{Growing.{AreOfOthers, is_same_seat}, History.{AreEnabledFrom, left_from}}
 use Rattle.mk_sweep.specs.Unswept.{LeaveUnmarked, OthersLeaveUnmarked}
 
 -- The turn word names a seat that may hold the turn, so it does.
@@ -35,6 +34,42 @@ holds_still {c} s w v known next same h =
     holds_by_name s next (grind arith)
     (same ∙ turn_of c (view_of w.now) s known.orderly (holds_turn c w.now s known.orderly h))
 
+-- No event of another seat in the list is of a marker.
+unfoldable pub OthersAreNoMarkers : Seat → List Event → Type 0
+OthersAreNoMarkers s [] = ⊤
+OthersAreNoMarkers s (e ∷ es) = (is_same_seat s e.seat ≡ false → (k : ℕ) → e.seat ≡ Marker k → k < 8 → ⊥)
+    × OthersAreNoMarkers s es
+
+-- So it is where the seats of all markers are the pass's,
+pub joined_markers : (s : Seat) (seats : List Seat) (es : List Event) → HasMarkers seats → AreOwnOrOfOthers s seats es
+    → OthersAreNoMarkers s es
+unfolding OthersAreNoMarkers AreOwnOrOfOthers
+joined_markers s seats [] markers of_seats = tt
+joined_markers s seats (e ∷ es) markers of_seats = (
+  λ other k is lt. not_both seats (Marker k) (subst (λ (x : Seat). is_one_of seats x ≡ false) is
+      (of_seats.0 ∙ other)) (markers k lt),
+  joined_markers s seats es markers of_seats.1,
+)
+
+-- or where no marker steps at all.
+pub unmade_markers : (s : Seat) (es : List Event) → ((k : ℕ) → AreOfOthers (Marker k ∷ []) es)
+    → OthersAreNoMarkers s es
+unfolding OthersAreNoMarkers AreOfOthers
+unmade_markers s [] none = tt
+unmade_markers s (e ∷ es) none = (
+  λ other k is lt. not_both (Marker k ∷ []) (Marker k)
+      (subst (λ (x : Seat). is_one_of (Marker k ∷ []) x ≡ false) is (none k).0) (has_first (Marker k) []),
+  unmade_markers s es (λ k. (none k).1),
+)
+
+-- So it is in each part of such a list.
+pub markers_in_parts : (s : Seat) (xs ys : List Event) → OthersAreNoMarkers s (xs ++ ys)
+    → OthersAreNoMarkers s xs × OthersAreNoMarkers s ys
+unfolding OthersAreNoMarkers
+markers_in_parts s [] ys none = (tt, none)
+markers_in_parts s (e ∷ es) ys none =
+    let parts = markers_in_parts s es ys none.1 in ((none.0, parts.0), parts.1)
+
 -- one event of another seat
 
 record IsBeside (c : Config) (w : World) (e : Event) : Type 0 where
@@ -46,18 +81,16 @@ move_marks : {c : Config} {w : World} {seat : Seat} {v : World} → OthersMove c
     → ((k : ℕ) → seat ≡ Marker k → k < 8 → ⊥) → v.now.words.marks ≡ w.now.words.marks
 move_marks x0 none = grind arith
 
-one_beside : {c : Config} (s : Seat) (seats : List Seat) (w : World) (e : Event) → HasMarkers seats → Known c w.now
-    → IsEnabled c w.now e → Holds c w.now s → is_one_of seats e.seat ≡ false → is_same_seat s e.seat ≡ false
-    → IsBeside c w e
-one_beside {c} s seats w e markers known on holds out other =
+one_beside : {c : Config} (s : Seat) (w : World) (e : Event) → ((k : ℕ) → e.seat ≡ Marker k → k < 8 → ⊥)
+    → Known c w.now → IsEnabled c w.now e → Holds c w.now s → is_same_seat s e.seat ≡ false → IsBeside c w e
+one_beside {c} s w e none known on holds other =
     let meets = enabled_meets c w.now e on in
     let t = holds_turn c w.now s known.orderly holds in
     let turn = turn_of c (view_of w.now) s known.orderly t in
     let free : HoldsTurn c (view_of w.now) e.seat → ⊥ = grind (arith, same_holder, view_of, same_self) in
     let move = others_move c w e.seat e.step known (λ z. absurd (omega arith)) free meets in
     record {
-      marks = move_marks move (λ k is lt. not_both seats (Marker k)
-          (subst (λ (x : Seat). is_one_of seats x ≡ false) is out) (markers k lt));
+      marks = move_marks move none;
       turn = ap (λ (x : Steady). x.turn) (turn_after c w e.seat (WorldBehind c w e.seat e.step) known move).steady;
       kind = false_from_ne_true (is_holders e.step)
           (λ is. free (acts_as_holder c w.now e.seat e.step (actor_of c w.now e.seat e.step known.orderly meets) is));
@@ -83,13 +116,11 @@ LeaveTheMarks kinds = (c : Config) (w : World) (seat : Seat) (x : Step) → kind
     → (WorldBehind c w seat x).now.words.marks ≡ w.now.words.marks
 
 -- a part of the turn
-pub record PartOfTurn (kinds : Step → Bool) (c : Config) (s : Seat) (seats : List Seat) (w : World)
-    (es : List Event) : Type 0 where
-  pub markers : HasMarkers seats
+pub record PartOfTurn (kinds : Step → Bool) (c : Config) (s : Seat) (w : World) (es : List Event) : Type 0 where
+  pub none : OthersAreNoMarkers s es
   pub known : Known c w.now
   pub holds : Holds c w.now s
   pub on : AreEnabledFrom c w es
-  pub of_seats : AreOwnOrOfOthers s seats es
   pub own : OwnStepsKeep (IsOf kinds) c s w es
 
 -- what stands along it, and at its end
@@ -97,30 +128,29 @@ record Along (c : Config) (s : Seat) (w : World) (es : List Event) : Type 0 wher
   beside : AreBeside c s w es
   holds : Holds c (left_from c w es).now s
 
-module _ (kinds : Step → Bool) (leave : LeaveTheTurn kinds) (c : Config) (s : Seat) (seats : List Seat) where
-  along : (w : World) (es : List Event) → PartOfTurn kinds c s seats w es → Along c s w es
-  unfolding AreEnabledFrom AreOwnOrOfOthers OwnStepsKeep AreBeside left_from
+module _ (kinds : Step → Bool) (leave : LeaveTheTurn kinds) (c : Config) (s : Seat) where
+  along : (w : World) (es : List Event) → PartOfTurn kinds c s w es → Along c s w es
+  unfolding AreEnabledFrom OthersAreNoMarkers OwnStepsKeep AreBeside left_from
   along w [] part = record { beside = tt; holds = part.holds }
   along w (e ∷ es) part =
       let next = known_behind c w.now e part.known part.on.0 in
       let other = λ (h : is_same_seat s e.seat ≡ false).
-      one_beside s seats w e part.markers part.known part.on.0 part.holds (part.of_seats.0 ∙ h) h in
+      one_beside s w e (part.none.0 h) part.known part.on.0 part.holds h in
       let turn : (world_behind c w e).now.words.turn ≡ w.now.words.turn =
       elim (cases_Bool (is_same_seat s e.seat)) [
         | inl own ↦ leave c w e.seat e.step (part.own.0 own)
         | inr h ↦ (other h).turn
       ] in
       let rest = along (world_behind c w e) es (record {
-        markers = part.markers;
+        none = part.none.1;
         known = next;
         holds = holds_still s w (world_behind c w e) part.known next turn part.holds;
         on = part.on.1;
-        of_seats = part.of_seats.1;
         own = part.own.1;
       }) in
       record { beside = (other, rest.beside); holds = rest.holds }
 
-  pub still_holds : {w : World} {es : List Event} → PartOfTurn kinds c s seats w es → Holds c (left_from c w es).now s
+  pub still_holds : {w : World} {es : List Event} → PartOfTurn kinds c s w es → Holds c (left_from c w es).now s
   still_holds {w} {es} part = (along w es part).holds
 
   -- A holder's kind of step that isn't one of these isn't in the part.
@@ -137,7 +167,7 @@ module _ (kinds : Step → Bool) (leave : LeaveTheTurn kinds) (c : Config) (s : 
 
   pub none_of_kind : (kind : Step → Bool) → ((x : Step) → kind x ≡ true → is_holders x ≡ true)
       → ((x : Step) → kinds x ≡ true → kind x ≡ false) → {w : World} {es : List Event}
-      → PartOfTurn kinds c s seats w es → None_of kind es
+      → PartOfTurn kinds c s w es → None_of kind es
   none_of_kind kind of_holders out {w = w} {es = es} part =
       none_in kind of_holders out w es (along w es part).beside part.own
 
@@ -154,7 +184,7 @@ module _ (kinds : Step → Bool) (leave : LeaveTheTurn kinds) (c : Config) (s : 
       others_leave_it (world_behind c w e) es beside.1,
     )
 
-    pub others_mark_none : {w : World} {es : List Event} → PartOfTurn kinds c s seats w es
+    pub others_mark_none : {w : World} {es : List Event} → PartOfTurn kinds c s w es
         → OthersLeaveUnmarked c s cell w es
     others_mark_none {w} {es} part = others_leave_it w es (along w es part).beside
 
@@ -171,7 +201,7 @@ module _ (kinds : Step → Bool) (leave : LeaveTheTurn kinds) (c : Config) (s : 
       all_leave_it marks (world_behind c w e) es beside.1 own.1,
     )
 
-    pub none_marks : LeaveTheMarks kinds → {w : World} {es : List Event} → PartOfTurn kinds c s seats w es
+    pub none_marks : LeaveTheMarks kinds → {w : World} {es : List Event} → PartOfTurn kinds c s w es
         → LeaveUnmarked c cell w es
     none_marks marks {w = w} {es = es} part = all_leave_it marks w es (along w es part).beside part.own
 

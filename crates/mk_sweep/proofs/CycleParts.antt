@@ -35,6 +35,17 @@ swept_alike {c} {w} v {i} registers globals heap allocations x = record {
 abbrev pub no_kind : Step → Bool
 no_kind x = false
 
+-- it is a look
+abbrev pub only_looks : Step → Bool
+only_looks (Step.Look x) = true
+only_looks _ = false
+
+pub looking_leaves_turn : LeaveTheTurn only_looks
+looking_leaves_turn c w seat x3 is = grind arith
+
+pub looking_leaves_marks : LeaveTheMarks only_looks
+looking_leaves_marks c w seat x3 is = grind arith
+
 pub holding_leaves_turn : LeaveTheTurn holds_gates
 holding_leaves_turn c w seat x3 is = grind arith
 

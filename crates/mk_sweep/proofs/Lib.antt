@@ -8,7 +8,9 @@ pub mod EachOnce
 pub mod EvaluatedSwept
 pub mod Kept
 pub mod ScannedCells
+pub mod SweepParts
 pub mod SweepSteps
+pub mod StillMarked
 pub mod SweptMarks
 pub mod Unswept
 pub mod UnsweptReleased

@@ -16,6 +16,8 @@ use Rattle.mk_cycle.specs.{Tracing.{Counted, is_marking, is_waiting, is_want}, G
 use Rattle.mk_cycle.specs.Below.Words.Doing.{Does, done_in}
 use Rattle.mk_core.proofs.PointedAllocations.{marked_where_its_cell_is, points_well_where_marked}
 use Rattle.mk_core.specs.ClosedMarks.{is_marked_allocation}
+use Rattle.mk_cycle.specs.Telling.{IsToldOf}
+use Rattle.mk_sweep.{proofs.StillMarked.others_leave_marked, specs.Swept.SweptAreMarked}
 use Rattle.mk_cycle.specs.{EngineLaw.{ClosesMarks, IsFreeForCycle, WantsFirst}, Kinds.closes_marks}
 
 -- Waiting keeps to the rule of every sweep.
@@ -82,6 +84,9 @@ module _ {p : PassState} {t u : TurnState} (s : SweepsInStop p t u) where
       marked_where_its_cell_is c (now_of u.pass).words a limits st.stands st.headers
       ∙ sym (points_well_where_marked c (now_of u.pass).words a limits st.stands st.headers x.value x.points.1)
       ∙ value_well x.found
+
+  pub told : IsToldOf SweptAreMarked u.pass
+  told = others_leave_marked u s.on.sweeping.wanted (λ i x. swept_is_marked x)
 
   pub sweeps : (n : ℕ) → n ≡ length (words_below (still_words t.pass) t.pass.table.config.pages) → Sweeps p u.pass n
   sweeps n is =

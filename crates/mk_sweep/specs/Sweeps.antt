@@ -1,8 +1,7 @@
 -- What `close_marks` of the sweep engine does: one sweep, in the stop.
 use Rattle.std.specs.Prelude.{◌≡◌, ℕ, ◌≤◌, ◌==◌, true, count_by, length}
-use Rattle.mk_core.specs.{Allocations.placed_at, ClosedMarks.is_marked_allocation}
-use Rattle.mk_cycle.specs.{Below.Words.States.{PassState, now_of, world_of}, Tracing.{Traces, is_tracing}}
-use Rattle.mk_sweep.specs.{Swept.{IsScannedWord, IsSwept, SweepsBy, scanned_words}, Sweeping.heap_looks}
+use Rattle.mk_cycle.specs.{Below.Words.States.{PassState, world_of}, Tracing.{Traces, is_tracing}}
+use Rattle.mk_sweep.specs.{Swept.{IsScannedWord, SweepsBy, SweptAreMarked, scanned_words}, Sweeping.heap_looks}
 
 -- What a sweep looked at and marked.
 pub record Sweeps (p q : PassState) (looks : ℕ) : Type 0 where
@@ -17,5 +16,4 @@ pub record Sweeps (p q : PassState) (looks : ℕ) : Type 0 where
   pub counted : looks ≡ length (heap_looks traces.does)
   pub words : looks ≡ scanned_words p.table.config (world_of p).allocations
   -- What is swept is marked.
-  pub swept : (i : ℕ) → IsSwept q.table.config (world_of q) i
-      → is_marked_allocation q.table.config (now_of q).words (placed_at (world_of q).allocations i) ≡ true
+  pub swept : SweptAreMarked q.table.config (world_of q)

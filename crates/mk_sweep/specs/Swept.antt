@@ -3,7 +3,7 @@ use Rattle.std.specs.Prelude.{◌≡◌, ℕ, ◌^◌, true, List, ⊤, filter, 
 use Rattle.mk_geom.specs.{declared.addresses.Cell.Cell, StorageWords.IsWordOf}
 use Rattle.mk_core.specs.{declared.config.Config.Config, declared.events.Step.Step}
 use Rattle.mk_core.specs.{Allocations.{PlacedAllocation, placed_at, storage_of, storage_words}, Cells.pointed_cell}
-use Rattle.mk_core.specs.{ClosedMarks.is_scanned_allocation, History.World, Moments.Moment}
+use Rattle.mk_core.specs.{ClosedMarks.{is_marked_allocation, is_scanned_allocation}, History.World, Moments.Moment}
 use Rattle.mk_core.specs.Touched.{PointsIntoAllocation}
 use Rattle.mk_core.specs.declared.events.Step.TheVariants as step
 use Rattle.mk_core.specs.declared.events.Word.TheVariants as word
@@ -29,6 +29,11 @@ pub record IsSwept (c : Config) (w : World) (number : ℕ) : Type 0 where
   pub value : ℕ
   pub found : IsSweptValue c w value
   pub points : PointsIntoAllocation c w value number
+
+-- Each allocation that is swept is marked.
+abbrev pub SweptAreMarked : Config → World → Type 0
+SweptAreMarked c w =
+    (i : ℕ) → IsSwept c w i → is_marked_allocation c w.now.words (placed_at w.allocations i) ≡ true
 
 -- Such a value points into the cell, by lookup.
 pub record IsSweptCell (c : Config) (w : World) (cell : Cell) : Type 0 where

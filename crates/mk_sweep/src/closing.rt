@@ -1,8 +1,9 @@
 //! What the engine does in the stop: it wants the close, and sweeps until the marks may be closed.
 ghost use Rattle.std.specs.Prelude.{◌≡◌, ℕ, ◌<◌, length, slice_index};
 ghost use Rattle.mk_cycle.specs.EngineLaw.{ClosesMarks, IsAtPhase, IsFreeForCycle};
-ghost use Rattle.mk_cycle.specs.{Below.Laws.ClosedCells.CellsAreClosed, Stops.still_words};
+ghost use Rattle.mk_cycle.specs.{Below.Laws.ClosedCells.CellsAreClosed, Stops.still_words, Telling.IsToldOf};
 ghost use Rattle.mk_sweep.specs.{Sweeping.{IsSweeping, PageIsBlack, PointWell, SweepsOn, words_below}, Sweeps.Sweeps};
+ghost use Rattle.mk_sweep.specs.Swept.{SweptAreMarked};
 
 use crate::blackening::blacken_all;
 use crate::clearing::{unblack_all, undirty_all};
@@ -39,6 +40,7 @@ pub(crate) fn close_by_sweeping<R: Wait>(rt: &R, words: &Words, stop: &mut Stopp
     requires marking { IsAtPhase stop.old.pass 1 }
     requires free { IsFreeForCycle stop.old.pass }
     ensures law { ClosesMarks stop.old.pass stop.new.pass }
+    ensures told { IsToldOf SweptAreMarked stop.new.pass }
     ensures sweeps { Sweeps stop.old.pass stop.new.pass result }
 {
     want_and_wait(rt, words, stop);

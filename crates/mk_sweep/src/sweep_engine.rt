@@ -1,8 +1,9 @@
 //! The engine that sweeps.
-ghost use Rattle.std.specs.Prelude.{◌≡◌, true, false, IfOk, ⊤};
+ghost use Rattle.std.specs.Prelude.{◌≡◌, true, false, IfOk};
 ghost use Rattle.mk_cycle.specs.Begun.{DoesNothing, IsBegun};
 ghost use Rattle.mk_cycle.specs.EngineLaw.{IsFreeForCycle, IsAtPhase, BeginsMarking, ClosesMarks};
-ghost use Rattle.mk_sweep.specs.Sweeps.{Sweeps};
+ghost use Rattle.mk_cycle.specs.Telling.{IsToldOf};
+ghost use Rattle.mk_sweep.specs.{Sweeps.Sweeps, Swept.SweptAreMarked};
 
 use crate::closing::close_by_sweeping;
 use mk_cycle::Engine;
@@ -37,7 +38,7 @@ impl Engine for SweepEngine {
 
     ghost made_for = { λ engine. engine.pages };
 
-    ghost tells = { λ engine c w. ⊤ };
+    ghost tells = { λ engine c w. SweptAreMarked c w };
 
     ghost begins = { DoesNothing };
 
@@ -68,6 +69,7 @@ impl Engine for SweepEngine {
         requires free { IsFreeForCycle stop.old.pass }
         ensures made_for { self.new.pages ≡ self.old.pages }
         ensures law { ClosesMarks stop.old.pass stop.new.pass }
+        ensures told { IsToldOf SweptAreMarked stop.new.pass }
         ensures sweeps { Sweeps stop.old.pass stop.new.pass self.new.looks }
     {
         self.looks = close_by_sweeping(rt, words, stop);

@@ -1,3 +1,4 @@
+pub mod Below
 pub mod Vocabulary
 mod Counts
 mod EvaluatedChains

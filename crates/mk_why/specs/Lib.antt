@@ -1,3 +1,4 @@
+pub mod Below
 pub mod Chains
 pub mod Entries
 pub mod Listing

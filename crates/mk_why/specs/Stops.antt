@@ -64,8 +64,9 @@ pub record IsToldBefore (tells : Config → World → Type 0) (c : Config) (w : 
   pub told : tells c before
   pub view : view_of w ≡ view_of before
 
--- The inner engine closed the marks so, and then the holder looked.
+-- The inner engine closed the marks so, and then the holder looked while all was still.
 pub record IsClosedBefore (closes : PassState → PassState → Type 0) (p q : PassState) : Type 0 where
   pub inner : PassState
   pub part : closes p inner
   pub looks : Does is_look inner q
+  pub view : view_by q ≡ view_by inner

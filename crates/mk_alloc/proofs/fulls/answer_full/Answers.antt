@@ -1,4 +1,4 @@
-use Rattle.mk_alloc.proofs.{Vocabulary.refl, CountedFulls.{answers_full, full_admitted, full_allowed, full_begins_none}}
+use Rattle.mk_alloc.proofs.{Vocabulary.refl, CountedFulls.{answers_full, full_admitted, full_allowed, full_begins_none, full_closes_none}}
 use Rattle.mk_alloc.proofs.CountedFulls.{tallied_ended, tallied_idle, tallied_nowhere, tallied_unplaced}
 use Rattle.mk_alloc.proofs.UnsweptTurns.{full_sweeps}
 use Rattle.mk_alloc.proofs.fulls.answer_full.Goals as goal
@@ -26,6 +26,11 @@ returns-clause-full c =
 pub returns-clause-begins : goal.returns-clause-begins
 returns-clause-begins c =
     full_begins_none c.requires.quiet c.requires.unplaced c.look-count.ensures.acts c.look-count.ensures.finds
+    c.tally.ensures c.full.ensures c.saturating_add.ensures
+
+pub returns-clause-closes : goal.returns-clause-closes
+returns-clause-closes c =
+    full_closes_none c.requires.quiet c.requires.unplaced c.look-count.ensures.acts c.look-count.ensures.finds
     c.tally.ensures c.full.ensures c.saturating_add.ensures
 
 pub returns-clause-reached : goal.returns-clause-reached

@@ -14,4 +14,4 @@ pub returns-clause-keeps : goal.returns-clause-keeps
 returns-clause-keeps g c =
     let tried = c.make_room-turn.ensures in
     part_then (tried.tried.misfits c.if-placed.false).idly.misfits.seeks.on.does tried.keeps
-    (unbegun_keeps c.answer_full.ensures.begins c.answer_full.ensures.reached)
+    (unbegun_keeps c.answer_full.ensures.begins c.answer_full.ensures.closes c.answer_full.ensures.reached)

@@ -54,7 +54,7 @@ pub returns-then-try_place-clause-keeps : goal.returns-then-try_place-clause-kee
 returns-then-try_place-clause-keeps g c =
     let x = goal.at.returns-then-try_place-clause-keeps g c in
     rw c.back.ensures.pass (turn_keeps (given (at_once g x.After-give))
-    (unbegun_keeps c.try_place.ensures.begins c.try_place.ensures.reached))
+    (unbegun_keeps c.try_place.ensures.begins c.try_place.ensures.closes c.try_place.ensures.reached))
 
 -- or it isn't, and room is made, or the answer is Full.
 later : (g : _) (c : After-give-2 g)
@@ -71,11 +71,12 @@ later g c = record {
 }
 
 later_keeps : (g : _) (c : After-give-2 g)
-    → PassKeeps g.E.Engine.sweeps g.E.Engine.begins c.args.caller.now.pass c.give-2.result
+    → PassKeeps g.E.Engine.on g.E.Engine.sweeps g.E.Engine.begins g.E.Engine.tells g.E.Engine.closes
+    c.args.caller.now.pass c.give-2.result
 later_keeps g c =
     let tried = c.try_place.ensures in
     turn_keeps (given (later g c)) (part_then (tried.tried.misfits c.if-try_place.false).seeks.on.does
-    (unbegun_keeps tried.begins tried.reached) c.make_room_or_count-turn.ensures.keeps)
+    (unbegun_keeps tried.begins tried.closes tried.reached) c.make_room_or_count-turn.ensures.keeps)
 
 pub returns-in-None-clause-made : goal.returns-in-None-clause-made
 returns-in-None-clause-made g c =

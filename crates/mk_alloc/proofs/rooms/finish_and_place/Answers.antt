@@ -1,5 +1,6 @@
 use Rattle.mk_alloc.proofs.SeekingTurns.{misfits_finished, room_finished, seeks_finished, tried_then}
 use Rattle.mk_alloc.proofs.{UnsweptTurns.{finish_keeps, keeps_then, unbegun_keeps}, OneCycles.finish_then_none}
+use Rattle.mk_alloc.proofs.FinishedCycles.{closed_longer}
 use Rattle.mk_cycle.proofs.HeldFirst.{finish_holds, first_then}
 use Rattle.mk_alloc.proofs.rooms.finish_and_place.Goals as goal
 
@@ -27,8 +28,15 @@ returns-clause-holds g c =
     let looked = c.try_place-placed.ensures.begins in
     first_then (finish_holds c.args.turn.in_order.own c.finish_cycle-turn.ensures.law) looked.more looked.is
 
+pub returns-clause-closed : goal.returns-clause-closed
+returns-clause-closed g c =
+    let placed = c.try_place-placed.ensures.begins in
+    closed_longer c.finish_cycle-turn.ensures.closed placed.more placed.is
+
 pub returns-clause-keeps : goal.returns-clause-keeps
 returns-clause-keeps g c =
     let finished = c.finish_cycle-turn.ensures in
-    keeps_then finished.law.pass (finish_keeps c.args.turn.in_order.own finished.law finished.reached)
-    (unbegun_keeps c.try_place-placed.ensures.begins c.try_place-placed.ensures.reached)
+    let placed = c.try_place-placed.ensures in
+    keeps_then finished.law.pass (finish_keeps c.finish_cycle-turn.new.engine c.args.turn.in_order finished.law
+    c.finish_cycle-turn.result.0.in_order.history finished.reached finished.told)
+    (unbegun_keeps placed.begins placed.closes placed.reached)

@@ -1,6 +1,7 @@
 use Rattle.mk_alloc.proofs.{Vocabulary.{Done, Misfits, ap, cycle_ended, ◌∙◌}, OneCycles.begin_then_ends}
-use Rattle.mk_alloc.proofs.{SeekingTurns.{idly_then, misfits_begun, still_needs, tried_then}, UnsweptTurns.then_leaves}
-use Rattle.mk_alloc.proofs.rooms.place_behind_cycle.Goals.{After-begin_cycle}
+use Rattle.mk_alloc.proofs.{SeekingTurns.{idly_then, misfits_begun, still_needs, tried_then}, UnsweptTurns.left_keeps}
+use Rattle.mk_alloc.proofs.{FinishedCycles.{begun_and_finished, never_by_none}, OneCycles.ends_none}
+use Rattle.mk_alloc.proofs.{SaidCloses.begin_says_none, rooms.place_behind_cycle.Goals.After-begin_cycle}
 use Rattle.mk_alloc.proofs.rooms.place_behind_cycle.Goals as goal
 
 -- the cycle that begins
@@ -31,5 +32,7 @@ returns-clause-one g c =
 pub returns-clause-keeps : goal.returns-clause-keeps
 returns-clause-keeps g c =
     let begins = c.begin_cycle.ensures in
-    then_leaves begins.law.pass (record { reached = begins.reached; begun = begins.begun })
-    c.finish_and_place.ensures.keeps c.finish_and_place.ensures.holds
+    let ends = c.finish_and_place.ensures in
+    left_keeps begins.law.pass begins.reached begins.begun (begin_says_none g.E.Engine.tells begins.law) ends.keeps
+    ends.holds (λ off. begun_and_finished g.E.Engine.closes c.finish_and_place.new.engine c.args.turn.in_order.own
+    begins.law ends.closed (never_by_none (ends_none ends.ends)))

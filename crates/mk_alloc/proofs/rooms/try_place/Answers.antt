@@ -1,4 +1,5 @@
 use Rattle.mk_alloc.proofs.{Vocabulary.{cases_Bool, inl, inr}, OneCycles.{looks_begins_none, placed_begins_none}}
+use Rattle.mk_alloc.proofs.OneCycles.{looks_close_none, placed_closes_none}
 use Rattle.mk_alloc.proofs.SeekingTurns.{misfits_here, seeks_placed}
 use Rattle.mk_alloc.proofs.rooms.try_place.Goals as goal
 
@@ -11,6 +12,15 @@ returns-clause-tried c =
           turn.history;
       misfits = λ none. misfits_here room (c.place_object.ensures.nowhere none) turn;
     }
+
+pub returns-clause-closes : goal.returns-clause-closes
+returns-clause-closes c =
+    let history = c.place_object.new.turn.in_order.history in
+    elim (cases_Bool c.place_object.result) [
+      | inl placed ↦ placed_closes_none c.requires.turn (c.place_object.ensures.placed placed) history
+      | inr misfits ↦
+          looks_close_none c.requires.turn (c.place_object.ensures.nowhere misfits).looks.does history
+    ]
 
 pub returns-clause-begins : goal.returns-clause-begins
 returns-clause-begins c =

@@ -4,6 +4,8 @@ use Rattle.mk_core.proofs.PhaseTests.{in_word, not_in_word}
 use Rattle.mk_heap.proofs.BegunHosts.{taken_then_sweeps}
 use Rattle.mk_heap.proofs.Overs.{HasLooked, finished, found_none, found_one, host_has, looked_idle, phase_found}
 use Rattle.mk_heap.proofs.{HomeCallers.taken_phase, ending.take_idle_turn.Goals.After-look-found}
+use Rattle.mk_alloc.proofs.SaidCloses.{finish_says}
+use Rattle.mk_heap.proofs.SaidHosts.{step_says_none, step_then_says, taken_then_says}
 use Rattle.mk_heap.proofs.ending.take_idle_turn.Goals as goal
 
 -- The host took the turn, and looked at the phase.
@@ -58,3 +60,16 @@ pub returns-else-is_in-clause-reached : goal.returns-else-is_in-clause-reached
 returns-else-is_in-clause-reached g c none =
     taken_then_sweeps c.take_turn-turn.ensures.takes
     (other_step_sweeps _ c.look-found.new.self.pass _ c.look-found.ensures.acts.makes refl)
+
+pub returns-then-is_in-clause-said : goal.returns-then-is_in-clause-said
+returns-then-is_in-clause-said g c =
+    let tells = g.E.Engine.tells in
+    taken_then_says tells c.take_turn-turn.ensures.takes (step_then_says tells c.look-found.ensures.acts.makes refl
+    (finish_says tells c.finish_cycle.new.engine c.look-found.new.self.in_order c.finish_cycle.ensures.law
+    c.finish_cycle.result.0.in_order.history c.finish_cycle.ensures.told))
+
+pub returns-else-is_in-clause-said : goal.returns-else-is_in-clause-said
+returns-else-is_in-clause-said g c =
+    let tells = g.E.Engine.tells in
+    taken_then_says tells c.take_turn-turn.ensures.takes
+    (step_says_none tells c.look-found.ensures.acts.makes refl)

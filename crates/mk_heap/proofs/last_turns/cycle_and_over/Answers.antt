@@ -1,4 +1,5 @@
 use Rattle.mk_alloc.proofs.{Below.Laws.Vocabulary.{ap, arith, subst, sym, ◌∙◌}, UnsweptTurns.keeps_then}
+use Rattle.mk_alloc.proofs.FinishedCycles.{Never, unbegun_finished}
 use Rattle.mk_alloc.specs.{Below.Words.Seats.HasCallers, Below.Words.States.WordsState}
 use Rattle.mk_heap.proofs.last_turns.cycle_and_over.Goals as goal
 use Rattle.mk_heap.proofs.{HostTurns.both_begin, LastTurns.{last_turns, still_behind_both}}
@@ -20,8 +21,18 @@ returns g c =
         is = c.over.ensures.host ∙ ap (λ (x : HostState). with_seen x over.pass.seen) c.cycle.ensures.host;
         still = still_behind_both c.args.heap.now h cycled over at.seat c.cycle.ensures.host told c.over.ensures.over;
         keeps = keeps_then (ap (λ (x : HostState). x.pass) c.cycle.ensures.host)
-            (record { reached = c.cycle.ensures.reached; begun = c.cycle.ensures.begun })
-            (record { reached = c.over.ensures.reached; begun = over_begun _ _ _ c.over.ensures.over });
+            (record {
+              reached = c.cycle.ensures.reached;
+              begun = c.cycle.ensures.begun;
+              said = c.cycle.ensures.said;
+              finished = λ off. c.cycle.ensures.finished;
+            })
+            (record {
+              reached = c.over.ensures.reached;
+              begun = over_begun _ _ _ c.over.ensures.over;
+              said = c.over.ensures.said;
+              finished = λ off. unbegun_finished g.E.Engine.closes (over_begun Never _ _ c.over.ensures.over);
+            });
       };
       turns =
           rw (c.over.ensures.engine c.cycle.ensures.idle) (last_turns c.args.heap.now h cycled over at.seat

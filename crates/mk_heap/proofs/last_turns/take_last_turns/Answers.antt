@@ -1,4 +1,5 @@
 use Rattle.mk_alloc.proofs.Below.Laws.Vocabulary.{false, subst, sym, ◌≡◌}
+use Rattle.mk_alloc.proofs.FinishedCycles.{Never, unbegun_finished}
 use Rattle.mk_alloc.specs.{Below.Words.Seats.HasCallers, Below.Words.States.WordsState}
 use Rattle.mk_heap.proofs.last_turns.take_last_turns.Goals as goal
 use Rattle.mk_heap.proofs.{HostTurns.over_begins, LastTurns.still_behind_over}
@@ -16,6 +17,8 @@ returns-else-with_cycle-clause-host g c =
       keeps = record {
         reached = c.over.ensures.reached;
         begun = over_begun g.E.Engine.begins p q c.over.ensures.over;
+        said = c.over.ensures.said;
+        finished = λ off. unbegun_finished g.E.Engine.closes (over_begun Never p q c.over.ensures.over);
       };
     }
 

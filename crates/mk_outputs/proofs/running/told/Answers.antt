@@ -21,4 +21,5 @@ returns g c =
     ∙ (ap (λ (program : List Item). front ++ kept_text program c.deref-2.result.now) c.program.ensures.program
     ∙ ap (λ (entries : List Kept). front ++ kept_text c.args.program.now entries) c.deref-2.ensures.value) in
     run_is_output c.args.options c.args.program.now c.in_ok-outcome.outcome c.in_ok-outcome.kept.items _ ran.runs
-    ran.begun ran.stops ran.markers ran.reached ran.kept (in_order _ _ _ _ _ _ texts c.in_ok-push_asked.ensures lines)
+    ran.begun ran.stops ran.markers ran.reached ran.swept ran.kept
+    (in_order _ _ _ _ _ _ texts c.in_ok-push_asked.ensures lines)

@@ -1,5 +1,6 @@
 use Rattle.mk_laws.proofs.Vocabulary.{ℕ, arith, subst, ◌∙◌, ◌≡◌}
-use Rattle.mk_run.proofs.{Vocabulary.{AreTextsFrom, config_of}, KeptScripts.{run_is_begun, run_is_unswept}}
+use Rattle.mk_run.proofs.{Vocabulary.{AreTextsFrom, config_of}, KeptScripts.{run_is_begun, run_is_finished}}
+use Rattle.mk_run.proofs.KeptScripts.{run_is_said, run_is_unswept}
 use Rattle.mk_heap.proofs.LastOvers.{run_ends_with_cycle}
 use Rattle.mk_run.proofs.WholeRuns.{is_run}
 use Rattle.mk_heap.specs.Reports.{MarkersAreBelow, history_of}
@@ -25,6 +26,8 @@ returns g c =
       cycle = λ asked. run_ends_with_cycle (config_of program markers) c.close-report.result made
           (beside.turns asked) end.history end.config end.whole;
       reached = run_is_unswept program markers made end.config end.history end.whole beside.keep;
+      said = run_is_said program markers made end.config end.history end.whole beside.keep;
+      finished = run_is_finished program markers made end.config end.history end.whole beside.keep;
       begun = run_is_begun program markers made end.config end.history end.whole beside.keep;
       markers = subst (λ (n : ℕ). MarkersAreBelow n (history_of c.close-report.result)) beside.over.same_markers
           end.markers;

@@ -6,6 +6,7 @@ use Rattle.mk_run.proofs.AtOnceOrLater.{IsAnsweredAs, answered_at_once, answered
 use Rattle.mk_run.proofs.scripts.run_script.Goals.{In-None, In-Some, Joined-answer_at_once, in-None}
 use Rattle.mk_run.{proofs.scripts.run_script.Goals.in-Some-answer_at_once, specs.Scripts.script_of}
 use Rattle.mk_heap.proofs.{Below.Cycles.Begun.nothing_begun, Below.Words.Sweeping.nothing_sweeps}
+use Rattle.mk_heap.proofs.Below.Objects.SaidCloses.{nothing_said}
 use Rattle.mk_heap.proofs.Dispatched.{put_off_waits, stays_admitted_after, then_seen}
 use Rattle.mk_run.proofs.scripts.run_script.Goals as goal
 
@@ -28,8 +29,10 @@ answer_at_once-requires-clause-admitted g c =
     next_admitted g (goal.at.answer_at_once-requires-clause-admitted g c).In-Some
 
 -- the operation is answered, at once or later
-joined : (g : _) (c : Joined-answer_at_once g) → IsAnsweredAs g.E.Engine.on g.E.Engine.sweeps g.E.Engine.begins
-    c.instructions.caller.pass c.in-Some.op c.match-answer_at_once.answer c.match-answer_at_once.caller
+joined : (g : _) (c : Joined-answer_at_once g)
+    → IsAnsweredAs g.E.Engine.on g.E.Engine.sweeps g.E.Engine.begins g.E.Engine.tells g.E.Engine.closes
+    c.instructions.caller.pass
+    c.in-Some.op c.match-answer_at_once.answer c.match-answer_at_once.caller
 joined g c =
     let q = c.answer_at_once.new.caller in
     let now = c.answer_at_once.ensures in
@@ -124,4 +127,4 @@ returns-in_err-take_answer g c =
     }
 
 pub instructions-init : goal.instructions-init
-instructions-init g c = grind (arith, refused_within, nothing_sweeps, nothing_begun)
+instructions-init g c = grind (arith, refused_within, nothing_sweeps, nothing_begun, nothing_said)

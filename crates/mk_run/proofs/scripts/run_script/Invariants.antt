@@ -9,7 +9,8 @@ invariant-instructions g l = record {
   running : IsRunning g.E.Engine.on l.fn.program l.fn.k l.fn.caller.pass l.caller.pass (script_of l.feed l.counts);
   made_for : g.E.Engine.made_for l.engine ≡ g.E.Engine.made_for l.fn.ready.engine;
   refused : l.counts.refused ≤ l.counts.ops;
-  keeps : PassKeeps g.E.Engine.sweeps g.E.Engine.begins l.fn.caller.pass l.caller.pass;
+  keeps : PassKeeps g.E.Engine.on g.E.Engine.sweeps g.E.Engine.begins g.E.Engine.tells g.E.Engine.closes
+      l.fn.caller.pass l.caller.pass;
 }
 
 abbrev pub decreases-instructions : goal.decreases-instructions

@@ -1,7 +1,17 @@
 use Rattle.mk_heap.proofs.LastOvers.{ends_weaker}
 use Rattle.mk_laws.proofs.Vocabulary.{refl}
 use Rattle.mk_run.proofs.{KeptScripts.same_by_seat, ObservedRuns.printed_runs_can_be_observed, Vocabulary.config_of}
+use Rattle.mk_run.proofs.SaidRuns.{finished_by_inner, said_by_inner}
+use Rattle.mk_why.specs.States.{WhyState}
 use Rattle.mk_run.proofs.why.run_why.Goals as goal
+
+pub returns-clause-said : goal.returns-clause-said
+returns-clause-said g c = said_by_inner (λ (why : WhyState _). why.inner) (λ why w told. told.0) c.in_ok-ran.ensures.said
+
+pub returns-clause-finished : goal.returns-clause-finished
+returns-clause-finished g c off =
+    finished_by_inner (λ (why : WhyState _). why.inner) (λ why p q closed. closed)
+    (c.in_ok-ran.ensures.finished off off)
 
 pub returns-clause-kept : goal.returns-clause-kept
 returns-clause-kept g c =

@@ -1,5 +1,5 @@
 use Rattle.mk_sweep.proofs.Vocabulary.{CellsAreClosed, PageIsBlack, PointWell, TurnState, WordsState, still_words}
-use Rattle.mk_sweep.proofs.{Vocabulary.words_below, SweptMarks.{SweepsInStop, closes, sweeping_behind, sweeps}}
+use Rattle.mk_sweep.proofs.{Vocabulary.words_below, SweptMarks.{SweepsInStop, closes, sweeping_behind, sweeps, told}}
 use Rattle.mk_sweep.proofs.{Kept.ready_of, closing.close_by_sweeping.Goals.After-sweep_in_stop}
 use Rattle.mk_cycle.proofs.Below.Laws.Vocabulary.{ℕ, ap, arith, length, slice_index, subst, sym, ◌<◌, ◌∙◌, ◌≡◌}
 use Rattle.mk_sweep.proofs.closing.close_by_sweeping.Goals as goal
@@ -52,6 +52,9 @@ returns-clause-law g c =
     c.sweep_in_stop.ensures.black)
     (subst (λ (x : WordsState). (pg : ℕ) → pg < x.config.pages → slice_index (still_words u.pass).dirty pg ≡ 0)
     (sym behind) c.sweep_in_stop.ensures.clean)
+
+pub returns-clause-told : goal.returns-clause-told
+returns-clause-told g c = told (in_stop g (goal.at.returns-clause-told g c).After-sweep_in_stop)
 
 pub returns-clause-sweeps : goal.returns-clause-sweeps
 returns-clause-sweeps g c =

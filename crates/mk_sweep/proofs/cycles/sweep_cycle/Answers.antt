@@ -1,4 +1,5 @@
-use Rattle.mk_sweep.proofs.WholeCycles.{releases_unswept}
+use Rattle.mk_sweep.proofs.{Vocabulary.Steady, WholeCycles.releases_unswept}
+use Rattle.mk_cycle.proofs.Below.Laws.Vocabulary.{ap}
 use Rattle.mk_sweep.proofs.cycles.sweep_cycle.Goals as goal
 
 pub returns-clause-cycle : goal.returns-clause-cycle
@@ -15,5 +16,5 @@ returns-clause-unswept g c =
     let begin = c.begin_cycle in
     let finish = c.finish_cycle-turn in
     releases_unswept c.args.turn.pass begin.new.turn.pass finish.result.0.pass _ begin.ensures.law.pass
-    begin.ensures.last finish.ensures.closed c.args.turn.in_order.own c.requires.markers finish.ensures.law.pass
+    begin.ensures.last (ap (λ (x : Steady). x.phase) begin.ensures.law.steady) finish.ensures.closed c.args.turn.in_order.own c.requires.markers finish.ensures.law.pass
     finish.result.0.in_order.history

@@ -8,6 +8,8 @@ use Rattle.mk_heap.proofs.MovedHosts.{finish_moves, idle_moves, moved_is_host, m
 use Rattle.mk_heap.proofs.Overs.{cycle_idle, give_allowed, given_no_turn, given_phase, idle_may_give}
 use Rattle.mk_heap.proofs.{BegunHosts.{cycle_begun, idle_then_sweeps}, HostsKept.{home_is, home_view, is_home}}
 use Rattle.mk_heap.{proofs.hosts.Host.cycle.Goals.{After-finish_cycle-turn}, specs.Hosts.{HostState}}
+use Rattle.mk_alloc.{proofs.SaidCloses.{begin_says_none, finish_says, said_then}, specs.Closes.{EachIsFinished, EachIsSaid}}
+use Rattle.mk_heap.proofs.{FinishedHosts.cycle_finished, SaidHosts.{idle_then_says, step_says_none}}
 use Rattle.mk_heap.proofs.hosts.Host.cycle.Goals as goal
 
 pub give-back-requires-clause-enabled : goal.give-back-requires-clause-enabled
@@ -81,6 +83,31 @@ returns-clause-begun g c =
     subst (λ (h : HostState). EachIsBegun g.E.Engine.begins h.pass q) view (cycle_begun g.E.Engine.begins
     c.take_idle_turn-turn.ensures.takes c.begin_cycle.ensures.law c.begin_cycle.ensures.begun
     c.finish_cycle-turn.ensures.law c.give-back.ensures.acts.makes)
+
+pub returns-clause-said : goal.returns-clause-said
+returns-clause-said g c =
+    let view = home_view c.take_home-home.ensures c.self.view_is in
+    let tells = g.E.Engine.tells in
+    let begun = c.begin_cycle.ensures in
+    let ended = c.finish_cycle-turn.ensures in
+    let b : PassState = c.begin_cycle.new.turn.pass in
+    let r : PassState = c.finish_cycle-turn.result.0.pass in
+    let q : PassState = c.give-back.result in
+    subst (λ (h : HostState). EachIsSaid tells h.pass q) view (idle_then_says tells
+    c.take_idle_turn-turn.ensures.takes c.take_idle_turn-turn.ensures.said (said_then tells
+    c.take_idle_turn-turn.result.pass b q begun.law.pass (begin_says_none tells begun.law) (said_then tells b r q
+    ended.law.pass (finish_says tells c.finish_cycle-turn.new.engine c.begin_cycle.new.turn.in_order ended.law
+    c.finish_cycle-turn.result.0.in_order.history ended.told)
+    (step_says_none tells c.give-back.ensures.acts.makes refl))))
+
+pub returns-clause-finished : goal.returns-clause-finished
+returns-clause-finished g c =
+    let view = home_view c.take_home-home.ensures c.self.view_is in
+    let closes = g.E.Engine.closes in
+    let q : PassState = c.give-back.result in
+    subst (λ (h : HostState). EachIsFinished closes h.pass q) view (cycle_finished closes
+    c.finish_cycle-turn.new.engine c.take_idle_turn-turn.ensures.takes c.begin_cycle.ensures.law
+    c.finish_cycle-turn.ensures.law c.finish_cycle-turn.ensures.closed c.give-back.ensures.acts.makes)
 
 pub take_home-home-requires : goal.take_home-home-requires
 take_home-home-requires g c = is_home _ _ _ c.self.invariant

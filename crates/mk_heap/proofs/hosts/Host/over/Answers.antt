@@ -5,6 +5,8 @@ use Rattle.mk_heap.proofs.{HostsKept.{home_is, home_view, is_home}, MovedHosts.{
 use Rattle.mk_heap.proofs.Overs.{give_allowed, given_no_turn, over_keeps, over_may_give, tidy_kept}
 use Rattle.mk_heap.proofs.{BegunHosts.{given_sweeps, idle_then_sweeps}, HomeCallers.callers_home}
 use Rattle.mk_heap.specs.{Ending.{CallersAreJoined, SaysOver}, Hosts.HostState}
+use Rattle.mk_alloc.specs.Closes.{EachIsSaid}
+use Rattle.mk_heap.proofs.SaidHosts.{idle_then_says, step_says_none, step_then_says}
 use Rattle.mk_heap.proofs.hosts.Host.over.Goals as goal
 
 pub give-back-requires-clause-enabled : goal.give-back-requires-clause-enabled
@@ -54,6 +56,15 @@ returns-clause-reached g c =
     λ none. subst (λ (h : HostState). SweepsNothing h.pass r) view
     (idle_then_sweeps c.take_idle_turn-turn.ensures.takes (c.take_idle_turn-turn.ensures.reached none)
     (given_sweeps c.over.ensures.makes c.give-back.ensures.acts.makes refl))
+
+pub returns-clause-said : goal.returns-clause-said
+returns-clause-said g c =
+    let view = home_view c.take_home-home.ensures c.self.view_is in
+    let tells = g.E.Engine.tells in
+    let r : PassState = c.give-back.result in
+    subst (λ (h : HostState). EachIsSaid tells h.pass r) view
+    (idle_then_says tells c.take_idle_turn-turn.ensures.takes c.take_idle_turn-turn.ensures.said
+    (step_then_says tells c.over.ensures.makes refl (step_says_none tells c.give-back.ensures.acts.makes refl)))
 
 pub take_home-home-requires : goal.take_home-home-requires
 take_home-home-requires g c = is_home _ _ _ c.self.invariant
