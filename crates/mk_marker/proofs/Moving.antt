@@ -10,7 +10,8 @@ use Rattle.mk_words.proofs.{Below.Laws.Changes.marks_kind, Doing.{done_in_parts,
 use Rattle.mk_words.proofs.Doing.{own_or_others_in_parts}
 use Rattle.mk_words.specs.Doing.{AreOwnOrOfOthers}
 use Rattle.mk_core.proofs.{Conditions.meets_enabled, WordBits.{bit_for_has, bits_added}}
-use Rattle.mk_core.specs.{Accesses.scan_bit, Bits.bit_for, Cells.words_scanned, Frames.{Attends, ScanIsLeft}, Growing.own_from}
+use Rattle.mk_core.specs.{Accesses.scan_bit, Bits.bit_for, Cells.words_scanned, Frames.{Attends, ScanIsLeft}}
+use Rattle.mk_core.specs.Growing.{own_from}
 use Rattle.mk_core.specs.{Words.named_word, declared.seats.Presence.TheVariants.Attending}
 use Rattle.mk_marker.specs.Steps.{ClaimsMarked, IsMarkedIn, IsOf, IsScanning, IsScanOf, MarksGrow, Moved, MovesMarker}
 use Rattle.mk_marker.specs.{Steps.words_left, Doing.finding, Markers.{attends, between_scans}}
@@ -113,7 +114,8 @@ claimed {p} cell {n = n} {q = q} at is m =
         bit = ap (λ (y : MarkerState). scan_bit y.scan) now;
       },
       ap (λ (y : MarkerState). words_left y) now
-          ∙ begun_left (64 * cell.page + cell.index * words_under (header_of cell.header)) (words_scanned (header_of cell.header)),
+          ∙ begun_left (64 * cell.page + cell.index * words_under (header_of cell.header))
+          (words_scanned (header_of cell.header)),
     )
   where
     begun_left : (a w : ℕ) → (a + w) - a ≡ w
