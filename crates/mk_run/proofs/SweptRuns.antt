@@ -10,9 +10,10 @@ use Rattle.mk_heap.specs.Below.Cycles.Begun.{CyclesHoldGatesFirst, DoesNothing, 
 use Rattle.mk_heap.specs.Below.Cycles.{Begun.only_holds, Closing.IsClosedBy, Kinds.{begins_marking, holds_gates}}
 use Rattle.mk_heap.specs.Below.Words.States.{PassState, event_of}
 use Rattle.mk_heap.proofs.Below.Objects.Vocabulary.{does_wider}
+use Rattle.mk_why.proofs.Below.Sweeps.CycleParts.{only_looks}
 use Rattle.mk_why.proofs.Below.Sweeps.{BesideTurn.unmade_markers, SweepCycles.{cycle, is_released_by_it}}
 use Rattle.mk_why.proofs.Below.Sweeps.SweepParts.{NoneOfMarkers, SweepParts, SweepsThenLooks, none_of_all, parts}
-use Rattle.mk_why.specs.{Below.Sweeps.Swept.IsSwept, Below.Sweeps.Sweeps.Sweeps, Stops.{IsClosedBefore, View}}
+use Rattle.mk_why.specs.{Below.Sweeps.Swept.IsSwept, Below.Sweeps.Sweeps.Sweeps, Stops.{IsClosedBefore, View, is_look}}
 use Rattle.mk_why.specs.Below.Sweeps.Swept.{SweptAreMarked}
 use Rattle.mk_run.{proofs.SaidRuns.said_is_swept, specs.Said.{CyclesAreFinished, CyclesAreSaid, CyclesReleaseTheUnswept}}
 use Rattle.mk_run.specs.Said.{CyclesSweep}
@@ -29,15 +30,18 @@ one_holds false leaves holds marks rest h m apart = (refl, h)
 one_holds true false holds marks rest h m apart = and_parts holds rest h
 one_holds true true holds marks rest h m apart = absurd (true≢false (apart m))
 
-marks_by_holding : (s : Seat) (es then : List Event) → only_holds false s (es ++ then) ≡ true
+marks_by_holding : (s : Seat) (es tail : List Event) → only_holds false s (es ++ tail) ≡ true
     → are_own_of begins_marking s es ≡ true → are_own_of holds_gates s es ≡ true
 unfolding only_holds
-marks_by_holding s [] then h m = refl
-marks_by_holding s (e ∷ es) then h m =
+marks_by_holding s [] tail h m = refl
+marks_by_holding s (e ∷ es) tail h m =
     let parts = and_parts (not (is_same_seat s e.seat) || begins_marking e.step) (are_own_of begins_marking s es) m in
     let one = one_holds (is_same_seat s e.seat) (leaves_begun e.step) (holds_gates e.step) (begins_marking e.step)
-    (only_holds false s (es ++ then)) h parts.0 (marking_stays e.step) in
-    cc (one.0, marks_by_holding s es then one.1 parts.1)
+    (only_holds false s (es ++ tail)) h parts.0 (marking_stays e.step) in
+    cc (one.0, marks_by_holding s es tail one.1 parts.1)
+
+look_only : (x : Step) → is_look x ≡ true → only_looks x ≡ true
+look_only x0 h = grind arith
 
 -- The first event of a kind is at one place.
 same_first : (kind : Step → Bool) (bs ds : List Event) (e f : Event) (es fs : List Event) → bs ++ e ∷ es ≡ ds ++ f ∷ fs
@@ -57,8 +61,11 @@ same_first kind (g ∷ bs) (i ∷ ds) e f es fs is b d x y =
     let all : g ∷ bs ≡ i ∷ ds = cc (head, rest.0) in
     (all, rest.1, rest.2)
 
-event_is : (e : Event) (s : Seat) → e.step ≡ Step.Begin → s ≡ e.seat → e ≡ record { seat = s; step = Step.Begin }
-event_is e s step seat = cc (step, seat)
+abbrev event_by : Seat → Step → Event
+event_by s x = record { seat = s; step = x }
+
+event_is : (e : Event) (s : Seat) → e.step ≡ Step.Begin → s ≡ e.seat → e ≡ event_by s Step.Begin
+event_is e s step seat = ap (event_by e.seat) step ∙ ap (λ (t : Seat). event_by t Step.Begin) (sym seat)
 
 module _ {V : Type 0} (looks : V → ℕ) {c : Config} {es : List Event} (history : IsHistory c es)
     (few : MarkersAreBelow 0 es) (stops : CyclesHoldGatesFirst c es)
@@ -81,7 +88,8 @@ module _ {V : Type 0} (looks : V → ℕ) {c : Config} {es : List Event} (histor
       part = record {
         inner = f.closed.part.inner;
         sweeps = f.closed.part.part;
-        looks_on = does_wider (λ x h. grind arith) f.closed.part.looks;
+        looks_on = does_wider is_look only_looks look_only f.closed.part.inner f.closed.makes.closing
+            f.closed.part.looks;
         still = record {
           words = ap (λ (v : View). v.words) f.closed.part.view;
           allocations = ap (λ (v : View). v.allocations) f.closed.part.view;

@@ -5,8 +5,7 @@ use Rattle.mk_run.proofs.ScriptCalls.{runs_on, seat_is}
 use Rattle.mk_run.proofs.AtOnceOrLater.{IsAnsweredAs, answered_at_once, answered_later}
 use Rattle.mk_run.proofs.scripts.run_script.Goals.{In-None, In-Some, Joined-answer_at_once, in-None}
 use Rattle.mk_run.{proofs.scripts.run_script.Goals.in-Some-answer_at_once, specs.Scripts.script_of}
-use Rattle.mk_heap.proofs.{Below.Cycles.Begun.nothing_begun, Below.Words.Sweeping.nothing_sweeps}
-use Rattle.mk_heap.proofs.Below.Objects.SaidCloses.{nothing_said}
+use Rattle.mk_heap.proofs.Below.Objects.UnsweptTurns.{keeps_still}
 use Rattle.mk_heap.proofs.Dispatched.{put_off_waits, stays_admitted_after, then_seen}
 use Rattle.mk_run.proofs.scripts.run_script.Goals as goal
 
@@ -127,4 +126,10 @@ returns-in_err-take_answer g c =
     }
 
 pub instructions-init : goal.instructions-init
-instructions-init g c = grind (arith, refused_within, nothing_sweeps, nothing_begun, nothing_said)
+instructions-init g c = record {
+  home = grind arith;
+  running = grind (arith, refused_within);
+  made_for = grind arith;
+  refused = grind (arith, refused_within);
+  keeps = keeps_still;
+}
