@@ -1,5 +1,6 @@
 pub mod Chains
 pub mod Entries
+pub mod LazyTables
 pub mod Listing
 pub mod Searching
 pub mod Sizes
