@@ -26,7 +26,11 @@ fn step_back(tables: &Tables, found: Found) -> Option<(u64, Found)>
     let Way::Link { link, from } = found.way else {
         return None;
     };
-    let Some(before) = tables.found.get(from as usize) else {
+    let place = from as usize;
+    if place >= tables.found.end() {
+        return None;
+    }
+    let Some(before) = tables.found.get(place) else {
         return None;
     };
     if before.links < found.links {
