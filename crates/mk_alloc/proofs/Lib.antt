@@ -35,6 +35,7 @@ pub mod LoadedFrees
 pub mod FreeSteps
 pub mod FreedOnce
 pub mod SetGates
+pub mod RunHeaders
 pub mod WipedRuns
 pub mod HeldFreed
 pub mod FreedObjects
