@@ -1,5 +1,6 @@
 -- What the header words of a run's pages say of them.
 use Rattle.mk_caller.proofs.Below.Laws.Vocabulary.{Bool, Header, IsSized, Object, Option, ap, arith, cond, false}
+use Rattle.mk_caller.proofs.Below.Laws.Vocabulary.{false_from_ne_true, small_pages}
 use Rattle.mk_caller.proofs.Below.Laws.Vocabulary.{header_at, header_made, header_of, is_small_object, large_count}
 use Rattle.mk_caller.proofs.Below.Laws.Vocabulary.{ne_eqb, pages_made, refl, run_header, suc, sym, true, true≢false}
 use Rattle.mk_caller.proofs.Below.Laws.Vocabulary.{unmapped_header, use_under, zero, Some, Words, ℕ, ◌*◌, ◌+◌, ◌-◌}
@@ -35,8 +36,12 @@ pub unmapped_use : (count d used : ℕ) → count ≤ 64 → d < count
     → use_under (header_of (unmapped_header count d)) used ≡ PartOfRun false
 unmapped_use count d used few near = word_use count false false d used (omega (arith, near)) few near
 
+-- an object that gets several pages is large
+pub is_large : (o : Object) → (pages_made o ≡ 1 → ⊥) → is_small_object o ≡ false
+is_large o several = false_from_ne_true _ (λ small. several (small_pages o small))
+
 -- the pages of a mapped run aren't unmapped
-is_of_mapped : PageUse → Bool
+abbrev is_of_mapped : PageUse → Bool
 is_of_mapped (PartOfRun mapped) = mapped
 is_of_mapped _ = false
 
