@@ -1,5 +1,6 @@
 -- What is asked of a New, and where it goes, by what its turn says.
-use Rattle.mk_caller.proofs.Below.Laws.Vocabulary.{List, Op, Option, Page, Place, Some, Steady, Step, ℕ, and_parts, false}
+use Rattle.mk_caller.proofs.Below.Laws.Vocabulary.{List, Op, Option, Page, Place, Some, Steady, Step, ℕ, and_parts}
+use Rattle.mk_caller.proofs.Below.Laws.Vocabulary.{false}
 use Rattle.mk_caller.proofs.Below.Laws.Vocabulary.{header_made, header_of, is_small_object, pages_made, subst}
 use Rattle.mk_caller.proofs.Below.Laws.Vocabulary.{use_under, ◌+◌, ◌≤◌}
 use Rattle.mk_caller.proofs.Below.Laws.Vocabulary.{and_right, ap, arith, eqb-true, false, free_page, header_at, length}

@@ -1,5 +1,6 @@
 -- The words of a run are wiped group by group.
-use Rattle.mk_caller.proofs.Below.Laws.Vocabulary.{Bool, Cell, Config, Flight, Hand, Header, Holding, Holds, List, Moment}
+use Rattle.mk_caller.proofs.Below.Laws.Vocabulary.{Bool, Cell, Config, Flight, Hand, Header, Holding, Holds, List}
+use Rattle.mk_caller.proofs.Below.Laws.Vocabulary.{Moment}
 use Rattle.mk_caller.proofs.Below.Laws.Vocabulary.{None, suc, use_under, word_of}
 use Rattle.mk_caller.proofs.Below.Laws.Vocabulary.{Option, Placing, RunPages, Seat, Some, Stage, Steady, Step, Word}
 use Rattle.mk_caller.proofs.Below.Laws.Vocabulary.{Words, World, Written, ℕ, address_of, all_below-at, and_from, ap}
@@ -131,7 +132,8 @@ module _ {p : PassState} {run : RunPages} (turn : IsTurn p) (may : MayUnmap p ru
 
   pub say_unmapped : HeadersSay (PartOfRun false) run.count headers
   say_unmapped d used near =
-      ap (λ (n : ℕ). use_under (header_of n) used) (unmapped_word run.count d) ∙ unmapped_use run.count d used may.few near
+      ap (λ (n : ℕ). use_under (header_of n) used) (unmapped_word run.count d)
+      ∙ unmapped_use run.count d used may.few near
 
   pub unmaps_to : (n : ℕ) (q : PassState) → n ≤ run.count → StoresHeads p run.page n headers q → HasUnmapped q n
   unmaps_to =

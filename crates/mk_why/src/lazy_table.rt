@@ -27,7 +27,7 @@ impl<T: Copy> Model for LazyTable<T> {
       rest = table.rest;
     } };
 
-    ghost invariant = { λ table. (length table.entries.items ≤ table.size) × (table.size ≤ vec_capacity table.entries) };
+    ghost invariant = { λ x. (length x.entries.items ≤ x.size) × (x.size ≤ vec_capacity x.entries) };
 }
 
 impl<T: Copy> LazyTable<T> {
@@ -47,7 +47,8 @@ impl<T: Copy> LazyTable<T> {
     /// Where the entries begin that were never set.
     pub(crate) fn end(&self) -> usize
         ensures within { result ≤ length self.now.items }
-        ensures rest { (place : ℕ) → result ≤ place → slice_index_or self.now.items place self.now.rest ≡ self.now.rest }
+        ensures rest { (place : ℕ) → result ≤ place
+            → slice_index_or self.now.items place self.now.rest ≡ self.now.rest }
     {
         self.entries.len()
     }
