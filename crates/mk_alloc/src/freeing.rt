@@ -38,9 +38,6 @@ pub fn free_object<E: Engine, R: Threads + Wait + Sync>(
         Ok(freed) => {
             let turn = run_if_due(rt, words, turn, engine, freed.due);
             caller.back(give(words, turn));
-            if freed.due {
-                words.let_late_first();
-            }
             Ok(freed)
         }
         Err(double) => {
