@@ -19,8 +19,7 @@ returns-clause-kept c k v told =
     let past = c.loop-base-test.false in
     let at_end : c.loop-base.base ≡ c.end-base-end.result = omega arith in
     let kept = c.args.tables.now.kept in
-    let none = λ place high. subst (λ (d : Option Storage). slice_index_or kept.items place d ≡ d)
-    c.args.tables.now.none_kept (c.end-base-end.ensures.rest place high) in
-    let below = subst (λ n. AreEntriesBelow k v n c.loop-base.entries.items) at_end
-    (c.loop-base.invariant.below k v told) in
-    entries_end told c.end-base-end.ensures.within none below
+    entries_end told c.end-base-end.ensures.within
+    (λ place high. subst (λ (d : Option Storage). slice_index_or kept.items place d ≡ d) c.args.tables.now.none_kept
+    (c.end-base-end.ensures.rest place high))
+    (subst (λ n. AreEntriesBelow k v n c.loop-base.entries.items) at_end (c.loop-base.invariant.below k v told))
