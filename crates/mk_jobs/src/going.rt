@@ -4,7 +4,7 @@ ghost use Rattle.mk_core.specs.Calls.{is_under_turn};
 ghost use Rattle.mk_heap.specs.Below.{Callers.States.{caller_of_pass, value_of}, Objects.Laws.OwnAreExact};
 ghost use Rattle.mk_heap.specs.Dispatching.{Answers, StaysAdmitted};
 ghost use Rattle.mk_jobs.specs.{Advancing.Clears, Jobs.HoldsAt};
-ghost use Rattle.mk_jobs.specs.Passes.{DoesJob, Founds, GoesToEnd, IsReady, KeepsNothing};
+ghost use Rattle.mk_jobs.specs.Passes.{Founds, GoesToEnd, HasDone, IsReady};
 
 use crate::advancing::{next_by, op_of};
 use crate::objects::Object;
@@ -101,10 +101,7 @@ pub fn do_job<O: Object, E: Engine, R: Threads + Wait + Sync>(
     job: O::Job,
 ) -> O::Done
     requires ready { IsReady O.plan E.made_for caller.old engine.old }
-    ensures ready { IsReady O.plan E.made_for caller.new engine.new }
-    ensures does { DoesJob O.plan caller.old.pass job result caller.new.pass }
-    ensures keeps { KeepsNothing O.plan caller.new.pass }
-    ensures exact { OwnAreExact E.on caller.old.pass → OwnAreExact E.on caller.new.pass }
+    ensures { HasDone O.plan E.made_for E.on caller.old job result caller.new engine.new }
 {
     let done = go::<O, E, R>(rt, caller, engine, O::starting(job));
     forget::<O, E, R>(rt, caller, engine);

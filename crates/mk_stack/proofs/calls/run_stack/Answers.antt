@@ -1,5 +1,5 @@
 use Rattle.mk_stack.proofs.Fitting.{is_within_limits}
-use Rattle.mk_stack.proofs.runs.run_stack.Goals as goal
+use Rattle.mk_stack.proofs.calls.run_stack.Goals as goal
 
 pub run-requires-clause-limits : goal.run-requires-clause-limits
 run-requires-clause-limits g c κs within =
