@@ -218,7 +218,8 @@ module _ {Job Done Point State : Type 0} {p : Plan Job Done Point} {left_by : St
         → Puts (length w.n.allocations) (Private k) w.role (to (Op.New d ty false) to').role
         → words_of (after_op w.n k (Op.New d ty false)) (length w.n.allocations) ≡ zero_words (kinds_of p.types ty)
         → c.Rely k w (to (Op.New d ty false) to') → OwnStays k w (to (Op.New d ty false) to')
-        → c.Local (to (Op.New d ty false) to') k to' u) → Deciding s u x u' x full → (c.Rely k w (to (Op.New d ty true) full)
+        → c.Local (to (Op.New d ty false) to') k to' u)
+        → Deciding s u x u' x full → (c.Rely k w (to (Op.New d ty true) full)
         → c.Local (to (Op.New d ty true) full) k full u') → Goes o t
     by_new {to' = to'} {full = none} {d = d} {ty = ty} asks lt same deciding made deciding' full =
         let new = creates_there there d ty lt in
@@ -227,9 +228,9 @@ module _ {Job Done Point State : Type 0} {p : Plan Job Done Point} {left_by : St
         ∙ ap (λ (ts : List (List Kind)). zero_words (kinds_of ts ty)) there.types in
         new_ways Goes asks (goes (Op.New d ty false) to' tt (λ a i j h. absurd h) (by_covers
         (Op.New d ty false) to' (by_grant new puts (next_is_unborn there)) deciding
-        (λ rely. made new puts words rely (own_granted new puts (next_is_unborn there))))) (goes (Op.New d ty true) none tt (λ a i j h. absurd h) (looks
-        (Op.New d ty true) none (refl, λ g. refl) same deciding' (λ rely alone.
-        full rely)))
+        (λ rely. made new puts words rely (own_granted new puts (next_is_unborn there)))))
+        (goes (Op.New d ty true) none tt (λ a i j h. absurd h) (looks (Op.New d ty true) none
+        (refl, λ g. refl) same deciding' (λ rely alone. full rely)))
 
     -- A word of an object of its own is stored.
     spares_own : (o : Op) {a : ℕ} → w.role a ≡ Private k → ((b i : ℕ) → StoresTo w.n k o b i → b ≡ a) → Spares o

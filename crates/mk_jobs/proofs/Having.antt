@@ -1,7 +1,7 @@
 -- What a caller has in its registers: the root that global 0 points to, an object of its own, or one that all may know;
 -- and what of it stays.
-use Rattle.mk_laws.proofs.Vocabulary.{List, None, Null, Option, Ptr, Value, allocation_at, global_at, length}
-use Rattle.mk_laws.proofs.Vocabulary.{refl, register_at, subst, sym, word_at, words_of, ℕ, ◌∙◌, ◌≡◌, ◌≢◌}
+use Rattle.mk_laws.proofs.Vocabulary.{List, None, Null, Option, Ptr, Value, allocation_at, global_at, inl, inr, length}
+use Rattle.mk_laws.proofs.Vocabulary.{refl, register_at, subst, sym, word_at, words_of, ℕ, ◌∙◌, ◌≡◌, ◌≢◌, ◌⊎◌}
 use Rattle.mk_jobs.specs.Keeping.{IsOf, IsShown, Private, Public, Role, Waits, World}
 use Rattle.mk_jobs.proofs.{Chains.IsPart, Clients.OwnStays, Heaps.{Creates, Stores}, Puts.Puts}
 
@@ -11,6 +11,12 @@ not_null a ty v e null = (let x : Ptr a ty 0 ≡ Null = sym e ∙ null in cc x)
 -- taken off, and freed or to be freed
 abbrev pub IsPassed : Role → Type 0
 IsPassed r = IsShown r × (r ≢ Public)
+
+pub public_or_passed : (r : Role) → IsShown r → (r ≡ Public) ⊎ IsPassed r
+public_or_passed Role.Public h = inl refl
+public_or_passed (Role.Taken k) h = inr (tt, λ e. cc e)
+public_or_passed Role.Gone h = inr (tt, λ e. cc e)
+public_or_passed _ h = absurd h
 
 -- an object of this type that all may know
 pub record IsShownOf (w : World) (ty a : ℕ) : Type 0 where
@@ -61,8 +67,8 @@ pub record IsFounder {Done : Type 0} (w : World) (k : ℕ) (u : Option Done) : T
 abbrev pub IsSame : World → World → ℕ → ℕ → Type 0
 IsSame w w' k r = register_at w'.n k r ≡ register_at w.n k r
 
--- What an operation of caller j leaves to the others: global 0 is set by the first alone and then stays. Objects of type
--- ty that all may know stay known, passed ones stay passed, and their final words stay.
+-- What an operation of caller j leaves to the others: global 0 is set by the first alone and then stays. Objects of
+-- type ty that all may know stay known, passed ones stay passed, and their final words stay.
 pub record Relies (Final : ℕ → Value → Type 0) (ty j : ℕ) (w w' : World) : Type 0 where
   pub founder : j ≢ 0 → global_at w'.n 0 ≡ global_at w.n 0
   pub root : global_at w.n 0 ≢ Null → global_at w'.n 0 ≡ global_at w.n 0

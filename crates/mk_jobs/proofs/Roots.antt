@@ -1,4 +1,4 @@
--- Objects with a root, to which global 0 points once it is placed: how the first caller founds them, and how jobs begin.
+-- Objects with a root, to which global 0 points once it is placed: how they are founded, and how jobs begin.
 use Rattle.mk_laws.proofs.Vocabulary.{Kind, List, None, Null, Op, Option, Ptr, Some, allocation_at, ap, arith}
 use Rattle.mk_laws.proofs.Vocabulary.{cases_eq, kinds_of, length, suc, zero, [], ◌∷◌, ◌≤◌}
 use Rattle.mk_laws.proofs.Vocabulary.{global_at, inl, inr, refl, register_at, subst, sym, ℕ, ◌∙◌, ◌≡◌, ◌≢◌, ◌⊎◌}

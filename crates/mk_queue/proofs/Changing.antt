@@ -1,24 +1,22 @@
 -- What holds of the nodes of a queue, and that it stays a queue.
-use Rattle.mk_laws.proofs.Vocabulary.{List, Null, Option, Ptr, ap, arith, cases_eq, global_at, inl, inr, refl, subst, sym}
-use Rattle.mk_laws.proofs.Vocabulary.{Value, word_at, ℕ, [], ◌∙◌, ◌≡◌, ◌≢◌, ◌⊎◌}
+use Rattle.mk_laws.proofs.Vocabulary.{List, Null, Option, Ptr, ap, arith, cases_eq, global_at, inl, inr, refl, subst}
+use Rattle.mk_laws.proofs.Vocabulary.{sym, Value, word_at, ℕ, [], ◌∙◌, ◌≡◌, ◌≢◌, ◌⊎◌}
 use Rattle.mk_jobs.specs.Keeping.{Covers, IsShown, Public, Role, Taken, World}
 use Rattle.mk_jobs.proofs.Chains.{IsPart, word_of}
-use Rattle.mk_jobs.proofs.Having.{IsPassed, IsShownOf, PointsTo, Relies, not_null, points_stay}
-use Rattle.mk_jobs.proofs.{Heaps.Stores, Puts.Puts, Relying.{onward_same, relies_covered, relies_stored}}
-use Rattle.mk_jobs.proofs.{Roots.shared_covered, Rows.{first_of, not_root, only_one, points_on, row_beside, row_covered}}
+use Rattle.mk_jobs.proofs.Having.{IsPassed, IsShownOf, PointsTo, Relies, not_null, points_stay, public_or_passed}
+use Rattle.mk_jobs.proofs.{Heaps.Stores, Puts.Puts, Roots.shared_covered}
+use Rattle.mk_jobs.proofs.Relying.{onward_same, relies_covered, relies_stored}
+use Rattle.mk_jobs.proofs.Rows.{first_of, not_root, only_one, points_on, row_beside, row_covered}
 use Rattle.mk_queue.specs.declared.jobs.Done.{Done}
 use Rattle.mk_queue.proofs.Invariant.{Final, HasHead, IsQueue, PassedAreLinked, Rely, Shared}
 
 -- A known node is shared, or linked to a node.
 public_or_linked : {w : World} {e : ℕ} {x : List ℕ} → IsQueue w e x → (a : ℕ) → IsShownOf w 0 a
     → (w.role a ≡ Public) ⊎ PointsTo w 0 (word_at w.n a 1)
-public_or_linked {w} q a h = by (w.role a) refl h.shown
-  where
-    by : (r : Role) → w.role a ≡ r → IsShown (w.role a) → (w.role a ≡ Public) ⊎ PointsTo w 0 (word_at w.n a 1)
-    by Role.Public e shown = inl e
-    by (Role.Taken k) e shown = inr (q.passed a h (λ f. (let y : Role.Taken k ≡ Public = sym e ∙ f in cc y)))
-    by Role.Gone e shown = inr (q.passed a h (λ f. (let y : Role.Gone ≡ Public = sym e ∙ f in cc y)))
-    by _ e shown = absurd (subst IsShown e shown)
+public_or_linked {w} q a h = elim (public_or_passed (w.role a) h.shown) [
+  | inl public ↦ inl public
+  | inr passed ↦ inr (q.passed a h passed.1)
+]
 
 pub may_point_on : {w : World} {e : ℕ} {x : List ℕ} {v : Value} → IsQueue w e x → (h : PointsTo w 0 v)
     → (word_at w.n h.a 1 ≡ Null) ⊎ PointsTo w 0 (word_at w.n h.a 1)

@@ -22,9 +22,7 @@ enqueues (Point.Ended Done.Full) = true
 enqueues _ = false
 
 pub enqueues_on : (s t : Point) (o : Op) (r : Reply) → Asks with_number (step_of s) o r t → enqueues t ≡ enqueues s
-enqueues_on (Point.Checking (Job.Enqueue n)) t o r asks = grind arith
-enqueues_on (Point.Checking Job.Dequeue) t o r asks = grind arith
-enqueues_on _ t o r asks = grind arith
+enqueues_on x0 t o r asks = grind arith
 
 -- An enqueue that didn't end as enqueued was full, and a dequeue that took no number found none.
 abbrev pub Fits : Bool → Done → Type 0

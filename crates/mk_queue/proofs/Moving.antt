@@ -5,16 +5,16 @@ use Rattle.mk_laws.proofs.Vocabulary.{subst, sym, word_at, ℕ, [], ◌++◌, �
 use Rattle.mk_never.specs.NeverHeap.{after_op}
 use Rattle.mk_jobs.specs.Keeping.{IsShown, IsThere, Private, Public, Taken, World}
 use Rattle.mk_jobs.proofs.{Chains.word_of, Heaps.Stores, Operations.{global_there, register_has}}
-use Rattle.mk_jobs.proofs.Clients.{Client, MovesAt, by_dropping, by_exchange, by_freeing, by_load, by_load_number, by_new}
-use Rattle.mk_jobs.proofs.Clients.{by_null, by_store, by_store_global, by_store_number, decides_so, leads, takes_public}
-use Rattle.mk_jobs.proofs.Clients.{undecided, was_decided, when_null, when_some}
+use Rattle.mk_jobs.proofs.Clients.{Client, MovesAt, by_dropping, by_exchange, by_freeing, by_load, by_load_number}
+use Rattle.mk_jobs.proofs.Clients.{by_new, by_null, by_store, by_store_global, by_store_number, decides_so, leads}
+use Rattle.mk_jobs.proofs.Clients.{takes_public, undecided, was_decided, when_null, when_some}
 use Rattle.mk_jobs.proofs.Having.{HasOwn, founder_on, has_word, not_null, own_beside, own_new, own_now}
 use Rattle.mk_jobs.proofs.Having.{own_stays, points_stay, root_stays}
 use Rattle.mk_jobs.proofs.Puts.{puts_one, puts_two}
 use Rattle.mk_jobs.proofs.Relying.{onward_own, onward_taken, onward_two, relies_freed, relies_placed, relies_stored}
 use Rattle.mk_jobs.proofs.Roots.{by_checking, by_starting, dropped, founded_still, none_passed, of_root, placed}
-use Rattle.mk_jobs.proofs.Roots.{shared_two, small_linked}
-use Rattle.mk_jobs.proofs.{Longer.row_longer, Roots.unfounded, Rows.{HasRow, first_of, not_root, points_first, row_popped}}
+use Rattle.mk_jobs.proofs.Roots.{shared_two, small_linked, unfounded}
+use Rattle.mk_jobs.proofs.{Longer.row_longer, Rows.{HasRow, first_of, not_root, points_first, row_popped}}
 use Rattle.mk_queue.specs.{Points.{holds, queue_plan}, Queue.left_by}
 use Rattle.mk_queue.specs.declared.{jobs.Done.{Done}, jobs.Job.{Job}, points.Point.{Point}}
 use Rattle.mk_queue.proofs.Invariant.{Local, Rely, Shared, done_without, job_at}
@@ -52,6 +52,7 @@ apart {w = w} {r = r} {r' = r'} there node root same =
 
 module _ {callers : ℕ} {w : World} {k : ℕ} {u : Option Done} {x : List ℕ} where
   pub moves : (s : Point) → MovesAt client callers w k u x s
+  unfolding root_stays points_stay ends
   -- The first caller creates the ends
   moves Point.Founding there shared local o t asks =
       by_new client u there shared asks refl (λ a. refl) (undecided client refl)
@@ -168,10 +169,7 @@ module _ {callers : ℕ} {w : World} {k : ℕ} {u : Option Done} {x : List ℕ} 
         undecided client refl,
         λ rely alone. (
           enqueuing rely refl refl alone local.0,
-          elim local.2 [
-            | inl null ↦ absurd (some null)
-            | inr to ↦ points_stay rely.stays refl to
-          ],
+          elim local.2 [ inl null ↦ absurd (some null) | inr to ↦ points_stay rely.stays refl to ],
         ),
       ))
   -- Its link is exchanged for the node, or another caller was first.
@@ -185,7 +183,8 @@ module _ {callers : ℕ} {w : World} {k : ℕ} {u : Option Done} {x : List ℕ} 
       let is_of = (register_has there 1 own.register).is_of in
       let public = last_is_public q old.a old.known null in
       let puts = puts_one Public own.register (λ a. refl) in
-      let stored = subst (λ (v : Value). Stores old.a 1 v w.n (after_op w.n k (Op.CasPtr 2 1 3 1))) own.register stores in
+      let stored = subst (λ (v : Value). Stores old.a 1 v w.n (after_op w.n k (Op.CasPtr 2 1 3 1))) own.register
+      stores in
       let stays = relies_stored stores (onward_own own.role puts) (λ h final. final null) in
       let end_word : (i : ℕ) → word_at (after_op w.n k (Op.CasPtr 2 1 3 1)) root.t i ≡ word_at w.n root.t i =
       λ i. word_of w.n (after_op w.n k (Op.CasPtr 2 1 3 1)) root.t i
@@ -243,15 +242,8 @@ module _ {callers : ℕ} {w : World} {k : ℕ} {u : Option Done} {x : List ℕ} 
         | inl none ↦ absurd (cc none.1)
         | inr to ↦ by_load client u there shared asks root.register refl (λ a. refl) (undecided client refl)
             (λ set rely alone. record {
-              ends = (
-                local.0,
-                record {
-                  t = root.t;
-                  global = set.globals 0 ∙ root.global;
-                  register = set.others 0 (λ e. omega arith) ∙ root.register;
-                },
-              );
-              node = record { a = to.a; is = set.here ∙ to.is; known = rely.stays.known to.a to.known };
+              ends = ends rely (set.others 0 (λ e. omega arith)) local;
+              node = points_stay rely.stays set.here to;
               was = rely.head root.t to.a root.global to.is;
             })
       ]
@@ -296,11 +288,7 @@ module _ {callers : ℕ} {w : World} {k : ℕ} {u : Option Done} {x : List ℕ} 
             (takes_first x _ second.left (sym left_is ∙ second.numbers))) (
               record {
                 number = _;
-                word = has_word (record {
-                  a = local.next.a;
-                  is = stores.registers k 3 ∙ local.next.is;
-                  known = stays.known local.next.a local.next.known;
-                }) tt;
+                word = has_word (points_stay stays (stores.registers k 3) local.next) tt;
                 owes = refl;
               },
               points_stay stays (stores.registers k 2) old,

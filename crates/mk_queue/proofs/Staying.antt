@@ -1,6 +1,6 @@
 -- What a caller has stays so after an operation on which it may rely.
-use Rattle.mk_laws.proofs.Vocabulary.{List, Null, Option, Value, arith, get_or, inl, inr, refl, register_at, subst, sym, ℕ, ◌∙◌}
-use Rattle.mk_laws.proofs.Vocabulary.{word_at, ◌≡◌, ◌≢◌}
+use Rattle.mk_laws.proofs.Vocabulary.{List, Null, Option, Value, arith, get_or, inl, inr, refl, register_at, subst, sym}
+use Rattle.mk_laws.proofs.Vocabulary.{ℕ, ◌∙◌, word_at, ◌≡◌, ◌≢◌}
 use Rattle.mk_jobs.specs.Keeping.{Waits, World}
 use Rattle.mk_jobs.proofs.{Clients.OwnStays}
 use Rattle.mk_jobs.proofs.Having.{HasOwn, IsSame, PointsTo, founder_waits, not_null, own_stays, own_waits, points_stay}
@@ -9,7 +9,7 @@ use Rattle.mk_queue.specs.declared.{jobs.Done.{Done}, points.Point.{Point}}
 use Rattle.mk_queue.proofs.Invariant.{HasEnds, HasHead, HasNext, HasTaken, IsEnqueuing, IsFounding, Local, Rely}
 
 module _ {j k : ℕ} {w w' : World} (rely : Rely j w w') where
-  pub ends : {u : Option Done} → IsSame w w' k 0 → HasEnds w k u → HasEnds w' k u
+  unfoldable pub ends : {u : Option Done} → IsSame w w' k 0 → HasEnds w k u → HasEnds w' k u
   ends same h = (h.0, root_stays rely.stays same h.1)
 
   pub enqueuing : {Also : List Value → Type 0} {u : Option Done} → IsSame w w' k 0 → IsSame w w' k 1

@@ -4,8 +4,8 @@ use Rattle.mk_laws.proofs.Vocabulary.{false≢true, inl, inr, number_of, refl, s
 use Rattle.mk_laws.proofs.Vocabulary.{sym, word_at, ℕ, [], ◌∙◌, ◌∷◌, ◌≡◌}
 use Rattle.mk_jobs.specs.Keeping.{Public, Taken, World}
 use Rattle.mk_jobs.proofs.Clients.{Client, MovesAt, by_exchange, by_freeing, by_load, by_load_number, by_new, by_null}
-use Rattle.mk_jobs.proofs.Clients.{by_store, by_store_global, by_store_number, decides_so, leads, takes_public, undecided}
-use Rattle.mk_jobs.proofs.Clients.{was_decided, when_null, when_some}
+use Rattle.mk_jobs.proofs.Clients.{by_store, by_store_global, by_store_number, decides_so, leads, takes_public}
+use Rattle.mk_jobs.proofs.Clients.{undecided, was_decided, when_null, when_some}
 use Rattle.mk_jobs.proofs.Having.{founder_on, has_word, not_null, own_new, own_now, own_stays, points_stay, word_stays}
 use Rattle.mk_jobs.proofs.{Operations.{global_there, register_has}, Puts.puts_one}
 use Rattle.mk_jobs.proofs.Relying.{onward_own, onward_taken, relies_placed, relies_stored}
@@ -33,7 +33,8 @@ none_left Job.Pop = refl
 
 pops_first : (x : List ℕ) (m : ℕ) (ys : List ℕ) → x ≡ m ∷ ys → left_by x Job.Pop (Done.Popped m) ≡ Some ys
 pops_first x m ys e =
-    ap (λ (l : List ℕ). left_by l Job.Pop (Done.Popped m)) e ∙ ap (λ (t : Bool). cond t (Some ys) None) (eq-eqb m m refl)
+    ap (λ (l : List ℕ). left_by l Job.Pop (Done.Popped m)) e
+    ∙ ap (λ (t : Bool). cond t (Some ys) None) (eq-eqb m m refl)
 
 module _ {callers : ℕ} {w : World} {k : ℕ} {u : Option Done} {x : List ℕ} where
   pub moves : (s : Point) → MovesAt client callers w k u x s
