@@ -1,6 +1,6 @@
 //! Tests of the running heap, with real threads.
 //! It promises nothing: the tests try what no clause says.
-//! Start with `rows`, then `lists` and `shared`, of which `stacks` and `queues` are two cases.
+//! Start with `rows`, then `lists` and `shared`.
 #![tactic(auto)]
 
 #[cfg(test)]
