@@ -9,18 +9,17 @@ mod marked_cycles;
 mod memory;
 mod paces;
 mod reports;
+mod runs;
+mod tables;
 mod texts;
 mod walks;
 
-use crate::top::markus;
-use mk_io::{MemSink, MemSource};
 use mk_outputs::Status;
-use mk_outputs::lower::heaps::{NoPace, Pace};
-use std::alloc::{AllocError, Global};
+use runs::{Case, ample, run};
+use std::alloc::Global;
 use std::sync::Wait;
-use std::test::Fail;
 use std::thread::Threads;
-use texts::behind;
+use tables::{Asks, all_hold, lines};
 
 const FIRST_RUN: &[u8] = b"heap 1 1\ntype A n*32\nscript s\nptr p A\nnum n\nnew p A\nconst n 7\n\
     setn p 1 n\nconst n 0\ngetn n p 1\nprint n\n";
@@ -136,146 +135,120 @@ a command behind `--` | -- run
 help without a command | --help
 ";
 
-/// A run: its words and its text; and of its source and of its sink, how many bytes a call moves at most, and the
-/// numbers of the calls that fail.
+/// What a row of `RUNS` says, after its name.
 #[derive(Clone, Copy)]
-struct Case<'a> {
-    words: &'a [&'a str],
-    text: &'a [u8],
-    source: (usize, &'a [u64]),
-    sink: (usize, &'a [u64]),
+struct Said<'a> {
+    words: &'a str,
+    text: &'a str,
+    ending: &'a str,
 }
 
-/// A run where nothing fails.
-fn ample<'a>(words: &'a [&'a str], text: &'a [u8]) -> Case<'a> {
-    Case {
+fn run_said(row: &str) -> Option<Said> {
+    let (_name, rest) = row.split_once(" | ")?;
+    let (words, rest) = rest.split_once(" | ")?;
+    let (text, ending) = rest.split_once(" -> ")?;
+    Some(Said {
         words,
         text,
-        source: (4096, &[]),
-        sink: (4096, &[]),
-    }
+        ending,
+    })
 }
 
-/// How the run of a case ends, and what it wrote.
-fn run<R: Threads + Wait + Sync>(
-    rt: &R,
-    alloc: Global,
-    case: &Case,
-) -> Result<(Status, Vec<u8>), AllocError> {
-    run_at(rt, alloc, case, &NoPace)
-}
-
-/// How the run of a case ends at a pace, and what it wrote.
-fn run_at<P: Pace + Sync, R: Threads + Wait + Sync>(
-    rt: &R,
-    alloc: Global,
-    case: &Case,
-    pace: &P,
-) -> Result<(Status, Vec<u8>), AllocError> {
-    let mut words = Vec::new(alloc);
-    for word in case.words {
-        words.push(String::from_str(alloc, word)?)?;
-    }
-    let (chunk, fails) = case.source;
-    let mut source = MemSource::new(case.text.to_vec(alloc)?, chunk.max(1), fails.to_vec(alloc)?);
-    let (chunk, fails) = case.sink;
-    let mut sink = MemSink::new(alloc, chunk.max(1), fails.to_vec(alloc)?);
-    sink.reserve(4096).map_err(|_| AllocError)?;
-    let status = markus(rt, alloc, &words, &mut source, &mut sink, pace);
-    Ok((status, sink.bytes().to_vec(alloc)?))
-}
-
-/// The words, the text and what is written, of a row of `RUNS`.
-fn run_said(row: &str) -> Option<(&str, &str, &str)> {
-    let (_name, rest) = row.split_once(" | ")?;
-    let (asked, rest) = rest.split_once(" | ")?;
-    let (text, ending) = rest.split_once(" -> ")?;
-    Some((asked, text, ending))
-}
-
-/// Whether a row of `RUNS` goes as it says.
-fn goes<R: Threads + Wait + Sync>(rt: &R, alloc: Global, row: &str) -> Result<bool, Fail> {
-    let Some((asked, text, ending)) = run_said(row) else {
-        return Ok(false);
-    };
-    let words: Vec<&str> = asked.split(' ').collect(alloc)?;
-    let text = behind(alloc, "", text)?;
-    let ending = behind(alloc, "", ending)?;
-    let (status, written) = run(rt, alloc, &ample(words.as_slice(), text.as_bytes()))?;
-    let told = status.text(alloc).map_err(|_| AllocError)?;
-    let found = if told.is_empty() { &written } else { &told };
-    Ok(found.as_slice() == ending.as_bytes() && (told.is_empty() || written.is_empty()))
+/// Whether a row as those of `RUNS` goes as it says.
+fn goes<R: Threads + Wait + Sync>(rt: &R, alloc: Global, row: &str) -> Option<bool> {
+    let said = run_said(row)?;
+    let text = lines(alloc, said.text)?;
+    let ending = lines(alloc, said.ending)?;
+    let ended = run(rt, alloc, &ample(said.words, text.as_bytes()))?;
+    Some(ended.is("", ending.as_str()) || ended.is(ending.as_str(), ""))
 }
 
 #[test]
-fn runs_end_as_they_should(rt: HostRuntime) -> Result<(), Fail> {
-    for row in RUNS.lines() {
-        assert!(rt; goes(&rt, rt.alloc(), row)?, "{row}");
-    }
+fn runs_end_as_they_should(rt: HostRuntime) {
+    all_hold(&rt, rt.alloc(), Asks::Run, RUNS);
+}
+
+/// Whether a run ends with a status, and writes no more than this.
+fn ends<R: Threads + Wait + Sync>(
+    rt: &R,
+    alloc: Global,
+    case: &Case,
+    status: Status,
+    written: &str,
+) -> Option<bool> {
+    let ended = run(rt, alloc, case)?;
+    Some(ended.status == status && ended.written.as_slice() == written.as_bytes())
+}
+
+#[test]
+fn a_byte_at_a_time_will_do(rt: HostRuntime) {
     let bytewise = Case {
         source: (1, &[]),
         sink: (1, &[]),
-        ..ample(&["run"], FIRST_RUN)
+        ..ample("run", FIRST_RUN)
     };
-    let (status, written) = run(&rt, rt.alloc(), &bytewise)?;
-    assert_eq!(rt; status, Status::Ok);
-    assert_eq!(rt; written.as_slice(), b"script s\n7\n".as_slice());
-    Ok(())
+    let found = ends(&rt, rt.alloc(), &bytewise, Status::Ok, "script s\n7\n");
+    assert!(rt; found == Some(true));
+}
+
+/// Whether the words of a row of `WORDS` are refused.
+pub fn are_no_words<R: Threads + Wait + Sync>(rt: &R, alloc: Global, row: &str) -> Option<bool> {
+    let (_name, words) = row.split_once(" | ")?;
+    ends(rt, alloc, &ample(words, FIRST_RUN), Status::Usage, "")
 }
 
 #[test]
-fn words_of_no_form_are_refused(rt: HostRuntime) -> Result<(), Fail> {
-    let (status, written) = run(&rt, rt.alloc(), &ample(&[], b""))?;
-    assert_eq!(rt; status, Status::Usage);
-    assert!(rt; written.is_empty());
-    for row in WORDS.lines() {
-        let (_name, words) = row.split_once(" | ").expect(&rt, "a name and words");
-        let words: Vec<&str> = words.split(' ').collect(rt.alloc())?;
-        let (status, written) = run(&rt, rt.alloc(), &ample(words.as_slice(), FIRST_RUN))?;
-        assert_eq!(rt; status, Status::Usage, "{row}");
-        assert!(rt; written.is_empty(), "{row}");
-    }
-    Ok(())
+fn words_of_no_form_are_refused(rt: HostRuntime) {
+    all_hold(&rt, rt.alloc(), Asks::Words, WORDS);
+    let found = ends(&rt, rt.alloc(), &ample("", b""), Status::Usage, "");
+    assert!(rt; found == Some(true));
+}
+
+/// Whether the first script ends so, if this call of 4 bytes fails.
+fn write_fails<R: Threads + Wait + Sync>(
+    rt: &R,
+    alloc: Global,
+    call: u64,
+    status: Status,
+    written: &str,
+) -> bool {
+    let case = Case {
+        sink: (4, &[call]),
+        ..ample("run", FIRST_RUN)
+    };
+    ends(rt, alloc, &case, status, written) == Some(true)
 }
 
 /// The first script writes 11 bytes, which are 3 calls of 4.
 #[test]
-fn a_write_may_fail_at_each_call(rt: HostRuntime) -> Result<(), Fail> {
-    for (call, expected, text) in [
-        (1, Status::WriteFault, ""),
-        (2, Status::WriteFault, "scri"),
-        (3, Status::WriteFault, "script s"),
-        (4, Status::Ok, "script s\n7\n"),
-    ] {
-        let fails = [call];
-        let case = Case {
-            sink: (4, &fails),
-            ..ample(&["run"], FIRST_RUN)
-        };
-        let (status, written) = run(&rt, rt.alloc(), &case)?;
-        assert_eq!(rt; status, expected, "call {call}");
-        assert_eq!(rt; written.as_slice(), text.as_bytes(), "call {call}");
-    }
-    Ok(())
+fn a_write_may_fail_at_each_call(rt: HostRuntime) {
+    let alloc = rt.alloc();
+    assert!(rt; write_fails(&rt, alloc, 1, Status::WriteFault, ""));
+    assert!(rt; write_fails(&rt, alloc, 2, Status::WriteFault, "scri"));
+    assert!(rt; write_fails(&rt, alloc, 3, Status::WriteFault, "script s"));
+    assert!(rt; write_fails(&rt, alloc, 4, Status::Ok, "script s\n7\n"));
 }
 
-/// `FIRST_RUN` has 102 bytes, which are 7 calls of 16 and one that finds the end.
-#[test]
-fn a_read_may_fail_at_each_call(rt: HostRuntime) -> Result<(), Fail> {
-    for call in 1..=9u64 {
-        let fails = [call];
-        let case = Case {
-            source: (16, &fails),
-            ..ample(&["run"], FIRST_RUN)
-        };
-        let (status, written) = run(&rt, rt.alloc(), &case)?;
-        let (expected, text): (Status, &[u8]) = if call <= 8 {
-            (Status::ReadFault, b"")
-        } else {
-            (Status::Ok, b"script s\n7\n")
-        };
-        assert_eq!(rt; status, expected, "call {call}");
-        assert_eq!(rt; written.as_slice(), text, "call {call}");
+/// Whether the first script ends as it should, if this call for 16 bytes fails. It has 102 bytes, which are 7 calls,
+/// and an eighth one finds the end.
+fn read_fails<R: Threads + Wait + Sync>(rt: &R, alloc: Global, call: u64) -> Option<bool> {
+    let case = Case {
+        source: (16, &[call]),
+        ..ample("run", FIRST_RUN)
+    };
+    if call <= 8 {
+        ends(rt, alloc, &case, Status::ReadFault, "")
+    } else {
+        ends(rt, alloc, &case, Status::Ok, "script s\n7\n")
     }
-    Ok(())
+}
+
+#[test]
+fn a_read_may_fail_at_each_call(rt: HostRuntime) {
+    for call in 1..=9u64 {
+        assert!(rt;
+            read_fails(&rt, rt.alloc(), call) == Some(true),
+            "call {call}"
+        );
+    }
 }

@@ -1,9 +1,9 @@
 //! First fit, the counts and what is given back, on pages that are worked out by hand.
 
-use super::geometry::{asked, cell_said, numbers};
+use super::geometry::{asked, cell_said, number, three};
+use super::tables::{Asks, all_hold};
 use mk_books::{Census, Page, Place, census, due, first_fit, free_pages, freeable, held_by_pages};
 use mk_geom::{Cell, FREE_PAGE};
-use std::test::Fail;
 
 /// A full block of cells of 32 words, a leaf block with its cell 1 free, a block with its cell 0 free, a
 /// free page, a mapped run of a page, and a free page.
@@ -61,20 +61,18 @@ fn place_said(words: &str) -> Option<Place> {
     Some(Place { page, index, carve })
 }
 
+/// Whether a row of `PLACES` holds.
+pub fn is_place(row: &str) -> Option<bool> {
+    let (of, said) = asked(row)?;
+    let [limit, words, leaf] = three(of)?;
+    Some(first_fit(&FRAGMENTED, limit, words, leaf == 1) == place_said(said))
+}
+
 #[test]
-fn the_first_place_that_fits_is_found(rt: HostRuntime) -> Result<(), Fail> {
-    for row in PLACES.lines() {
-        let (of, place) = asked(row).expect(&rt, "a row of three");
-        let given = numbers(rt.alloc(), of)?;
-        let found = match given.as_slice() {
-            [limit, words, leaf] => first_fit(&FRAGMENTED, *limit, *words, *leaf == 1),
-            _ => None,
-        };
-        assert_eq!(rt; found, place_said(place), "{row}");
-    }
+fn the_first_place_that_fits_is_found(rt: HostRuntime) {
+    all_hold(&rt, rt.alloc(), Asks::Place, PLACES);
     let found = first_fit(&AFTER_UNMAPPED, 2, 65, true);
-    assert_eq!(rt; found, place_said("cell 0 of page 1, new"));
-    Ok(())
+    assert!(rt; found == place_said("cell 0 of page 1, new"));
 }
 
 #[test]
@@ -88,12 +86,20 @@ fn books_are_those_of_the_pages(rt: HostRuntime) {
         resident: 4,
         free_cells,
     };
-    assert_eq!(rt; census(&FRAGMENTED), expected);
-    assert_eq!(rt; free_pages(&FRAGMENTED), 2);
-    assert_eq!(rt; census(&AFTER_UNMAPPED).resident, 0);
-    assert_eq!(rt; census(&AFTER_UNMAPPED).longest_range, 2);
-    assert_eq!(rt; held_by_pages(&FRAGMENTED), 64 + 32 + 32 + 64);
-    assert_eq!(rt; held_by_pages(&AFTER_UNMAPPED), 0);
+    assert!(rt; census(&FRAGMENTED) == expected);
+    assert!(rt; (free_pages(&FRAGMENTED), held_by_pages(&FRAGMENTED)) == (2, 64 + 32 + 32 + 64));
+}
+
+#[test]
+fn a_run_that_is_not_mapped_counts_for_nothing(rt: HostRuntime) {
+    let found = census(&AFTER_UNMAPPED);
+    assert!(rt;
+        (
+            found.resident,
+            found.longest_range,
+            held_by_pages(&AFTER_UNMAPPED)
+        ) == (0, 2, 0)
+    );
 }
 
 /// The words that were freed since the last cycle, and those that are held.
@@ -104,18 +110,16 @@ the greatest numbers | 18446744073709551615 18446744073709551615 | yes
 nothing | 0 0 | no
 ";
 
+/// Whether a row of `DUE` holds.
+pub fn is_due(row: &str) -> Option<bool> {
+    let (of, said) = asked(row)?;
+    let (fresh, held) = of.split_once(' ')?;
+    Some(due(number(fresh)?, number(held)?) == (said == "yes"))
+}
+
 #[test]
-fn a_cycle_is_due_by_what_is_fresh_and_held(rt: HostRuntime) -> Result<(), Fail> {
-    for row in DUE.lines() {
-        let (of, answer) = asked(row).expect(&rt, "a row of three");
-        let given = numbers(rt.alloc(), of)?;
-        let found = match given.as_slice() {
-            [fresh, held] => due(*fresh, *held),
-            _ => false,
-        };
-        assert_eq!(rt; if found { "yes" } else { "no" }, answer, "{row}");
-    }
-    Ok(())
+fn a_cycle_is_due_by_what_is_fresh_and_held(rt: HostRuntime) {
+    all_hold(&rt, rt.alloc(), Asks::Due, DUE);
 }
 
 #[test]

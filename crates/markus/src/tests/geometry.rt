@@ -1,10 +1,9 @@
 //! Classes, headers and addresses, worked out by hand. A row of a table is its name, what is asked, and the answer,
 //! with ` | ` between them.
 
+use super::tables::{Asks, all_hold};
 use mk_geom::{Cell, Header, cells, class_of, class_words, decode, encode, lookup, run_pages};
 use mk_script::parse_number;
-use std::alloc::{AllocError, Global};
-use std::test::Fail;
 
 /// A size in words, and the class of an object of that size.
 const CLASSES: &str = "\
@@ -111,15 +110,16 @@ pub fn asked(row: &str) -> Option<(&str, &str)> {
     rest.split_once(" | ")
 }
 
-/// The numbers of a text, between which there is a space. Words that are no numbers are left out.
-pub fn numbers(alloc: Global, text: &str) -> Result<Vec<u64>, AllocError> {
-    let mut found = Vec::new(alloc);
-    for word in text.split(' ') {
-        if let Some(number) = parse_number(word.as_bytes()) {
-            found.push(number)?;
-        }
-    }
-    Ok(found)
+/// The number that a word is.
+pub fn number(word: &str) -> Option<u64> {
+    parse_number(word.as_bytes())
+}
+
+/// The three numbers that a text has, with a space between them.
+pub fn three(text: &str) -> Option<[u64; 3]> {
+    let (first, rest) = text.split_once(' ')?;
+    let (second, third) = rest.split_once(' ')?;
+    Some([number(first)?, number(second)?, number(third)?])
 }
 
 /// The header that is said; none for `none`.
@@ -127,19 +127,22 @@ fn header_said(words: &str) -> Option<Header> {
     if words == "free" {
         return Some(Header::Free);
     }
-    let (sort, number) = words.rsplit_once(' ')?;
-    let number = parse_number(number.as_bytes())?;
+    let (sort, count) = words.rsplit_once(' ')?;
+    header_of(sort, number(count)?)
+}
+
+fn header_of(sort: &str, count: u64) -> Option<Header> {
     let mapped = !sort.starts_with("unmapped ");
     match sort {
-        "block" => Some(Header::Block(number)),
-        "leaf block" => Some(Header::LeafBlock(number)),
-        "leaf run" => Some(Header::LeafRun { pages: number }),
+        "block" => Some(Header::Block(count)),
+        "leaf block" => Some(Header::LeafBlock(count)),
+        "leaf run" => Some(Header::LeafRun { pages: count }),
         "run" | "unmapped run" => Some(Header::Run {
-            pages: number,
+            pages: count,
             mapped,
         }),
         "later" | "unmapped later" => Some(Header::Later {
-            distance: number,
+            distance: count,
             mapped,
         }),
         _ => None,
@@ -150,67 +153,81 @@ fn header_said(words: &str) -> Option<Header> {
 pub fn cell_said(words: &str) -> Option<Cell> {
     let (index, page) = words.strip_prefix("cell ")?.split_once(" of page ")?;
     Some(Cell {
-        page: parse_number(page.as_bytes())?,
-        index: parse_number(index.as_bytes())?,
+        page: number(page)?,
+        index: number(index)?,
     })
+}
+
+/// Whether a row of `CLASSES` holds.
+pub fn is_class(row: &str) -> Option<bool> {
+    let (of, said) = asked(row)?;
+    Some(class_of(number(of)?) == number(said))
 }
 
 #[test]
 fn small_objects_have_the_least_class(rt: HostRuntime) {
-    for row in CLASSES.lines() {
-        let (words, class) = asked(row).expect(&rt, "a row of three");
-        let words = parse_number(words.as_bytes()).expect(&rt, "a number");
-        assert_eq!(rt; class_of(words), parse_number(class.as_bytes()), "{row}");
+    all_hold(&rt, rt.alloc(), Asks::Class, CLASSES);
+}
+
+/// Of each class, in order, the words of a cell and how many cells a block has. Its tail, which is less than a cell,
+/// has none.
+const CELLS: [(u64, u64); 8] = [
+    (2, 32),
+    (4, 16),
+    (6, 10),
+    (8, 8),
+    (12, 5),
+    (16, 4),
+    (24, 2),
+    (32, 2),
+];
+
+#[test]
+fn blocks_have_whole_cells(rt: HostRuntime) {
+    for class in 0..8 {
+        let found = (class_words(class), cells(class));
+        assert!(rt; found == CELLS[class as usize], "class {class}");
     }
 }
 
-/// A block's tail, which is less than a cell, has no cell.
-#[test]
-fn blocks_have_whole_cells(rt: HostRuntime) {
-    let words = [2, 4, 6, 8, 12, 16, 24, 32];
-    let counts = [32, 16, 10, 8, 5, 4, 2, 2];
-    for class in 0..8 {
-        assert_eq!(rt; class_words(class), words[class as usize], "class {class}");
-        assert_eq!(rt; cells(class), counts[class as usize], "class {class}");
-    }
+/// Whether a row of `RUNS` holds.
+pub fn are_pages(row: &str) -> Option<bool> {
+    let (of, said) = asked(row)?;
+    Some(Some(run_pages(number(of)?)) == number(said))
 }
 
 #[test]
 fn runs_have_whole_pages(rt: HostRuntime) {
-    for row in RUNS.lines() {
-        let (words, pages) = asked(row).expect(&rt, "a row of three");
-        let words = parse_number(words.as_bytes()).expect(&rt, "a number");
-        assert_eq!(rt;
-            Some(run_pages(words)),
-            parse_number(pages.as_bytes()),
-            "{row}"
-        );
+    all_hold(&rt, rt.alloc(), Asks::Pages, RUNS);
+}
+
+/// Whether a word is that of a header, or of none.
+fn is_word_of(word: u64, said: Option<Header>) -> bool {
+    match decode(word) {
+        Some(header) => Some(header) == said && encode(header) == word,
+        None => said.is_none(),
     }
+}
+
+/// Whether a row of `HEADERS` holds.
+pub fn is_header(row: &str) -> Option<bool> {
+    let (of, said) = asked(row)?;
+    Some(is_word_of(number(of)?, header_said(said)))
 }
 
 #[test]
 fn words_of_each_kind_within_and_outside_their_limits(rt: HostRuntime) {
-    for row in HEADERS.lines() {
-        let (word, says) = asked(row).expect(&rt, "a row of three");
-        let word = parse_number(word.as_bytes()).expect(&rt, "a number");
-        let header = decode(word);
-        assert_eq!(rt; header, header_said(says), "{row}");
-        if let Some(header) = header {
-            assert_eq!(rt; encode(header), word, "{row}");
-        }
-    }
+    all_hold(&rt, rt.alloc(), Asks::Header, HEADERS);
+}
+
+/// Whether a row of `ADDRESSES` holds.
+pub fn is_address(row: &str) -> Option<bool> {
+    let (of, said) = asked(row)?;
+    let [pages, header, address] = three(of)?;
+    Some(lookup(pages, header, address) == cell_said(said))
 }
 
 #[test]
-fn addresses_point_into_cells_and_runs(rt: HostRuntime) -> Result<(), Fail> {
-    for row in ADDRESSES.lines() {
-        let (of, cell) = asked(row).expect(&rt, "a row of three");
-        let given = numbers(rt.alloc(), of)?;
-        let found = match given.as_slice() {
-            [pages, header, address] => lookup(*pages, *header, *address),
-            _ => None,
-        };
-        assert_eq!(rt; found, cell_said(cell), "{row}");
-    }
-    Ok(())
+fn addresses_point_into_cells_and_runs(rt: HostRuntime) {
+    all_hold(&rt, rt.alloc(), Asks::Address, ADDRESSES);
 }

@@ -1,14 +1,12 @@
 //! Runs that hold instructions back until others came to their place: so scripts and markers are on threads of their
 //! own.
 
-use super::texts::behind;
-use super::{ample, run_at};
-use mk_outputs::Status;
+use super::runs::{ample, run_at};
+use super::tables::{Asks, all_hold, lines};
 use mk_outputs::lower::heaps::Pace;
 use std::alloc::Global;
 use std::sync::Wait;
 use std::sync::atomic::{AtomicBool, AtomicU64, Ordering};
-use std::test::Fail;
 use std::thread::{Threads, yield_now};
 
 /// How often one waits for a moment that doesn't come.
@@ -183,89 +181,85 @@ const DUE: &str = "heap 1 1/type A n*32/script s/ptr p A/new p A/free p/show p/ 
 pub(super) fn writes<P: Pace + Sync, R: Threads + Wait + Sync>(
     rt: &R,
     alloc: Global,
-    words: &[&str],
+    words: &str,
     row: &str,
     pace: &P,
-) -> Result<bool, Fail> {
-    let row = behind(alloc, "", row)?;
-    let Some((text, written)) = row.split_once(" -> ") else {
-        return Ok(false);
-    };
-    let (status, found) = run_at(rt, alloc, &ample(words, text.as_bytes()), pace)?;
-    Ok(status == Status::Ok && found.as_slice() == written.as_bytes())
+) -> Option<bool> {
+    let row = lines(alloc, row)?;
+    let (text, written) = row.split_once(" -> ")?;
+    Some(run_at(rt, alloc, &ample(words, text.as_bytes()), pace)?.is("", written))
 }
 
 /// Whether it does so while an instruction is held back, and the moment for which it waits comes.
 fn writes_held<R: Threads + Wait + Sync>(
     rt: &R,
     alloc: Global,
-    words: &[&str],
+    words: &str,
     row: &str,
-    hold: &Hold,
-) -> Result<bool, Fail> {
-    Ok(writes(rt, alloc, words, row, hold)? && hold.has_held())
+    hold: Hold,
+) -> bool {
+    writes(rt, alloc, words, row, &hold) == Some(true) && hold.has_held()
+}
+
+/// Whether it does so while two instructions are.
+fn writes_both_held<R: Threads + Wait + Sync>(
+    rt: &R,
+    alloc: Global,
+    row: &str,
+    one: Hold,
+    other: Hold,
+) -> bool {
+    let both = Both { one, other };
+    writes(rt, alloc, "run", row, &both) == Some(true) && both.have_held()
 }
 
 /// No order of whole scripts and no single thread ends these.
 #[test]
-fn scripts_run_beside_each_other(rt: HostRuntime) -> Result<(), Fail> {
+fn scripts_run_beside_each_other(rt: HostRuntime) {
     let behind_the_other = Hold::new(at_instruction(1, 0), Moment::Answered, at_instruction(2, 0));
-    assert!(rt; writes_held(&rt, rt.alloc(), &["run"], THREE, &behind_the_other)?);
-    let both = Both {
-        one: Hold::new(at_instruction(1, 1), Moment::Before, at_instruction(2, 1)),
-        other: Hold::new(at_instruction(2, 1), Moment::Before, at_instruction(1, 1)),
-    };
-    assert!(rt; writes(&rt, rt.alloc(), &["run"], THREE, &both)?);
-    assert!(rt; both.have_held());
-    Ok(())
+    assert!(rt; writes_held(&rt, rt.alloc(), "run", THREE, behind_the_other));
+    let one = Hold::new(at_instruction(1, 1), Moment::Before, at_instruction(2, 1));
+    let other = Hold::new(at_instruction(2, 1), Moment::Before, at_instruction(1, 1));
+    assert!(rt; writes_both_held(&rt, rt.alloc(), THREE, one, other));
 }
 
 /// A load that comes after a store, or before it, is answered so.
 #[test]
-fn loads_are_answered_in_their_order(rt: HostRuntime) -> Result<(), Fail> {
+fn loads_are_answered_in_their_order(rt: HostRuntime) {
     let load_later = Hold::new(at_instruction(1, 0), Moment::Answered, at_instruction(0, 1));
-    assert!(rt; writes_held(&rt, rt.alloc(), &["run"], LOAD_BEHIND, &load_later)?);
+    assert!(rt; writes_held(&rt, rt.alloc(), "run", LOAD_BEHIND, load_later));
     let store_later = Hold::new(at_instruction(0, 1), Moment::Answered, at_instruction(1, 0));
-    assert!(rt; writes_held(&rt, rt.alloc(), &["run"], LOAD_BEFORE, &store_later)?);
-    Ok(())
+    assert!(rt; writes_held(&rt, rt.alloc(), "run", LOAD_BEFORE, store_later));
 }
 
 /// A store that is told as answered was made, and one that is about to run wasn't. The script of the load has an
 /// instruction before it and one after it.
 #[test]
-fn a_pace_is_told_in_time(rt: HostRuntime) -> Result<(), Fail> {
+fn a_pace_is_told_in_time(rt: HostRuntime) {
     let store = at_instruction(0, 1);
-    let answered = Both {
-        one: Hold::new(at_instruction(1, 1), Moment::Answered, store),
-        other: Hold::at(
-            Moment::Answered,
-            store,
-            Moment::Before,
-            at_instruction(1, 2),
-        ),
-    };
-    assert!(rt; writes(&rt, rt.alloc(), &["run"], LOAD_WHILE_ANSWERED, &answered)?);
-    assert!(rt; answered.have_held());
-    let about_to_run = Both {
-        one: Hold::at(
-            Moment::Answered,
-            at_instruction(1, 0),
-            Moment::Before,
-            store,
-        ),
-        other: Hold::new(store, Moment::Answered, at_instruction(1, 1)),
-    };
-    assert!(rt; writes(&rt, rt.alloc(), &["run"], LOAD_WHILE_TO_COME, &about_to_run)?);
-    assert!(rt; about_to_run.have_held());
-    Ok(())
+    let answered = Hold::new(at_instruction(1, 1), Moment::Answered, store);
+    let held = Hold::at(
+        Moment::Answered,
+        store,
+        Moment::Before,
+        at_instruction(1, 2),
+    );
+    assert!(rt; writes_both_held(&rt, rt.alloc(), LOAD_WHILE_ANSWERED, answered, held));
+    let held = Hold::at(
+        Moment::Answered,
+        at_instruction(1, 0),
+        Moment::Before,
+        store,
+    );
+    let about_to_run = Hold::new(store, Moment::Answered, at_instruction(1, 1));
+    assert!(rt; writes_both_held(&rt, rt.alloc(), LOAD_WHILE_TO_COME, held, about_to_run));
 }
 
 /// The free begins a cycle that goes on after it, and what comes next waits until a marker scanned a cell.
 #[test]
-fn a_marker_marks_beside_a_script(rt: HostRuntime) -> Result<(), Fail> {
+fn a_marker_marks_beside_a_script(rt: HostRuntime) {
     let scanned = Hold::new(at_instruction(0, 2), Moment::Marked, at_instruction(0, 2));
-    assert!(rt; writes_held(&rt, rt.alloc(), &["run", "--markers", "1"], DUE, &scanned)?);
-    Ok(())
+    assert!(rt; writes_held(&rt, rt.alloc(), "run --markers 1", DUE, scanned));
 }
 
 /// Counts the calls of each method.
@@ -310,22 +304,37 @@ run --markers 1
 run --markers 1 --why
 ";
 
-/// A program runs once, whichever way: there is one `before` and one `answered` for each of the six instructions. Where
-/// there are no markers, none is told of.
-#[test]
-fn each_instruction_is_paced_once(rt: HostRuntime) -> Result<(), Fail> {
-    for way in WAYS.lines() {
-        let words: Vec<&str> = way.split(' ').collect(rt.alloc())?;
-        let counts = Counts::new();
-        assert!(rt;
-            writes(&rt, rt.alloc(), words.as_slice(), THREE, &counts)?,
-            "{way}"
-        );
-        assert_eq!(rt; counts.before.load(Ordering::SeqCst), 6, "{way}");
-        assert_eq!(rt; counts.answered.load(Ordering::SeqCst), 6, "{way}");
-    }
+/// What a run that writes what the row says is told of instructions and of cells.
+fn counted<R: Threads + Wait + Sync>(
+    rt: &R,
+    alloc: Global,
+    words: &str,
+    row: &str,
+) -> Option<Counts> {
     let counts = Counts::new();
-    assert!(rt; writes(&rt, rt.alloc(), &["run"], DUE, &counts)?);
+    if writes(rt, alloc, words, row, &counts)? {
+        Some(counts)
+    } else {
+        None
+    }
+}
+
+/// Whether a program that runs in this way is paced once for each instruction.
+pub fn is_paced_once<R: Threads + Wait + Sync>(rt: &R, alloc: Global, row: &str) -> Option<bool> {
+    let counts = counted(rt, alloc, row, THREE)?;
+    let before = counts.before.load(Ordering::SeqCst);
+    Some(before == 6 && counts.answered.load(Ordering::SeqCst) == 6)
+}
+
+/// A program runs once, whichever way: there is one `before` and one `answered` for each of the six instructions.
+#[test]
+fn each_instruction_is_paced_once(rt: HostRuntime) {
+    all_hold(&rt, rt.alloc(), Asks::Way, WAYS);
+}
+
+/// Where there are no markers, none is told of.
+#[test]
+fn no_marker_marks_where_there_is_none(rt: HostRuntime) {
+    let counts = counted(&rt, rt.alloc(), "run", DUE).expect(&rt, "what the row says");
     assert_eq!(rt; counts.marked.load(Ordering::SeqCst), 0);
-    Ok(())
 }

@@ -1,7 +1,6 @@
 //! What `run --report` counts, reckoned by hand from the rules of `docs/SCRIPTS.md`.
 
-use super::goes;
-use std::test::Fail;
+use super::tables::{Asks, all_hold};
 
 /// Rows as those of `RUNS`. A cell has 32 words here and a run 64. How each comes about, in order:
 ///
@@ -50,9 +49,6 @@ a last cycle beside a marker | run --markers 1 --report --why | \
 ";
 
 #[test]
-fn reports_count_as_reckoned(rt: HostRuntime) -> Result<(), Fail> {
-    for row in COUNTED.lines() {
-        assert!(rt; goes(&rt, rt.alloc(), row)?, "{row}");
-    }
-    Ok(())
+fn reports_count_as_reckoned(rt: HostRuntime) {
+    all_hold(&rt, rt.alloc(), Asks::Run, COUNTED);
 }

@@ -1,14 +1,15 @@
 //! Texts, and the line that is reported for each: the first fault, or none.
 
-use super::{ample, run};
-use std::alloc::{AllocError, Global};
+use super::geometry::number;
+use super::runs::{ample, run};
+use super::tables::{Asks, all_hold, lines};
+use std::alloc::Global;
 use std::sync::Wait;
-use std::test::Fail;
 use std::thread::Threads;
 
 /// Texts of one beginning.
 #[derive(Clone, Copy)]
-struct Group {
+pub struct Group {
     command: &'static str,
     front: &'static str,
     /// A line for each: its name and ` | `, how it goes on, with `/` for a newline, and ` -> ` and the line that is
@@ -40,7 +41,7 @@ an empty line | heap 1 1// -> line 2: word
 
 const TYPES: Group = Group {
     command: "print",
-    front: "heap 1 1\n",
+    front: "heap 1 1/",
     texts: "\
 a type, and no scripts | type A n -> line 2: limit scripts 0
 a type of the greatest size | type A n*4096 -> line 2: limit scripts 0
@@ -62,7 +63,7 @@ names of a type, a global and a script that are alike | type A n/global A A/scri
 
 const LINES: Group = Group {
     command: "print",
-    front: "heap 1 1\nscript s\n",
+    front: "heap 1 1/script s/",
     texts: "\
 a pointer with an offset | ptr p A+1 -> fine
 a word in place of an offset | ptr p A+x -> line 3: number
@@ -98,7 +99,7 @@ a block that is open at the end | repeat 2/if n/end -> line 5: end
 
 const ILL_TYPED: Group = Group {
     command: "check",
-    front: "heap 1 1\ntype A n p:A+1\nglobal g A\nscript s\nptr p A\nptr r A+1\nnum n\n",
+    front: "heap 1 1/type A n p:A+1/global g A/script s/ptr p A/ptr r A+1/num n/",
     texts: "\
 a type that there isn't, before another fault | new p B/free q -> line 8: no type
 a new object for an interior pointer | new r A -> line 8: kind
@@ -133,7 +134,7 @@ a second `schedule` | heap 1 1/script s/schedule/h take/schedule/ -> line 5: wor
 
 const EVENTS: Group = Group {
     command: "replay",
-    front: "heap 1 1\nscript s\nschedule\n",
+    front: "heap 1 1/script s/schedule/",
     texts: "\
 two spaces between words, and between events | h  take;  give -> fine
 spaces at both ends |  h take  -> fine
@@ -156,195 +157,169 @@ a second event that does not meet its own condition | m3 attend; claim 0 0 -> li
 ",
 };
 
-/// What is said of the text.
-fn told<R: Threads + Wait + Sync>(
-    rt: &R,
-    alloc: Global,
-    command: &str,
-    text: &str,
-) -> Result<Vec<u8>, AllocError> {
-    let (status, _) = run(rt, alloc, &ample(&[command], text.as_bytes()))?;
-    status.text(alloc).map_err(|_| AllocError)
-}
-
-/// Lines after a front, with `/` for a newline.
-pub fn behind(alloc: Global, front: &str, lines: &str) -> Result<String, AllocError> {
-    let mut text = String::from_str(alloc, front)?;
-    for (index, line) in lines.split('/').enumerate() {
-        if index > 0 {
-            text.push_str("\n")?;
-        }
-        text.push_str(line)?;
-    }
-    Ok(text)
-}
-
-/// Whether this line is said; `fine` stands for none.
+/// Whether this line is told of a text; `fine` stands for none.
 fn is_told<R: Threads + Wait + Sync>(
     rt: &R,
     alloc: Global,
     command: &str,
     text: &str,
     line: &str,
-) -> Result<bool, AllocError> {
-    let found = told(rt, alloc, command, text)?;
-    if line == "fine" {
-        return Ok(found.is_empty());
-    }
-    let line = format!(in alloc; "{line}\n")?;
-    Ok(found.as_slice() == line.as_bytes())
+) -> Option<bool> {
+    let ended = run(rt, alloc, &ample(command, text.as_bytes()))?;
+    Some(match ended.told.split_last() {
+        Some((end, told)) => *end == b'\n' && told == line.as_bytes(),
+        None => line == "fine",
+    })
 }
 
-/// The first line of a group of which something else is said.
-fn astray<R: Threads + Wait + Sync>(
+impl Group {
+    /// The front, and then this.
+    fn text(&self, alloc: Global, back: &str) -> Option<String> {
+        let mut text = lines(alloc, self.front)?;
+        text.push_str(lines(alloc, back)?.as_str()).ok()?;
+        Some(text)
+    }
+}
+
+/// Whether a row of a group holds.
+pub fn is_told_in<R: Threads + Wait + Sync>(
     rt: &R,
     alloc: Global,
     group: &Group,
-) -> Result<Option<&'static str>, AllocError> {
-    for row in group.texts.lines() {
-        let Some((_name, rest)) = row.split_once(" | ") else {
-            return Ok(Some(row));
-        };
-        let Some((lines, line)) = rest.split_once(" -> ") else {
-            return Ok(Some(row));
-        };
-        let text = behind(alloc, group.front, lines)?;
-        if !is_told(rt, alloc, group.command, text.as_str(), line)? {
-            return Ok(Some(row));
-        }
-    }
-    Ok(None)
+    row: &str,
+) -> Option<bool> {
+    let (_name, rest) = row.split_once(" | ")?;
+    let (back, line) = rest.split_once(" -> ")?;
+    is_told(
+        rt,
+        alloc,
+        group.command,
+        group.text(alloc, back)?.as_str(),
+        line,
+    )
 }
+
+const GROUPS: &[Group] = &[FIRST_LINES, TYPES, LINES, ILL_TYPED, SCHEDULES, EVENTS];
 
 #[test]
-fn the_first_fault_is_told(rt: HostRuntime) -> Result<(), Fail> {
-    for group in [FIRST_LINES, TYPES, LINES, ILL_TYPED, SCHEDULES, EVENTS] {
-        assert_eq!(rt; astray(&rt, rt.alloc(), &group)?, None);
+fn the_first_fault_is_told(rt: HostRuntime) {
+    for group in GROUPS {
+        all_hold(&rt, rt.alloc(), Asks::Told(group), group.texts);
     }
-    Ok(())
 }
 
-/// The front, and then this many lines that declare `x0`, `x1` and so on.
-fn declaring(
-    alloc: Global,
-    front: &str,
-    word: &str,
-    count: usize,
-    end: &str,
-) -> Result<String, Fail> {
-    let mut text = String::from_str(alloc, front)?;
-    for index in 0..count {
-        writeln!(text, "{word} x{index}{end}")?;
-    }
-    Ok(text)
-}
-
-/// A name; how a text begins; a word and what stands after each name in its lines; the greatest number of such lines;
-/// what stands after them; and what is said of one line more.
+/// A name; how a text begins; a line that declares a name, with `#` for a number; the greatest number of such lines;
+/// what stands after them; and what is told of one line more.
 const LIMITS: &str = "\
-types | heap 1 1/ | type |  n | 64 | script s/ | line 66: limit types 65
-globals | heap 1 1/ | global |  A | 64 | script s/ | line 66: limit globals 65
-scripts | heap 1 1/ | script |  | 16 |  | line 18: limit scripts 17
-pointer registers | heap 1 1/script s/ | ptr |  A | 8 |  | line 11: limit pointers 9
-number registers | heap 1 1/script s/ | num |  | 8 |  | line 11: limit numbers 9
-blocks in each other | heap 1 1/script s/ | if |  | 32 | ENDS | line 35: limit depth 33
+types | heap 1 1/ | type x# n | 64 | script s/ | line 66: limit types 65
+globals | heap 1 1/ | global x# A | 64 | script s/ | line 66: limit globals 65
+scripts | heap 1 1/ | script x# | 16 |  | line 18: limit scripts 17
+pointer registers | heap 1 1/script s/ | ptr x# A | 8 |  | line 11: limit pointers 9
+number registers | heap 1 1/script s/ | num x# | 8 |  | line 11: limit numbers 9
+blocks in each other | heap 1 1/script s/ | if x# | 32 | \
+    end/end/end/end/end/end/end/end/end/end/end/end/end/end/end/end/\
+    end/end/end/end/end/end/end/end/end/end/end/end/end/end/end/end/ | line 35: limit depth 33
 ";
 
 /// What a row of `LIMITS` says, after its name.
 #[derive(Clone, Copy)]
 struct Limit<'a> {
     front: &'a str,
-    word: &'a str,
-    end: &'a str,
-    greatest: usize,
-    back: &'a str,
     line: &'a str,
+    greatest: u64,
+    back: &'a str,
 }
 
-fn limit_said(row: &str) -> Option<Limit> {
+fn limit_said(row: &str) -> Option<(Limit, &str)> {
     let (_name, rest) = row.split_once(" | ")?;
     let (front, rest) = rest.split_once(" | ")?;
-    let (word, rest) = rest.split_once(" | ")?;
-    let (end, rest) = rest.split_once(" | ")?;
+    let (line, rest) = rest.split_once(" | ")?;
     let (greatest, rest) = rest.split_once(" | ")?;
-    let (back, line) = rest.split_once(" | ")?;
-    let greatest = mk_script::parse_number(greatest.as_bytes())?;
-    Some(Limit {
-        front,
-        word,
-        end,
-        greatest: (greatest as usize).min(64),
-        back,
-        line,
-    })
+    let (back, told) = rest.split_once(" | ")?;
+    let greatest = number(greatest)?;
+    Some((
+        Limit {
+            front,
+            line,
+            greatest,
+            back,
+        },
+        told,
+    ))
 }
 
-/// What stands after the lines that declare names: 32 lines `end`, or other lines.
-fn lines_after(alloc: Global, back: &str) -> Result<String, AllocError> {
-    if back == "ENDS" {
-        return "end\n".repeat(alloc, 32);
+/// Writes so many lines that declare `x0`, `x1` and so on.
+fn declare(text: &mut String, line: &str, count: u64) -> Option<()> {
+    let (word, end) = line.split_once('#')?;
+    for index in 0..count {
+        writeln!(text, "{word}{index}{end}").ok()?;
     }
-    behind(alloc, "", back)
+    Some(())
 }
 
-/// Whether a limit is kept: so many lines are fine, and one more isn't.
-fn is_kept<R: Threads + Wait + Sync>(rt: &R, alloc: Global, row: &str) -> Result<bool, Fail> {
-    let Some(limit) = limit_said(row) else {
-        return Ok(false);
+/// A front, so many lines that declare names, and what stands after them.
+fn declaring(alloc: Global, limit: &Limit) -> Option<String> {
+    let mut text = lines(alloc, limit.front)?;
+    declare(&mut text, limit.line, limit.greatest)?;
+    text.push_str(lines(alloc, limit.back)?.as_str()).ok()?;
+    Some(text)
+}
+
+fn is_told_of<R: Threads + Wait + Sync>(
+    rt: &R,
+    alloc: Global,
+    limit: &Limit,
+    line: &str,
+) -> Option<bool> {
+    is_told(rt, alloc, "print", declaring(alloc, limit)?.as_str(), line)
+}
+
+/// Whether a row of `LIMITS` holds: so many lines are fine, and one more isn't.
+pub fn is_limit<R: Threads + Wait + Sync>(rt: &R, alloc: Global, row: &str) -> Option<bool> {
+    let (limit, line) = limit_said(row)?;
+    let fits = is_told_of(rt, alloc, &limit, "fine")?;
+    let more = Limit {
+        greatest: limit.greatest.wrapping_add(1),
+        back: "",
+        ..limit
     };
-    let front = behind(alloc, "", limit.front)?;
-    let back = lines_after(alloc, limit.back)?;
-    let mut text = declaring(alloc, front.as_str(), limit.word, limit.greatest, limit.end)?;
-    text.push_str(back.as_str())?;
-    if !is_told(rt, alloc, "print", text.as_str(), "fine")? {
-        return Ok(false);
-    }
-    let more = declaring(
-        alloc,
-        front.as_str(),
-        limit.word,
-        limit.greatest.wrapping_add(1),
-        limit.end,
-    )?;
-    Ok(is_told(rt, alloc, "print", more.as_str(), limit.line)?)
+    Some(is_told_of(rt, alloc, &more, line)? && fits)
 }
 
 #[test]
-fn limits_are_kept(rt: HostRuntime) -> Result<(), Fail> {
-    for row in LIMITS.lines() {
-        assert!(rt; is_kept(&rt, rt.alloc(), row)?, "{row}");
-    }
-    Ok(())
+fn limits_are_kept(rt: HostRuntime) {
+    all_hold(&rt, rt.alloc(), Asks::Limit, LIMITS);
 }
 
 #[test]
-fn a_name_is_found_before_a_limit(rt: HostRuntime) -> Result<(), Fail> {
-    let mut text = declaring(rt.alloc(), "heap 1 1\n", "type", 64, " n")?;
-    text.push_str("type x5 n")?;
-    assert!(rt; is_told(&rt, rt.alloc(), "print", text.as_str(), "line 66: twice")?);
-    Ok(())
+fn a_name_is_found_before_a_limit(rt: HostRuntime) {
+    let text = Limit {
+        front: "heap 1 1/",
+        line: "type x# n",
+        greatest: 64,
+        back: "type x5 n",
+    };
+    assert!(rt; is_told_of(&rt, rt.alloc(), &text, "line 66: twice") == Some(true));
 }
 
-/// Whether this line is said of a text of so many spaces.
+/// Whether this line is told of a text of so many spaces.
 fn is_told_of_spaces<R: Threads + Wait + Sync>(
     rt: &R,
     alloc: Global,
     command: &str,
     spaces: usize,
     line: &str,
-) -> Result<bool, AllocError> {
-    let text = " ".repeat(alloc, spaces)?;
+) -> Option<bool> {
+    let text = " ".repeat(alloc, spaces).ok()?;
     is_told(rt, alloc, command, text.as_str(), line)
 }
 
 #[test]
-fn bytes_are_limited(rt: HostRuntime) -> Result<(), Fail> {
+fn bytes_are_limited(rt: HostRuntime) {
     for command in ["print", "replay"] {
-        let fits = is_told_of_spaces(&rt, rt.alloc(), command, 1_048_576, "line 1: header")?;
-        assert!(rt; fits, "{command}");
+        let fits = is_told_of_spaces(&rt, rt.alloc(), command, 1_048_576, "line 1: header");
         let line = "line 0: limit bytes 1048577";
-        let is_long = is_told_of_spaces(&rt, rt.alloc(), command, 1_048_577, line)?;
-        assert!(rt; is_long, "{command}");
+        let is_long = is_told_of_spaces(&rt, rt.alloc(), command, 1_048_577, line);
+        assert!(rt; (fits, is_long) == (Some(true), Some(true)), "{command}");
     }
-    Ok(())
 }

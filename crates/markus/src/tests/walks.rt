@@ -5,10 +5,9 @@ use super::conditions::{FREES, FULL, GATES, MARKS, ORDER, PHASES, PLACES, RANGES
 use super::cycles::{
     ANSWERS, BLACKS, CARVED, FREED_BEHIND, FREED_PAGES, GLOBALS, MOVE, RELEASE, SCAN, STOP,
 };
-use super::{ample, run};
-use std::alloc::{AllocError, Global};
+use super::runs::{ample, run};
+use std::alloc::Global;
 use std::sync::Wait;
-use std::test::Fail;
 use std::thread::Threads;
 
 /// Scripts, a schedule, and what the scripts have printed after it. A line of the schedule is made, except one that
@@ -28,12 +27,11 @@ struct Refusals<'a> {
     condition: &'a str,
     seat: &'a str,
     events: &'a str,
-    shown: &'a str,
 }
 
 /// What a line of refused events says; none for another line, and for one that doesn't say what it shows.
 fn refusals_in(line: &str) -> Option<Refusals> {
-    let (asked, shown) = line.split_once(" -- ")?;
+    let (asked, _shown) = line.split_once(" -- ")?;
     let (condition, rest) = asked.split_once(' ')?;
     let (seat, events) = rest.split_once(' ')?;
     if !"1234567".contains(condition) {
@@ -43,84 +41,98 @@ fn refusals_in(line: &str) -> Option<Refusals> {
         condition,
         seat,
         events,
-        shown,
     })
 }
 
-/// The line that is said of a schedule, and what is written.
-fn replayed<R: Threads + Wait + Sync>(
+/// Whether just this is told and written of a schedule.
+fn replays<R: Threads + Wait + Sync>(
     rt: &R,
     alloc: Global,
     text: &str,
-) -> Result<(Vec<u8>, Vec<u8>), AllocError> {
-    let (status, written) = run(rt, alloc, &ample(&["replay"], text.as_bytes()))?;
-    let told = status.text(alloc).map_err(|_| AllocError)?;
-    Ok((told, written))
+    told: &str,
+    written: &str,
+) -> Option<bool> {
+    Some(run(rt, alloc, &ample("replay", text.as_bytes()))?.is(told, written))
 }
 
-/// The first text with one of these events after what is made that ends otherwise than refused by the condition, and
-/// what its refusal would show.
-fn not_refused<R: Threads + Wait + Sync>(
+/// What is told if the first event after what is made is refused by a condition.
+fn refusal(alloc: Global, made: &str, condition: &str) -> Option<String> {
+    let line = (made.lines().count() as u64).wrapping_add(1);
+    format!(in alloc; "line {line}: event 1 not enabled, condition {condition}\n").ok()
+}
+
+/// Whether this is told of what is made with one event more.
+fn is_told_of<R: Threads + Wait + Sync>(
+    rt: &R,
+    alloc: Global,
+    made: &str,
+    seat: &str,
+    event: &str,
+    told: &str,
+) -> Option<bool> {
+    let text = format!(in alloc; "{made}{seat} {event}\n").ok()?;
+    replays(rt, alloc, text.as_str(), told, "")
+}
+
+/// Whether each of these events is refused by the condition after what is made.
+fn are_refused<R: Threads + Wait + Sync>(
     rt: &R,
     alloc: Global,
     made: &str,
     refusals: &Refusals,
-) -> Result<Option<String>, Fail> {
-    let Refusals {
-        condition,
-        seat,
-        events,
-        shown,
-    } = *refusals;
-    let line = (made.lines().count() as u64).saturating_add(1);
-    let wanted = format!(in alloc; "line {line}: event 1 not enabled, condition {condition}\n")?;
-    for event in events.split(" | ") {
-        let text = format!(in alloc; "{made}{seat} {event}\n")?;
-        let (told, _) = replayed(rt, alloc, text.as_str())?;
-        if told.as_slice() != wanted.as_bytes() {
-            return Ok(Some(format!(in alloc; "{text}condition {condition} -- {shown}\n")?));
+) -> Option<bool> {
+    let told = refusal(alloc, made, refusals.condition)?;
+    for event in refusals.events.split(" | ") {
+        if !is_told_of(rt, alloc, made, refusals.seat, event, told.as_str())? {
+            return Some(false);
         }
     }
-    Ok(None)
+    Some(true)
 }
 
-/// The first text that goes otherwise than the walk says.
-fn astray<R: Threads + Wait + Sync>(
+/// Whether a line goes as it says after what is made, where it is put if it is no line of refused events.
+fn goes<R: Threads + Wait + Sync>(
     rt: &R,
     alloc: Global,
-    walk: &Walk,
-) -> Result<Option<String>, Fail> {
-    let mut made = format!(in alloc; "{}schedule\n", walk.scripts)?;
+    made: &mut String,
+    line: &str,
+) -> Option<bool> {
+    if let Some(refusals) = refusals_in(line) {
+        return are_refused(rt, alloc, made.as_str(), &refusals);
+    }
+    made.push_str(line).ok()?;
+    made.push_str("\n").ok()?;
+    Some(true)
+}
+
+/// The first line of a walk that goes otherwise than it says, or what else does.
+fn astray<R: Threads + Wait + Sync>(rt: &R, alloc: Global, walk: &Walk) -> Option<&'static str> {
+    let Ok(mut made) = format!(in alloc; "{}schedule\n", walk.scripts) else {
+        return Some("memory is refused");
+    };
     for line in walk.lines.lines() {
-        if let Some(refusals) = refusals_in(line) {
-            let found = not_refused(rt, alloc, made.as_str(), &refusals)?;
-            if found.is_some() {
-                return Ok(found);
-            }
-        } else {
-            made.push_str(line)?;
-            made.push_str("\n")?;
+        if goes(rt, alloc, &mut made, line) != Some(true) {
+            return Some(line);
         }
     }
-    let (told, written) = replayed(rt, alloc, made.as_str())?;
-    if told.is_empty() && written.as_slice() == walk.written.as_bytes() {
-        return Ok(None);
+    match replays(rt, alloc, made.as_str(), "", walk.written) {
+        Some(true) => None,
+        _ => Some("something else is written"),
     }
-    Ok(Some(made))
 }
 
 #[test]
-fn events_are_refused_by_the_condition_that_is_meant(rt: HostRuntime) -> Result<(), Fail> {
+fn events_are_refused_by_the_condition_that_is_meant(rt: HostRuntime) {
     for walk in [
-        ORDER,
-        RANGES,
-        GATES,
-        PHASES,
-        PLACES,
-        FREES,
-        RUN_FREED,
-        MARKS,
-        FULL,
+        ORDER, RANGES, GATES, PHASES, PLACES, FREES, RUN_FREED, MARKS, FULL,
+    ] {
+        assert_eq!(rt; astray(&rt, rt.alloc(), &walk), None, "{}", walk.name);
+    }
+}
+
+#[test]
+fn whole_cycles_go_as_they_are_meant(rt: HostRuntime) {
+    for walk in [
         GLOBALS,
         BLACKS,
         STOP,
@@ -132,8 +144,6 @@ fn events_are_refused_by_the_condition_that_is_meant(rt: HostRuntime) -> Result<
         MOVE,
         ANSWERS,
     ] {
-        let name = walk.name;
-        assert_eq!(rt; astray(&rt, rt.alloc(), &walk)?, None, "{name}");
+        assert_eq!(rt; astray(&rt, rt.alloc(), &walk), None, "{}", walk.name);
     }
-    Ok(())
 }
