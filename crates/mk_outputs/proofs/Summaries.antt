@@ -3,7 +3,8 @@ use Rattle.std.proofs.{Common.{codes, count_by, slice_get, sum_by}, lemmas.Fmt.d
 use Rattle.std.proofs.{lemmas.List.Sums.sum_by-cons, lemmas.Option.slice_get_within}
 use Rattle.std.specs.{Fmt.decimal, List.flat_map, List.range_with_len}
 use Rattle.mk_laws.proofs.Vocabulary.{Answer, Config, Event, List, Some, ℕ, ap, append-nil, append_assoc, arith, drop}
-use Rattle.mk_laws.proofs.Vocabulary.{false, get_or, length, refl, slice_index_or, suc, sym, true, [], ◌++◌, ◌+◌, ◌<◌}
+use Rattle.mk_laws.proofs.Vocabulary.{false, false≢true, get_or, length, refl, slice_index_or, suc, sym, true, [], ◌++◌}
+use Rattle.mk_laws.proofs.Vocabulary.{◌+◌, ◌<◌}
 use Rattle.mk_laws.proofs.Vocabulary.{◌∙◌, ◌∷◌, ◌≡◌, ◌≤◌}
 use Rattle.mk_check.specs.{Declarations.config_of, Laws.IsScript, declared.text.Text.Text}
 use Rattle.mk_check.specs.{Feed.is_refusal, Output.answers_given}
@@ -137,7 +138,8 @@ module _ (start count markers : ℕ) (outcome : Outcome)
       → IsSummaryOfRun program markers es bytes
   run_is_summed begun stops below unswept bytes is =
       let stands =
-      runs_stand_in_one_history program markers false false outcome runs begun stops below (λ none. unswept) in
+      runs_stand_in_one_history program markers false false outcome runs begun stops below (λ none. unswept)
+      (λ sweeps. absurd (false≢true sweeps)) in
       record {
         stands = stands;
         promises = runs_keep_their_promises program markers false false es stands;
