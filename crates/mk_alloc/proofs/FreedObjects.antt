@@ -12,13 +12,13 @@ use Rattle.mk_caller.proofs.Below.Laws.Vocabulary.{false_from_ne_true, false≢t
 use Rattle.mk_caller.proofs.Below.Laws.Vocabulary.{flight_of, freed_where_it_stands, get_or_past, header_at, header_in}
 use Rattle.mk_caller.proofs.Below.Laws.Vocabulary.{header_made, header_of, heads_run, image_of, image_scene_of, inl}
 use Rattle.mk_caller.proofs.Below.Laws.Vocabulary.{inr, is_freed, is_large, is_phase, is_released_in, is_small_object}
-use Rattle.mk_caller.proofs.Below.Laws.Vocabulary.{is_undecided_free, is_unmapped_header, kinds_of, large_cells}
+use Rattle.mk_caller.proofs.Below.Laws.Vocabulary.{is_undecided_free, kinds_of, large_cells}
 use Rattle.mk_caller.proofs.Below.Laws.Vocabulary.{large_count, large_is_not_small, leb-true, left, length, ltb-true}
-use Rattle.mk_caller.proofs.Below.Laws.Vocabulary.{made_is_mapped, map, never_behind, not, not-true, object_placed}
+use Rattle.mk_caller.proofs.Below.Laws.Vocabulary.{map, never_behind, not, not-true, object_placed}
 use Rattle.mk_caller.proofs.Below.Laws.Vocabulary.{p_of, page_at_address, pages_made, placed_at, pointed_cell, refl}
 use Rattle.mk_caller.proofs.Below.Laws.Vocabulary.{register_at, run_begins, slice_set, small_cells, small_heads_none}
 use Rattle.mk_caller.proofs.Below.Laws.Vocabulary.{stands_in, stands_in_its_cell, storage_words, sym, target, true}
-use Rattle.mk_caller.proofs.Below.Laws.Vocabulary.{true≢false, typed_size, unmapped_header, unmapped_is_unmapped}
+use Rattle.mk_caller.proofs.Below.Laws.Vocabulary.{true≢false, typed_size, use_under}
 use Rattle.mk_caller.proofs.Below.Laws.Vocabulary.{words_under, words_within, ◌*◌, ◌+◌, ◌/◌, ◌<◌, ◌==◌, ◌∙◌, ◌≡◌, ◌≢◌}
 use Rattle.mk_caller.proofs.{Below.Laws.Vocabulary.◌≤◌, Below.Laws.ImagesBefore.{Stands, ready_of, stands_of}}
 use Rattle.mk_caller.proofs.Below.Laws.InvariantHistories.{allocations_stand, told_to_images}
@@ -32,7 +32,9 @@ use Rattle.mk_alloc.proofs.ObjectVocabulary.{held_by_allocations, histories_keep
 use Rattle.mk_alloc.proofs.{ObjectVocabulary.{value_of, world_of}, HeldFreed.{freed_one, held_part, held_set}}
 use Rattle.mk_alloc.proofs.{HeldFreed.{large_part, live_part, small_part}, LoadedFrees.loaded_undecided}
 use Rattle.mk_alloc.proofs.{Looks.acting_caller, MayAct.{free_is_acting, off_four}}
-use Rattle.mk_geom.proofs.ClassTable.{class_words_within}
+use Rattle.mk_alloc.proofs.RunHeaders.{made_use}
+use Rattle.mk_books.specs.{Members.page_at, Runs.StandsOn}
+use Rattle.mk_geom.{proofs.ClassTable.class_words_within, specs.PageUses.PartOfRun}
 use Rattle.mk_core.proofs.{ObjectHeaders.part_heads_run, StandingAllocations.placed_cell}
 
 -- What the register of an undecided Free points into: the cell of an unreleased allocation.
@@ -317,7 +319,7 @@ module _ {p : PassState} {r : ℕ} {cell : Cell} (turn : IsTurn p) (x : IsObject
     pub some : 1 ≤ count
     pub few : count ≤ 64
     pub within : cell.page + count ≤ p.table.config.pages
-    pub mapped : (d : ℕ) → d < count → header_at (now_of p).words (cell.page + d) ≢ unmapped_header count d
+    pub mapped : StandsOn (PartOfRun true) (now_of p).words.pages cell.page count
 
   pub its_run : (count : ℕ) → heads_run (header_in (now_of p).words cell.page) ≡ true → own.freed ≡ false
       → 64 * count ≡ words_under (header_in (now_of p).words cell.page) → HasRun count
@@ -336,9 +338,9 @@ module _ {p : PassState} {r : ℕ} {cell : Cell} (turn : IsTurn p) (x : IsObject
         some = omega arith;
         few = omega arith;
         within = omega arith;
-        mapped = λ d lt e.
+        mapped = λ d lt.
             let near : d < pages_made object = omega arith in
             let made : header_at (now_of p).words (cell.page + d) ≡ header_made object d = grind (arith, laid, own) in
-            true≢false (sym (unmapped_is_unmapped count d (omega arith, omega arith) lt)
-            ∙ ap (λ (n : ℕ). is_unmapped_header (header_of n)) (sym e ∙ made) ∙ made_is_mapped object d sized near);
+            let used = (page_at (now_of p).words.pages (cell.page + d)).used in
+            ap (λ (n : ℕ). use_under (header_of n) used) made ∙ made_use object d used sized small near;
       }

@@ -1,5 +1,6 @@
 -- A large object is freed and counted, while all others are stopped.
-use Rattle.mk_caller.proofs.Below.Laws.Vocabulary.{Bool, Cell, Header, None, Option, RunPages, Some, Steady, Tally, ℕ}
+use Rattle.mk_caller.proofs.Below.Laws.Vocabulary.{Bool, Cell, Header, List, None, Option, Page, RunPages, Some}
+use Rattle.mk_caller.proofs.Below.Laws.Vocabulary.{Steady, Tally, ℕ}
 use Rattle.mk_caller.proofs.Below.Laws.Vocabulary.{ap, arith, false, freed_where_it_stands, fresh_words_of, header_in}
 use Rattle.mk_caller.proofs.Below.Laws.Vocabulary.{heads_run, if◌then◌else◌, in_a_word, is_held, map, run_headed, subst}
 use Rattle.mk_caller.proofs.Below.Laws.Vocabulary.{sym, true, true≢false, words_under, ◌*◌, ◌+◌, ◌<◌, ◌^◌, ◌↔◌, ◌∙◌}
@@ -12,7 +13,9 @@ use Rattle.mk_alloc.proofs.FreedObjects.{its_freed, its_run, large_held, object_
 use Rattle.mk_alloc.proofs.JoinedLooks.{reached_table, reached_world, reaches_wider}
 use Rattle.mk_alloc.proofs.SmallFrees.{freed_now, frees_counted, fresh_told_by, tally_between}
 use Rattle.mk_alloc.proofs.{ClearedRuns.{IsGoneIn, still_gone}, Serves.out_of_stop}
-use Rattle.mk_alloc.specs.{Deciding.ClearsRun, Unmapping.{IsStillMapped, MayUnmap}}
+use Rattle.mk_alloc.specs.{Deciding.ClearsRun, Unmapping.MayUnmap}
+use Rattle.mk_books.specs.Runs.{StandsOn}
+use Rattle.mk_geom.specs.PageUses.{PartOfRun}
 
 -- what heads a run
 pub record HeadsRun (x : Option Header) (count : ℕ) : Type 0 where
@@ -60,8 +63,9 @@ module _ {p : PassState} {reg u : ℕ} {cell : Cell} (count : ℕ) (may : MayFre
     run_freed : (now_of q).seats.holding.freed ≡ Some (record { page = cell.page; count = count })
     run_freed = grind (arith, now)
 
-    run_mapped : (d : ℕ) → d < count → IsStillMapped (now_of q).words (record { page = cell.page; count = count }) d
-    run_mapped d lt e = grind (arith, run_is, now)
+    run_mapped : StandsOn (PartOfRun true) (now_of q).words.pages cell.page count
+    run_mapped = subst (λ (ps : List Page). StandsOn (PartOfRun true) ps cell.page count)
+        (sym (ap (λ (x : Steady). x.pages) now.steady)) run_is.mapped
 
     pub run_may : MayUnmap q (record { page = cell.page; count = count })
     run_may = grind (arith, run_is, run_freed, run_mapped, now, out_of_stop, reached_table)

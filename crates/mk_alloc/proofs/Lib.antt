@@ -37,6 +37,7 @@ pub mod LoadedFrees
 pub mod FreeSteps
 pub mod FreedOnce
 pub mod SetGates
+pub mod RunHeaders
 pub mod WipedRuns
 pub mod HeldFreed
 pub mod FreedObjects

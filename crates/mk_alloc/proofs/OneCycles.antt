@@ -62,7 +62,8 @@ looks_begins_none t d history = begins_none_by (look_part t d history) (λ x h. 
 -- or have no close of one
 
 pub closes_none_by : {kinds : SomeKinds} {p q : PassState} → Part kinds p q → AreApart kinds is_close → ClosesNone p q
-closes_none_by x apart = record { more = x.does.more; is = seen_by x.does; none = part_lacks is_close x closes_held apart }
+closes_none_by x apart =
+    record { more = x.does.more; is = seen_by x.does; none = part_lacks is_close x closes_held apart }
 
 pub placed_closes_none : {p q : PassState} → IsTurn p → IsPlaced p q → IsHistory q.table.config q.seen → ClosesNone p q
 placed_closes_none t placed history = closes_none_by (place_part t (served_by placed) history) (λ x h. grind arith)

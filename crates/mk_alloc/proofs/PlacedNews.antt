@@ -1,5 +1,8 @@
 -- What is asked of a New, and where it goes, by what its turn says.
 use Rattle.mk_caller.proofs.Below.Laws.Vocabulary.{List, Op, Option, Page, Place, Some, Steady, Step, ℕ, and_parts}
+use Rattle.mk_caller.proofs.Below.Laws.Vocabulary.{false}
+use Rattle.mk_caller.proofs.Below.Laws.Vocabulary.{header_made, header_of, is_small_object, pages_made, subst}
+use Rattle.mk_caller.proofs.Below.Laws.Vocabulary.{use_under, ◌+◌, ◌≤◌}
 use Rattle.mk_caller.proofs.Below.Laws.Vocabulary.{and_right, ap, arith, eqb-true, false, free_page, header_at, length}
 use Rattle.mk_caller.proofs.Below.Laws.Vocabulary.{not, object_made, phase_of, place_on_pages, refl, slice_index_or}
 use Rattle.mk_caller.proofs.Below.Laws.Vocabulary.{true, uses_of_pages, ◌<◌, ◌==◌, ◌∙◌, ◌≡◌}
@@ -9,14 +12,18 @@ use Rattle.mk_caller.proofs.Below.Words.Sweeping.{does_sweep, other_step_sweeps,
 use Rattle.mk_caller.proofs.Below.Words.Sweeping.{sweeps_then}
 use Rattle.mk_alloc.proofs.ObjectVocabulary.{Acts, GoesTo, HasCarved, IsTurn, IsUnplaced, MayTake, OnlyLooks, PassState}
 use Rattle.mk_alloc.proofs.ObjectVocabulary.{WordsState, bits_made, call_of, is_look, known_left, now_of, object_for}
-use Rattle.mk_alloc.proofs.JoinedLooks.{goes_to, looks_call, looks_left, looks_table, looks_unplaced}
+use Rattle.mk_alloc.proofs.JoinedLooks.{reached_world, goes_to, looks_call, looks_left, looks_table, looks_unplaced}
 use Rattle.mk_alloc.proofs.{Serving.{place_same, serving_left, serving_marks}, Looks.{acting_caller, acting_now}}
-use Rattle.mk_alloc.proofs.{MayAct.new_is_acting, Reaching.kept_by, Serves.{KnowsPlace, knows_place}}
+use Rattle.mk_alloc.proofs.{MayAct.new_is_acting, Reaching.kept_by, RunHeaders.{made_use, made_word}}
+use Rattle.mk_alloc.proofs.Serves.{KnowsPlace, head_may, heads_on, knows_place}
+use Rattle.mk_caller.proofs.Below.Words.StoredHeads.{heads_leave}
+use Rattle.mk_caller.specs.Below.Words.RunSteps.{MayStoreHeads, StoresHeads}
+use Rattle.mk_books.specs.Runs.{AreBare, HeadersSay, run_word}
 use Rattle.mk_alloc.proofs.Takes.{unplaced_settled}
 use Rattle.mk_alloc.specs.{declared.objects.Shape.Shape, Placing.{IsPlaced, IsServed, place_now_for}}
 use Rattle.mk_alloc.specs.Shapes.{object_shaped}
 use Rattle.mk_caller.specs.Below.Words.Sweeping.{SweepsNothing, is_mark}
-use Rattle.mk_geom.specs.PageUses.{place_on_uses}
+use Rattle.mk_geom.specs.PageUses.{PartOfRun, place_on_uses}
 use Rattle.mk_core.specs.Calls.{has_type}
 
 -- Serving a New sweeps nothing: it marks no cells but those of its place.
@@ -46,6 +53,37 @@ pub head_sweeps : {p q r : PassState} {place : Place} {n page value : ℕ} → H
     → Acts q (Step.Head page value) r → SweepsNothing p r
 head_sweeps {p} {q} {r} {page} {value} reached before a =
     sweeps_then p q r reached.same before (other_step_sweeps q r (Step.Head page value) a.makes refl)
+
+-- all header words of a run: of its first page, of its second, and each 16 more
+module _ {p : PassState} {place : Place} (k : KnowsPlace p place) (free : header_at (now_of p).words place.page ≡ 0)
+    (large : is_small_object (object_for p) ≡ false) {head next : ℕ} (first : head ≡ header_made (object_for p) 0)
+    (second : next ≡ header_made (object_for p) 1) {q : PassState} (none : HasCarved p place 0 q)
+    (sweeps : SweepsNothing p q) where
+  abbrev count : ℕ
+  count = pages_made (object_for p)
+
+  word_is : (d : ℕ) → run_word head next d ≡ header_made (object_for p) d
+  word_is d =
+      ap (λ h. run_word h next d) first ∙ ap (λ n. run_word (header_made (object_for p) 0) n d) second
+      ∙ made_word (object_for p) d large
+
+  pub carves_to : (n : ℕ) (r : PassState) → n ≤ count → StoresHeads q place.page n (run_word head next) r
+      → HasCarved p place n r × SweepsNothing p r
+  carves_to =
+      heads_leave place.page count (run_word head next) (λ n r. HasCarved p place n r × SweepsNothing p r)
+      (none, sweeps) (λ n r s near stores at acts. (
+        subst (λ i. HasCarved p place i s) (omega arith)
+            (heads_on k free refl (word_is n) near at.0 acts),
+        head_sweeps at.0 at.1 acts,
+      ))
+
+  pub may_carve_all : MayStoreHeads q place.page count (run_word head next)
+  may_carve_all n r near stores =
+      head_may k free refl (word_is n) near (carves_to n r (omega (arith, near)) stores).0
+
+  pub say_mapped : HeadersSay (PartOfRun true) count (run_word head next)
+  say_mapped d used near =
+      ap (λ (n : ℕ). use_under (header_of n) used) (word_is d) ∙ made_use (object_for p) d used k.sized large near
 
 -- the cell taken, the object granted, and the tally of held words set
 pub serving_sweeps : {p q r s t : PassState} {place : Place} {x y z : Step} → MayTake p place q → SweepsNothing p q

@@ -3,7 +3,8 @@ use Rattle.std.proofs.lemmas.List.Folds.{list_all-append}
 use Rattle.mk_alloc.proofs.Vocabulary.{At, BeginsCycle, Bool, Config, Does, Event, FinishesCycle, Has, IsHistory}
 use Rattle.mk_alloc.proofs.Vocabulary.{IsPlaced, IsTurn, List, Makes, PassState, Seat, Step, World, and_parts, ap}
 use Rattle.mk_alloc.proofs.Vocabulary.{append-nil, append_assoc, append_cancel_left, are_of, arith, event_of, false}
-use Rattle.mk_alloc.proofs.Vocabulary.{is_close, is_look, is_same_seat, left, not, not-true, refl, same_self, subst, sym}
+use Rattle.mk_alloc.proofs.Vocabulary.{is_close, is_look, is_same_seat, left, not, not-true, refl, same_self, subst}
+use Rattle.mk_alloc.proofs.Vocabulary.{sym}
 use Rattle.mk_alloc.proofs.Vocabulary.{true, true≢false, world_of, [], ⊎_elim, ◌++◌, ◌∙◌, ◌∷◌, ◌≡◌}
 use Rattle.mk_alloc.proofs.CycleParts.{ends_marking, gives_back, gives_room, part_closing}
 use Rattle.mk_alloc.proofs.ListParts.{InFirst, InSecond, IsAt, Lacks, none_at, only_at, stands}

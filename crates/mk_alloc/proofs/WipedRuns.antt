@@ -1,5 +1,7 @@
 -- The words of a run are wiped group by group.
-use Rattle.mk_caller.proofs.Below.Laws.Vocabulary.{Bool, Cell, Config, Flight, Hand, Holding, Holds, List, Moment, None}
+use Rattle.mk_caller.proofs.Below.Laws.Vocabulary.{Bool, Cell, Config, Flight, Hand, Header, Holding, Holds, List}
+use Rattle.mk_caller.proofs.Below.Laws.Vocabulary.{Moment}
+use Rattle.mk_caller.proofs.Below.Laws.Vocabulary.{None, suc, use_under, word_of}
 use Rattle.mk_caller.proofs.Below.Laws.Vocabulary.{Option, Placing, RunPages, Seat, Some, Stage, Steady, Step, Word}
 use Rattle.mk_caller.proofs.Below.Laws.Vocabulary.{Words, World, Written, ℕ, address_of, all_below-at, and_from, ap}
 use Rattle.mk_caller.proofs.Below.Laws.Vocabulary.{arith, cases_eq, eq-eqb, eqb-true, false, flight_of}
@@ -19,10 +21,14 @@ use Rattle.mk_alloc.proofs.{Looks.{acting_caller, acting_now, acts_there}, MayAc
 use Rattle.mk_alloc.proofs.{MayAct.{may_wipe, off_four}, Reaching.{reaches_nothing, reaches_still}}
 use Rattle.mk_alloc.proofs.{Reaching.reaches_still_in_stop, Unchanged.{HasCall, OfCaller, acting_has_call, call_behind}}
 use Rattle.mk_alloc.proofs.{Serves.out_of_stop, Serving.{header_here, header_set, next_is}}
+use Rattle.mk_alloc.proofs.RunHeaders.{still_mapped, unmapped_use, unmapped_word}
 use Rattle.mk_alloc.specs.Unmapping.{MayUnmap, MayWipe, MayWipeFrom, UnmappedTo, WipedTo}
 use Rattle.mk_caller.specs.Below.Words.Steps.{Finds}
 use Rattle.mk_geom.proofs.{Bridge.run_in_range, HeaderLemmas.header_of-word_of}
-use Rattle.mk_geom.specs.Addresses.{cell_under, word_at_address}
+use Rattle.mk_caller.proofs.Below.Words.StoredHeads.{heads_leave}
+use Rattle.mk_caller.specs.Below.Words.RunSteps.{MayStoreHeads, StoresHeads}
+use Rattle.mk_books.specs.Runs.{HeadersSay, run_word}
+use Rattle.mk_geom.specs.{Addresses.{cell_under, word_at_address}, PageUses.PartOfRun}
 use Rattle.mk_core.specs.{Effects.{hand_given, hand_of_cell, is_in_stop}, Cells.pointed_cell}
 use Rattle.mk_core.specs.Frames.{HoldsAll, written_of}
 
@@ -83,7 +89,7 @@ module _ {p : PassState} {run : RunPages} (turn : IsTurn p) (may : MayUnmap p ru
   unmapped_none = reaches_nothing is_clearing p (λ v. UnmappedTo p.seat run (world_of p) v 0) (record {
     changes = record { call = refl; holding = refl; steady = refl; gates = λ j. refl };
     done = λ d lt. absurd (omega arith);
-    rest = λ d le lt. may.mapped d lt;
+    rest = λ d le lt. still_mapped (now_of p).words run d may.mapped may.few lt;
   })
 
   there_acting : (v : World) → flight_of v.now p.seat ≡ flight_of (now_of p) p.seat
@@ -119,6 +125,27 @@ module _ {p : PassState} {run : RunPages} (turn : IsTurn p) (may : MayUnmap p ru
       let room = pages.pages in
       unmapped_more on call (ap (λ (f : Flight). f.stage) on.changes.call ∙ may.decided)
       (there_low v (ap (λ (x : Steady). x.phase) on.changes.steady)) near (omega arith))
+
+  -- the header words of an unmapped run, as they are stored together
+  abbrev pub headers : ℕ → ℕ
+  headers = run_word (word_of (Header.Run run.count false)) (word_of (Header.Later 1 false))
+
+  pub say_unmapped : HeadersSay (PartOfRun false) run.count headers
+  say_unmapped d used near =
+      ap (λ (n : ℕ). use_under (header_of n) used) (unmapped_word run.count d)
+      ∙ unmapped_use run.count d used may.few near
+
+  pub unmaps_to : (n : ℕ) (q : PassState) → n ≤ run.count → StoresHeads p run.page n headers q → HasUnmapped q n
+  unmaps_to =
+      heads_leave run.page run.count headers (λ n q. HasUnmapped q n) unmapped_none (λ n q r near stores at acts.
+      subst (λ i. HasUnmapped r i) (omega arith) (unmaps_on at near
+      (subst (λ i. Acts q (Step.Head (run.page + n) i) r) (unmapped_word run.count n) acts)))
+
+  pub may_unmap_all : others_are_held p.table.config.callers (now_of p).words p.seat ≡ true
+      → MayStoreHeads p run.page run.count headers
+  may_unmap_all stopped n q near stores =
+      subst (λ i. IsEnabledTo q (Step.Head (run.page + n) i)) (sym (unmapped_word run.count n))
+      (unmap_may (unmaps_to n q (omega (arith, near)) stores) stopped near)
 
   pub unmapped_all : {q : PassState} → HasUnmapped q run.count → Unmaps p run q
   unmapped_all reached = grind (arith, reaches_so, all_below_from, eq-eqb)

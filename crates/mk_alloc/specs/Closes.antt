@@ -22,9 +22,9 @@ pub record EachIsSaid {V : Type 0} (tells : V → Config → World → Type 0) (
   pub is : q.seen ≡ p.seen ++ more
   pub each : AreSaidAtCloses tells p.table.config p.seat p.seen more
 
--- A cycle that a seat began is finished at once. Up to the `begin` these events stood there. After it the engine did its
--- part, for which it looks, marks, and holds and opens gates. Then gates were held, the engine did in the stop what it
--- does there, and the marks were closed.
+-- A cycle that a seat began is finished at once. Up to the `begin` these events stood there. After it the engine did
+-- its part, for which it looks, marks, and holds and opens gates. Then gates were held, the engine did in the stop what
+-- it does there, and the marks were closed.
 pub record IsFinishedAtOnce {V : Type 0} (closes : V → PassState → PassState → Type 0) (c : Config) (s : Seat)
     (es more : List Event) : Type 0 where
   pub engine : V

@@ -49,10 +49,10 @@ pub record MayRunCycle (w : WordsState) (pages : ℕ) (p : PassState) : Type 0 w
   pub made_for : pages ≡ w.config.pages
   pub quiet : IsQuiet p
 
--- What an engine keeps to from one to the other: where it doesn't sweep it makes no sweeping mark; after each `begin` it
--- does its part, and then nothing but holding gates comes before the close is wanted or the turn given back; at each
--- `close` it says of the world what engines of its type say; and where it doesn't keep on it finishes at once each cycle
--- that it begins.
+-- What an engine keeps to from one to the other. If it doesn't sweep it makes no sweeping mark. After each `begin` it
+-- does its part, and then nothing but holding gates comes before the close is wanted or the turn given back. At each
+-- `close` it says of the world what engines of its type say. If it doesn't keep on, it finishes at once each cycle that
+-- it begins.
 pub record PassKeeps {V : Type 0} (on sweeps : Bool) (begins : Config → Seat → List Event → List Event → Type 0)
     (tells : V → Config → World → Type 0) (closes : V → PassState → PassState → Type 0) (p q : PassState)
     : Type 0 where

@@ -3,6 +3,8 @@ use Rattle.std.specs.Prelude.{◌≡◌, ◌≢◌, ℕ, ◌+◌, ◌*◌, ◌/�
 use Rattle.mk_core.specs.{declared.events.Seat.Seat, declared.seats.RunPages.RunPages, History.World}
 use Rattle.mk_core.specs.{Moments.others_are_held, NewPlaces.{is_run_unmapped, unmapped_header}}
 use Rattle.mk_core.specs.Words.{Words, header_at}
+use Rattle.mk_geom.specs.PageUses.{PartOfRun}
+use Rattle.mk_books.specs.Runs.{StandsOn}
 use Rattle.mk_caller.specs.Below.Words.States.{PassState, WordsState, call_of, now_of, world_of}
 use Rattle.mk_alloc.specs.{FreeParts.{Changes, is_clearing, with_pages}, Placing.{ComesTo, IsOutOfStop}}
 use Rattle.mk_core.specs.declared.seats.Stage.TheVariants as stage
@@ -11,7 +13,7 @@ use Rattle.mk_core.specs.declared.seats.Stage.TheVariants as stage
 abbrev pub IsStillMapped : Words → RunPages → ℕ → Type 0
 IsStillMapped w run distance = header_at w (run.page + distance) ≢ unmapped_header run.count distance
 
--- The call is decided and has freed this run, none of whose pages is unmapped yet, and no cycle stops the others.
+-- The call is decided and has freed this run, whose pages are all mapped still, and no cycle stops the others.
 pub record MayUnmap (p : PassState) (run : RunPages) : Type 0 where
   pub decided : (call_of p).stage ≡ stage.Give
   pub phase : IsOutOfStop (now_of p)
@@ -19,7 +21,7 @@ pub record MayUnmap (p : PassState) (run : RunPages) : Type 0 where
   pub some : 1 ≤ run.count
   pub few : run.count ≤ 64
   pub within : run.page + run.count ≤ p.table.config.pages
-  pub mapped : (d : ℕ) → d < run.count → IsStillMapped (now_of p).words run d
+  pub mapped : StandsOn (PartOfRun true) (now_of p).words.pages run.page run.count
 
 -- This many of the run's pages are unmapped, the others not.
 pub record UnmappedTo (s : Seat) (run : RunPages) (w v : World) (n : ℕ) : Type 0 where

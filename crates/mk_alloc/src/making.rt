@@ -81,6 +81,7 @@ pub fn new_object<E: Engine, R: Threads + Wait + Sync>(
     }
     let (turn, refused) = make_room_or_count(rt, words, turn, request, engine);
     caller.back(give(words, turn));
+    words.let_late_first();
     match refused {
         None => Ok(()),
         Some(census) => Err(Full { census }),

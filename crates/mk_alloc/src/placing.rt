@@ -27,7 +27,7 @@ fn mark_place(words: &Words, turn: &mut Turn, shape: Shape, place: Place, markin
 }
 
 /// Makes the free pages of the place a block, or a run. If a cycle marks, the cells of the first page are marked before
-/// that. The later pages of a run are all of one kind, so they have a loop of their own.
+/// that.
 fn carve(words: &Words, turn: &mut Turn, shape: Shape, place: Place, marking: bool)
     requires goes { ShapeGoesTo words.now turn.old.pass shape place }
     requires free { header_at (now_of turn.old.pass).words place.page ≡ 0 }
@@ -37,9 +37,11 @@ fn carve(words: &Words, turn: &mut Turn, shape: Shape, place: Place, marking: bo
 {
     let pages = shape.pages();
     mark_place(words, turn, shape, place, marking);
-    turn.head(words, place.page, shape.header_word(0));
-    for distance in 1..pages {
-        turn.head(words, place.page + distance, shape.later_word(distance));
+    let head = shape.header_word(0);
+    if pages == 1 {
+        turn.head(words, place.page, head);
+    } else {
+        turn.make_run(words, place.page, pages, head, shape.later_word(1));
     }
 }
 

@@ -4,7 +4,8 @@ ghost use Rattle.mk_caller.specs.{Below.Words.States.now_of, Below.Words.Sweepin
 ghost use Rattle.mk_alloc.specs.Placing.{OnlyLooks};
 ghost use Rattle.mk_cycle.specs.{Begun.HoldsFirst, Closing.IsClosedBy, EngineLaw.IsAtPhase};
 ghost use Rattle.mk_core.specs.Effects.{cycle_ended};
-ghost use Rattle.mk_alloc.specs.Rooms.{BeginsNone, ClosesNone, EndsOnly, IsPlacedOr, Misfits, MisfitsAtLast, MisfitsIdly};
+ghost use Rattle.mk_alloc.specs.Rooms.{BeginsNone, ClosesNone, EndsOnly, IsPlacedOr, Misfits, MisfitsAtLast};
+ghost use Rattle.mk_alloc.specs.Rooms.{MisfitsIdly};
 ghost use Rattle.mk_alloc.specs.{Rooms.{NeedsRoom, RunsOne, SeeksRoom}, Underway.PassKeeps};
 
 use crate::objects::Request;

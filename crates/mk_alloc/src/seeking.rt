@@ -10,7 +10,7 @@ ghost use Rattle.mk_books.specs.{Laws.free_cell_on, Members.has_free_cell};
 ghost use Rattle.mk_caller.specs.Below.Words.States.{now_of};
 
 use crate::objects::Shape;
-use mk_books::the_lowest_block_has_the_place;
+use mk_books::{free_pages_from, the_lowest_block_has_the_place};
 use mk_caller::lower::words::{Turn, Words};
 use mk_geom::{Place, SMALL_WORDS, cells, class_of, run_pages};
 
@@ -41,17 +41,6 @@ fn free_cell(turn: &Turn, page: u64, class: u64, leaf: bool) -> Place
     }
 }
 
-/// Free pages from this one on, as a place.
-fn free_from(page: u64) -> Place
-    ensures { result ≡ carved page }
-{
-    Place {
-        page,
-        index: 0,
-        carve: true,
-    }
-}
-
 /// The first free page, as a place, if fewer pages are resident than may be.
 fn free_place(turn: &Turn, limit: u64) -> Option<Place>
     ensures { result
@@ -60,7 +49,8 @@ fn free_place(turn: &Turn, limit: u64) -> Option<Place>
         (now_of turn.now.pass).words.pages)) else None) }
 {
     if turn.resident() < limit {
-        turn.first_free().map(free_from)
+        let page = turn.first_free()?;
+        Some(free_pages_from(page))
     } else {
         None
     }
@@ -89,7 +79,8 @@ fn seek_large(words: &Words, turn: &Turn, count: u64) -> Option<Place>
         ≡ large_place words.now.config.resident count (uses_of_pages (now_of turn.now.pass).words.pages) }
 {
     if turn.resident() + count <= words.resident() {
-        turn.first_range(count).map(free_from)
+        let page = turn.first_range(count)?;
+        Some(free_pages_from(page))
     } else {
         None
     }

@@ -1,8 +1,6 @@
 //! The run of a large object that a Free has freed: its pages are unmapped, and then its words wiped, while the gates
 //! of all other callers are held.
-ghost use Rattle.std.specs.Prelude.{◌≡◌, ◌<◌, ◌≤◌, false};
-ghost use Rattle.mk_core.specs.NewPlaces.{unmapped_header};
-ghost use Rattle.mk_geom.specs.{Headers.IsInRange, Storages.run_header};
+ghost use Rattle.std.specs.Prelude.{◌≡◌};
 ghost use Rattle.mk_caller.specs.Below.Words.TurnSteps.{IsStopped};
 ghost use Rattle.mk_alloc.specs.{Deciding.ClearsRun, FreeParts.{HoldsOthers, Unmaps}, Unmapping.MayUnmap};
 
@@ -12,37 +10,6 @@ use mk_caller::lower::words::{Turn, Words};
 use mk_core::RunPages;
 use mk_geom::{Header, encode};
 
-/// The header of an unmapped run's page.
-fn unmapped(pages: u64, distance: u64) -> Header
-    requires some { 1 ≤ pages }
-    requires few { pages ≤ 64 }
-    requires within { distance < pages }
-    ensures exact { result ≡ run_header pages false false distance }
-    ensures in_range { IsInRange result }
-{
-    if distance > 0 {
-        Header::Later {
-            distance,
-            mapped: false,
-        }
-    } else {
-        Header::Run {
-            pages,
-            mapped: false,
-        }
-    }
-}
-
-/// The header word of an unmapped run's page.
-fn unmapped_header(pages: u64, distance: u64) -> u64
-    requires some { 1 ≤ pages }
-    requires few { pages ≤ 64 }
-    requires within { distance < pages }
-    ensures { result ≡ unmapped_header pages distance }
-{
-    encode(unmapped(pages, distance))
-}
-
 /// Unmaps the pages of the run that the call has freed.
 pub(crate) fn unmap_run(words: &Words, turn: &mut Turn, run: RunPages)
     requires one_table { turn.old.pass.table ≡ words.now }
@@ -50,13 +17,15 @@ pub(crate) fn unmap_run(words: &Words, turn: &mut Turn, run: RunPages)
     requires stopped { IsStopped turn.old.pass }
     ensures { Unmaps turn.old.pass run turn.new.pass }
 {
-    for distance in 0..run.count {
-        turn.head(
-            words,
-            run.page + distance,
-            unmapped_header(run.count, distance),
-        );
-    }
+    let head = encode(Header::Run {
+        pages: run.count,
+        mapped: false,
+    });
+    let next = encode(Header::Later {
+        distance: 1,
+        mapped: false,
+    });
+    turn.unmap_run(words, run.page, run.count, head, next);
 }
 
 /// Unmaps and wipes the run that the call has freed, and opens the gates of all other callers.

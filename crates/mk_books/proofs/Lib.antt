@@ -6,6 +6,8 @@ pub mod FreeCellLemmas
 pub mod PlaceLemmas
 pub mod LowestBits
 pub mod SetWords
+pub mod BitRanges
+pub mod MovedPages
 pub mod NextPages
 pub mod BlockSets
 pub mod FreeSets
@@ -13,7 +15,9 @@ pub mod FitStays
 pub mod Showing
 pub mod Reading
 pub mod Storing
+pub mod RunPages
 pub mod FreeRanges
 pub mod FirstFit
 pub mod Uncleaned
+pub mod RunsTold
 pub mod Vocabulary

@@ -3,4 +3,5 @@ pub mod FreeCells
 pub mod Members
 pub mod KnownPages
 pub mod PageSets
+pub mod Runs
 pub mod Laws

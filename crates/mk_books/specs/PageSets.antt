@@ -1,6 +1,7 @@
 -- How a page map keeps its sets of pages: as bits, 64 pages in a word. A set has a summary, whose bit k is 1 if its
 -- word k isn't 0, and then 64 words.
-use Rattle.std.specs.Prelude.{◌≡◌, ℕ, ◌+◌, ◌*◌, ◌/◌, ◌%◌, ◌<◌, ◌≤◌, Bool, false, not, ◌==◌, nat_le, nat_lt, List}
+use Rattle.std.specs.Prelude.{◌≡◌, ℕ, ◌+◌, ◌*◌, ◌/◌, ◌%◌, ◌<◌, ◌≤◌, ◌&&◌, ◌||◌, Bool, false, not, ◌==◌, nat_le}
+use Rattle.std.specs.Prelude.{nat_lt, List}
 use Rattle.std.specs.Prelude.{Option, Some, true}
 use Rattle.std.specs.{Prelude.{length, slice_index, if◌then◌else◌, map}, Int.bit_at, List.range_with_len}
 use Rattle.mk_geom.specs.{declared.pages.Page.Page, PageUses.{PageUse, Nothing, Cells, PartOfRun, is_free_page}}
@@ -64,6 +65,31 @@ pub record PutsPage (before after : List ℕ) (set page : ℕ) (inside : Bool) :
   pub other_sets : (other : ℕ) → other < 20 → (other ≡ set → ⊥)
       → is_member after other page ≡ is_member before other page
   pub other_pages : OthersStay before after page
+
+-- Pages of a word of a set are put into it, or taken out: those that have a 1 in these bits.
+pub record PutsBits (before after : List ℕ) (set word bits : ℕ) (inside : Bool) : Type 0 where
+  pub are_sets : AreSets after
+  pub this : (number : ℕ) → number < 4096 → number / 64 ≡ word → is_member after set number
+      ≡ (if bit_at bits (number % 64) == 1 then inside else is_member before set number)
+  pub other_words : (number : ℕ) → number < 4096 → (number / 64 ≡ word → ⊥)
+      → is_member after set number ≡ is_member before set number
+  pub other_sets : (other number : ℕ) → other < 20 → number < 4096 → (other ≡ set → ⊥)
+      → is_member after other number ≡ is_member before other number
+
+-- the sets by which free pages are told from those in use
+abbrev pub tells_free : ℕ → Bool
+tells_free set = set == 16 || (set == 17 || set == 19)
+
+-- Pages are put among the free ones and among those of them that may be marked, or out of both and among those in use.
+pub record MovesPages (before after : List ℕ) (among : ℕ → Bool) (free : Bool) : Type 0 where
+  pub are_sets : AreSets after
+  pub moved : (set number : ℕ) → set < 20 → number < 4096 → is_member after set number
+      ≡ (if tells_free set && among number
+      then (if set == 17 then not free else free) else is_member before set number)
+
+-- a page is from this one on, and below that one
+abbrev pub is_between : ℕ → ℕ → ℕ → Bool
+is_between from end number = nat_le from number && nat_lt number end
 
 -- a page is in the sets of blocks that it was in, and among those with freed cells if it was so
 abbrev pub StaysInOtherSets : List ℕ → List ℕ → ℕ → Type 0

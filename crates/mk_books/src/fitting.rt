@@ -41,7 +41,7 @@ fn small_fit(pages: &[Page], resident_limit: u64, class: u64, leaf: bool) -> Opt
         }
     }
     if resident < resident_limit {
-        first_free.map(free_from)
+        first_free.map(free_pages_from)
     } else {
         None
     }
@@ -68,13 +68,14 @@ fn large_fit(pages: &[Page], resident_limit: u64, count: u64) -> Option<Place>
         }
     }
     if resident + count <= resident_limit {
-        first.map(free_from)
+        first.map(free_pages_from)
     } else {
         None
     }
 }
 
-fn free_from(page: u64) -> Place
+/// The place of an object for which free pages are made into a block or a run, of which this page is the first.
+pub fn free_pages_from(page: u64) -> Place
     ensures { result ≡ carved page }
 {
     Place {

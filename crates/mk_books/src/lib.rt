@@ -12,12 +12,13 @@ mod laws;
 mod page_map;
 mod page_uses;
 mod quarantine;
+mod runs;
 mod sets;
 mod sorting;
 mod trigger;
 
 pub use counting::{census, free_pages, held_by_pages};
-pub use fitting::first_fit;
+pub use fitting::{first_fit, free_pages_from};
 pub use laws::the_lowest_block_has_the_place;
 pub use mk_geom::{Census, Page, Place};
 pub use page_map::PageMap;

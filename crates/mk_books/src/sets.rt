@@ -1,7 +1,9 @@
 //! Sets of page numbers, as bits: 64 pages in a word, and 64 words in a set, after a summary of which of them aren't 0.
 //! So a set's next page is found by two words of it and the summary.
-ghost use Rattle.std.specs.{Prelude.{◌≡◌, ℕ, ◌+◌, ◌*◌, ◌<◌, ◌==◌, false, true, nat_lt, not}, Int.bit_at};
-ghost use Rattle.mk_books.specs.{Members.IsNext, PageSets.{AreSets, PutsPage, StoresWord, is_member}};
+ghost use Rattle.std.specs.Prelude.{◌≡◌, ℕ, ◌+◌, ◌*◌, ◌<◌, ◌≤◌, ◌==◌, false, true, nat_lt, not, if◌then◌else◌};
+ghost use Rattle.std.specs.{Int.bit_at};
+ghost use Rattle.mk_books.specs.{Members.IsNext};
+ghost use Rattle.mk_books.specs.PageSets.{AreSets, PutsBits, PutsPage, StoresWord, is_between, is_member};
 
 /// A summary and 64 words.
 pub(crate) const SET_WORDS: usize = 65;
@@ -91,6 +93,15 @@ pub(crate) fn ones_below(end: u64) -> u64
     if end < 64 { (1 << end) - 1 } else { u64::MAX }
 }
 
+/// The word with these bits all 1 or all 0.
+#[inline(always)]
+fn with_bits(word: u64, bits: u64, are_ones: bool) -> u64
+    ensures { (place : ℕ) → place < 64
+        → (bit_at result place == 1) ≡ (if bit_at bits place == 1 then are_ones else (bit_at word place == 1)) }
+{
+    if are_ones { word | bits } else { word & !bits }
+}
+
 /// Stores these bits as a word of a set.
 #[inline(always)]
 pub(crate) fn store_word(sets: &mut [u64], set: usize, word: u64, bits: u64)
@@ -148,4 +159,26 @@ pub(crate) fn remove(sets: &mut [u64], set: usize, page: u64)
         let summary = SET_WORDS * set;
         sets[summary] = with_bit(sets[summary], word, false);
     }
+}
+
+/// Puts the pages of a word of a set that have a 1 in these bits into it, or takes them out.
+#[inline(always)]
+pub(crate) fn put_bits(sets: &mut [u64], set: usize, word: u64, bits: u64, inside: bool)
+    requires sets { AreSets sets.old }
+    requires set { set < 20 }
+    requires word { word < 64 }
+    ensures { PutsBits sets.old sets.new set word bits inside }
+{
+    let found = sets[SET_WORDS * set + 1 + word as usize];
+    store_word(sets, set, word, with_bits(found, bits, inside));
+}
+
+/// The bits of those pages in a word of a set that are from one page on and below another.
+#[inline(always)]
+pub(crate) fn bits_between(word: u64, from: u64, end: u64) -> u64
+    requires end { 64 * word < end }
+    ensures { (place : ℕ) → place < 64 → (bit_at result place == 1) ≡ is_between from end (64 * word + place) }
+{
+    let first = from.saturating_sub(64 * word);
+    ones_below(end - 64 * word) & !ones_below(first)
 }

@@ -1,6 +1,6 @@
 -- Cells and runs as the words show them.
 use Rattle.std.specs.Prelude.{ℕ, ◌+◌, ◌-◌, ◌*◌, ◌/◌, ◌^◌, Bool, true, false, ◌&&◌, ◌||◌, not, ◌==◌, nat_le, nat_lt}
-use Rattle.std.specs.Prelude.{List, Option, Some, None, slice_index, slice_index_or}
+use Rattle.std.specs.Prelude.{List, Option, Some, None, if◌then◌else◌, slice_index, slice_index_or}
 use Rattle.mk_geom.specs.{declared.addresses.Cell.Cell, declared.headers.Header.Header}
 use Rattle.mk_geom.specs.declared.headers.Header.TheVariants.{Block, Run, Later, LeafBlock, LeafRun}
 use Rattle.mk_geom.specs.{declared.pages.Page.Page, Storages.free_page, Classes.{cells_of, class_words_of}}
@@ -86,6 +86,10 @@ is_marked w cell = has_bit (slice_index w.marks cell.page) cell.index
 -- The cell isn't scanned: its type has no pointer, or its run is unmapped.
 abbrev pub has_no_pointers : Option Header → Bool
 has_no_pointers header = is_leaf_header header || is_unmapped_header header
+
+-- How many words of a cell under the header are scanned: none of a leaf cell, or of an unmapped run.
+abbrev pub words_scanned : Option Header → ℕ
+words_scanned header = if has_no_pointers header then 0 else words_under header
 
 -- The value points into nothing, or into a marked cell.
 abbrev pub points_well : ℕ → Words → ℕ → Bool

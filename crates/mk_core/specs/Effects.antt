@@ -17,7 +17,8 @@ use Rattle.mk_core.specs.{declared.seats.Presence.TheVariants.{Visiting, Attendi
 use Rattle.mk_core.specs.{Words.{Words, accessed}, Bits.has_bit, Calls.{at_rest, begun, onward, still, refused}}
 use Rattle.mk_core.specs.{Calls.{progress_reg, progress_read, progress_cas, progress_getg}, Bounded.is_some_and}
 use Rattle.mk_core.specs.Cells.{header_in, run_headed, heads_run, has_no_pointers, is_unmapped_header, pointed_cell}
-use Rattle.mk_core.specs.{Cells.{is_used, is_freed, is_marked, words_under}, NewPlaces.{object_made, target}}
+use Rattle.mk_core.specs.Cells.{is_used, is_freed, is_marked, words_scanned, words_under}
+use Rattle.mk_core.specs.NewPlaces.{object_made, target}
 use Rattle.mk_core.specs.{TurnConditions.{place_now, cell_freed}, StopConditions.marks_place, Moments.{Moment, Seats}}
 use Rattle.mk_core.specs.Moments.{nothing_done, outside, flight_of, marker_of, others_are_held, is_phase}
 use Rattle.mk_core.specs.declared.events.Seat.TheVariants as seat
@@ -171,9 +172,7 @@ scan_begun page index header =
       page = page;
       index = index;
       next = 64 * page + index * words_under (header_of header);
-      end =
-          64 * page + index * words_under (header_of header)
-          + (if has_no_pointers (header_of header) then 0 else words_under (header_of header));
+      end = 64 * page + index * words_under (header_of header) + words_scanned (header_of header);
     }
 
 -- the scan that a `claim` begins, if the cell is marked

@@ -6,7 +6,7 @@ ghost use Rattle.mk_core.specs.Cells.{cells_under, words_under, run_headed, head
 ghost use Rattle.mk_core.specs.Cells.{head_page, cell_bits, first_word, cell_words, pointed_cell, is_used, is_freed};
 ghost use Rattle.mk_core.specs.Cells.{is_marked, points_well, word_points_well, words_point_well, words_are_zero};
 ghost use Rattle.mk_core.specs.Cells.{left_unmarked, is_left_unmarked, are_left_unmarked, none_is_left_unmarked};
-ghost use Rattle.mk_core.specs.Cells.{is_released_cell, is_in_run};
+ghost use Rattle.mk_core.specs.Cells.{is_released_cell, is_in_run, words_scanned};
 ghost use Rattle.mk_geom.specs.{Headers.header_of, Addresses.address_of};
 
 use crate::bounded::all_below;
@@ -139,6 +139,18 @@ pub fn has_no_pointers(header: u64) -> bool
         decode(header),
         Some(Header::LeafBlock(_) | Header::LeafRun { .. })
     ) || is_unmapped(header)
+}
+
+/// How many words of a cell under the header word are scanned.
+pub fn words_scanned(header: u64) -> u64
+    ensures exact { result ≡ words_scanned (header_of header) }
+    ensures few { result ≤ 4096 }
+{
+    if has_no_pointers(header) {
+        0
+    } else {
+        words_under(header)
+    }
 }
 
 impl RunPages {

@@ -32,7 +32,8 @@ mod turn_conditions;
 pub use accesses::{Access, TableWord};
 pub use calls::is_under_turn;
 pub use cells::{
-    bit, bit_for, cells_under, has_bit, has_cell, has_no_pointers, lowest_bit, without, words_under,
+    bit, bit_for, cells_under, has_bit, has_cell, has_no_pointers, lowest_bit, without,
+    words_scanned, words_under,
 };
 pub use config::{Config, GlobalTable};
 pub use events::{Answer, Event, NotEnabled, Seat, Step, Tally, Word};

@@ -6,7 +6,7 @@ ghost use Rattle.mk_core.specs.{Effects.{hand_behind_look, behind_mlook, marker_
 ghost use Rattle.mk_core.specs.{MarkerConditions.{cell_seen, has_next_word}, Ranges.is_in_range};
 ghost use Rattle.mk_core.specs.declared.events.Seat.TheVariants.{Marker as MarkerSeat};
 
-use crate::cells::{has_bit, has_no_pointers, words_under};
+use crate::cells::{has_bit, words_scanned, words_under};
 use crate::machine::OUTSIDE;
 use crate::{Config, Marker, Phase, Presence, Scan, SeenHeader, Step, Word};
 use mk_geom::{Cell, HEAP_START, PAGE_BYTES, PAGE_WORDS, lookup, page_at};
@@ -17,13 +17,12 @@ fn scan_begun(page: u64, index: u64, header: u64) -> Scan
     requires index { index < 32 }
     ensures { result ≡ scan_begun page index header }
 {
-    let words = words_under(header);
-    let next = PAGE_WORDS * page + index * words;
+    let next = PAGE_WORDS * page + index * words_under(header);
     Scan {
         page,
         index,
         next,
-        end: next + if has_no_pointers(header) { 0 } else { words },
+        end: next + words_scanned(header),
     }
 }
 

@@ -1,7 +1,7 @@
 -- The later pages of a run in which no cell is used are freed one after the other.
 use Rattle.mk_words.proofs.Below.Laws.Vocabulary.{Bool, Header, None, Option, Some, Step, ℕ, ap, arith, cases_lt, false}
 use Rattle.mk_words.proofs.Below.Laws.Vocabulary.{head_page_under, header_in, header_of, inl, inr, refl, run_count}
-use Rattle.mk_words.proofs.Below.Laws.Vocabulary.{slice_index, subst, sym, ◌+◌, ◌-◌, ◌<◌, ◌∙◌, ◌≡◌, ◌≤◌}
+use Rattle.mk_words.proofs.Below.Laws.Vocabulary.{slice_index, subst, suc, sym, zero, ◌+◌, ◌-◌, ◌<◌, ◌∙◌, ◌≡◌, ◌≤◌}
 use Rattle.mk_cycle.proofs.Vocabulary.{Acts, FreesPage, IsEnabledTo, IsSettledPage, IsTurn, IsTurnAt, PageState}
 use Rattle.mk_cycle.proofs.Vocabulary.{PassState, SamePage, WordsState, now_of}
 use Rattle.mk_cycle.proofs.{Allowed.on_table, FreeingSteps.{freed_turn, frees_nothing, frees_then}}
@@ -9,7 +9,9 @@ use Rattle.mk_cycle.proofs.{GivingSteps.{head_allowed, head_frees, head_state}, 
 use Rattle.mk_cycle.proofs.{PageSteps.same_used, SettledPages.{empties_here, freed_settles, no_cells, no_snapshot}}
 use Rattle.mk_cycle.proofs.SettledPages.{none_left, still_settled}
 use Rattle.mk_cycle.specs.Freeing.{FreesRest, MayFreeRest}
-use Rattle.mk_books.specs.Members.{IsNext}
+use Rattle.mk_words.{proofs.StoredHeads.{heads_keep_turn, heads_leave}, specs.RunSteps.{MayStoreHeads, StoresHeads}}
+use Rattle.mk_books.specs.{Members.{IsNext, page_at}, Runs.StandsOn}
+use Rattle.mk_geom.specs.{PageUses.PartOfRun, PageWords.use_under}
 use Rattle.std.specs.Option.{unwrap_or}
 
 pub rest_none : (from : ℕ) (p : PassState) → FreesRest from from p p
@@ -81,6 +83,51 @@ module _ {p q : PassState} {y : WordsState} {head from to page : ℕ} (t : IsTur
               ∙ later_count _ (page - head) later)
         ];
       }
+
+-- So many of them are freed at once.
+module _ {p : PassState} {y : WordsState} {head from to : ℕ} (t : IsTurn p) (turn : IsTurnAt 4 y p)
+    (may : MayFreeRest head from to p) (within : to ≤ y.config.pages) where
+  -- they are the run's later pages
+  abbrev pub AreLater : ℕ → Type 0
+  AreLater end = (r : ℕ) → from ≤ r → r < end
+      → header_in (now_of p).words r ≡ Some (Header.Later (r - head) false)
+
+  -- the next of them is one of these still
+  next_later : {q : PassState} {n : ℕ} → FreesRest from n p q → AreLater (n + 1) → from ≤ n
+      → header_in (now_of q).words n ≡ Some (Header.Later (n - head) false)
+  next_later {q} {n} freed later begun =
+      ap header_of (same_header p q n (freed.others n (λ low high. omega (arith, high))))
+      ∙ later n begun (omega arith)
+
+  module _ {count : ℕ} (near : from + count ≤ to) (later : AreLater (from + count)) where
+    next_of : (n : ℕ) → n < count → AreLater (from + n + 1)
+    next_of n less r low high = later r low (omega (arith, less, high))
+
+    pub rest_stored : (n : ℕ) (q : PassState) → n ≤ count → StoresHeads p from n (λ _. 0) q
+        → FreesRest from (from + n) p q
+    rest_stored =
+        heads_leave from count (λ _. 0) (λ n q. FreesRest from (from + n) p q)
+        (subst (λ (i : ℕ). FreesRest from i p p) (omega arith) (rest_none from p)) (λ n q r less stores freed acts.
+        subst (λ (i : ℕ). FreesRest from i p r) (omega arith)
+        (rest_on (heads_keep_turn p from n (λ _. 0) q stores t) turn may freed (omega arith)
+        (omega (arith, near, less)) (omega (arith, near, less, within))
+        (next_later freed (next_of n less) (omega arith)) acts))
+
+    -- each may be freed after those before it
+    pub rest_allowed : MayStoreHeads p from count (λ _. 0)
+    rest_allowed n q less stores =
+        let freed = rest_stored n q (omega (arith, less)) stores in
+        rest_may (heads_keep_turn p from n (λ _. 0) q stores t) turn may freed (omega arith)
+        (omega (arith, near, less)) (omega (arith, near, less, within))
+        (next_later freed (next_of n less) (omega arith))
+
+-- and they are those of an unmapped run
+pub rest_stands : (p : PassState) (head from count : ℕ)
+    → ((r : ℕ) → from ≤ r → r < from + count → header_in (now_of p).words r ≡ Some (Header.Later (r - head) false))
+    → StandsOn (PartOfRun false) (now_of p).words.pages from count
+rest_stands p head from count later distance less =
+    ap (λ (x : Option Header). use_under x (page_at (now_of p).words.pages (from + distance)).used)
+    (later (from + distance) (omega arith) (omega (arith, less)))
 
 -- No page before the next that has freed cells has any.
 pub bare_to : (passes : ℕ → Bool) (from count : ℕ) (next : Option ℕ) (r : ℕ) → IsNext passes from count next → from ≤ r

@@ -1,12 +1,12 @@
 -- Gray cells, which are marked and not black, and what steps in the stop keep to.
 use Rattle.std.specs.Prelude.{◌≡◌, ◌≢◌, ◌⊎◌, ℕ, ◌+◌, ◌<◌, ◌≤◌, Bool, true, false, ⊤, slice_index, slice_set, bit_or}
-use Rattle.std.specs.Prelude.{bit_and, ◌^◌, Option, Some, if◌then◌else◌}
+use Rattle.std.specs.Prelude.{bit_and, ◌^◌, Option, Some}
 use Rattle.mk_geom.specs.{declared.addresses.Cell.Cell, declared.headers.Header.Header}
 use Rattle.mk_core.specs.{declared.config.Config.Config, declared.events.Step.Step, declared.seats.Flight.Flight}
 use Rattle.mk_core.specs.{declared.seats.Hand.Hand, Bits.{has_bit, without}, Bounded.is_some_and}
 use Rattle.mk_core.specs.{Words.{Words, phase_of, register_word}, Cells.{header_in, head_page, cells_under, cell_bits}}
-use Rattle.mk_core.specs.Cells.{first_word, cell_words, is_marked, has_no_pointers, pointed_cell, points_well}
-use Rattle.mk_core.specs.{Cells.words_under, Cycles.{is_unmarked, sweeps}, Frames.OnlyGrow, Moments.Moment}
+use Rattle.mk_core.specs.Cells.{first_word, cell_words, is_marked, pointed_cell, points_well}
+use Rattle.mk_core.specs.{Cycles.{is_unmarked, sweeps}, Frames.OnlyGrow, Moments.Moment}
 use Rattle.mk_core.specs.StopConditions.{marks_by_hand}
 use Rattle.mk_words.specs.{States.{PassState, TurnState, now_of}, TurnSteps.IsStopped}
 use Rattle.mk_cycle.specs.{Stops.{HolderIsLoaded, IsWanted, hand_of, still_words}, Tracing.{Counted, Traces}}
@@ -24,10 +24,6 @@ pub record IsGray (pages : ℕ) (w : Words) (cell : Cell) : Type 0 where
   pub index : cell.index < cells_under (header_in w cell.page)
   pub marked : is_marked w cell ≡ true
   pub not_black : is_black w cell ≡ false
-
--- how many words of a cell under the header are scanned
-abbrev pub words_scanned : Option Header → ℕ
-words_scanned x = if has_no_pointers x then 0 else words_under x
 
 -- a word of a gray cell
 pub record IsGrayWord (pages : ℕ) (w : Words) (n : ℕ) : Type 0 where

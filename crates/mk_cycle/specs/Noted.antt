@@ -3,8 +3,9 @@ use Rattle.std.specs.Prelude.{◌≡◌, ◌⊎◌, ◌++◌, ℕ, ◌<◌, Bool
 use Rattle.std.specs.List.{All, Contains}
 use Rattle.mk_geom.specs.declared.addresses.Cell.{Cell}
 use Rattle.mk_core.specs.{Cells.{cell_words, cells_under, has_no_pointers, header_in, is_marked}, Words.Words}
+use Rattle.mk_core.specs.Cells.{words_scanned}
 use Rattle.mk_cycle.specs.{declared.noted.Noted.Noted, declared.worklist.Worklist.Worklist}
-use Rattle.mk_cycle.specs.Grays.{IsGray, words_scanned}
+use Rattle.mk_cycle.specs.Grays.{IsGray}
 
 -- The cell is one of its page's and marked, and so many of its words are scanned.
 pub record IsNoted (pages : ℕ) (w : Words) (noted : Noted) : Type 0 where

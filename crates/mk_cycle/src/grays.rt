@@ -5,11 +5,11 @@ ghost use Rattle.mk_core.specs.{Bits.has_bit, Cells.cells_under};
 ghost use Rattle.mk_cycle.specs.{Grays.{HasNoGray, LooksOn, gray_bits, is_black}, Stops.{MayTrace, still_words}};
 ghost use Rattle.mk_cycle.specs.Noted.{AreNoted, IsGrayNoted, IsNoted, listed, with_last};
 
-use crate::noted::{Noted, words_scanned};
+use crate::noted::Noted;
 use crate::stepping::look_at;
 use crate::tables::Table;
 use crate::worklist::Worklist;
-use mk_core::{Word, cells_under, has_cell, without};
+use mk_core::{Word, cells_under, has_cell, without, words_scanned};
 use mk_geom::Cell;
 use mk_words::Stopped;
 

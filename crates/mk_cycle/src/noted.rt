@@ -1,10 +1,9 @@
 //! What is noted of a marked cell: what follows from its page's header word, which is looked at once.
 ghost use Rattle.std.specs.Prelude.{◌≡◌, ◌<◌, ◌≤◌, ◌+◌, Some, None, IfSome, IfNone};
-ghost use Rattle.mk_core.specs.Cells.{cells_under};
+ghost use Rattle.mk_core.specs.Cells.{cells_under, words_scanned};
 ghost use Rattle.mk_geom.specs.{Addresses.cell_of_block, Headers.header_of};
-ghost use Rattle.mk_cycle.specs.Grays.{words_scanned};
 
-use mk_core::{cells_under, has_no_pointers, words_under};
+use mk_core::{cells_under, words_scanned};
 use mk_geom::{Cell, class_words, index_in_block};
 
 /// Where the cells of a block end in their page, by class. What comes after them is the block's tail.
@@ -15,17 +14,6 @@ const CELLS_END: [u64; 8] = [64, 64, 60, 64, 60, 64, 48, 64];
 pub(crate) struct Noted {
     pub(crate) cell: Cell,
     pub(crate) words: u64,
-}
-
-/// How many words of a cell under the header word are scanned.
-pub(crate) fn words_scanned(header: u64) -> u64
-    ensures { result ≡ words_scanned (header_of header) }
-{
-    if has_no_pointers(header) {
-        0
-    } else {
-        words_under(header)
-    }
 }
 
 impl Noted {

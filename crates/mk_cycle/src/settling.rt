@@ -74,6 +74,26 @@ fn is_later_page(turn: &Turn, head: u64, page: u64) -> bool
     turn.page(page).header == encode(later)
 }
 
+/// Where the later pages of an unmapped run end, of those from one on and below another.
+#[inline(always)]
+fn later_end(turn: &Turn, head: u64, from: u64, to: u64) -> u64
+    requires within { to ≤ turn.now.pass.table.config.pages }
+    requires after { head < from }
+    requires near { to ≤ head + 64 }
+    requires some { from ≤ to }
+    ensures begun { from ≤ result }
+    ensures ends { result ≤ to }
+    ensures later { (page : ℕ) → from ≤ page → page < result
+        → header_in (now_of turn.now.pass).words page ≡ Some (Later (page - head) false) }
+{
+    for page in from..to {
+        if !is_later_page(turn, head, page) {
+            return page;
+        }
+    }
+    to
+}
+
 /// Frees later pages of an unmapped run, from one on and below another, as far as they are its pages. Returns where it
 /// has ended. No cell is used at the head, and no page has freed cells.
 #[inline(always)]
@@ -87,13 +107,11 @@ fn free_later_pages(turn: &mut Turn, words: &Words, head: u64, from: u64, to: u6
     ensures ends { result ≤ words.now.config.pages }
     ensures frees { FreesRest from result turn.old.pass turn.new.pass }
 {
-    for page in from..to {
-        if !is_later_page(turn, head, page) {
-            return page;
-        }
-        turn.head(words, page, 0);
+    let end = later_end(turn, head, from, to);
+    if from < end {
+        turn.free_pages(words, from, end - from);
     }
-    to
+    end
 }
 
 /// Frees the later pages of the run of a page that is settled, up to this end, if no cell of it is used. Returns the

@@ -1,16 +1,16 @@
 -- A heap of one caller: all calls are its own, so it is known what the heap that never reuses storage replied to them.
 use Rattle.mk_alloc.proofs.Below.Laws.Vocabulary.{AreAdmitted, Answer, Bool, Caller, Config, Decided, Event, IsAdmitted}
-use Rattle.mk_alloc.proofs.Below.Laws.Vocabulary.{IsHistory, List, NeverState, Null, Op, Seat, Some, Value, after_calls}
+use Rattle.mk_alloc.proofs.Below.Laws.Vocabulary.{IsHistory, List, NeverState, Null, Op, Some, after_calls}
 use Rattle.mk_alloc.proofs.Below.Laws.Vocabulary.{answer_of, answered, ap, append-nil, arith, asked, bases_of, calls}
-use Rattle.mk_alloc.proofs.Below.Laws.Vocabulary.{calls_from, caller_number, entry_of, eq-eqb, false, if◌then◌else◌, left}
-use Rattle.mk_alloc.proofs.Below.Laws.Vocabulary.{length, map, never_behind, refl, replies_of, subst, sym, true, ℕ, []}
+use Rattle.mk_alloc.proofs.Below.Laws.Vocabulary.{calls_from, entry_of, eq-eqb, false, if◌then◌else◌, left, length}
+use Rattle.mk_alloc.proofs.Below.Laws.Vocabulary.{map, never_behind, refl, replies_of, subst, sym, true, ℕ, []}
 use Rattle.mk_alloc.proofs.Below.Laws.Vocabulary.{◌*◌, ◌++◌, ◌+◌, ◌<◌, ◌==◌, ◌∙◌, ◌∷◌, ◌≡◌}
 use Rattle.std.proofs.{Common.{Err, IfErr, Ok, OnOk, Result}, lemmas.List.length-replicate}
 use Rattle.mk_never.proofs.Later.{op_stays}
 use Rattle.mk_alloc.proofs.Below.{Callers.OwnSteps.calls_by, Laws.Promises.histories_keep_all_promises}
 use Rattle.mk_alloc.specs.{Below.Callers.Called.own_calls, Below.Callers.States.{Admits, CallerState, IsAtHome}}
-use Rattle.mk_alloc.specs.{Below.Callers.States.{caller_of_pass, never_of}, Below.Words.States.{PassState, WordsState}, declared.making.Full.Full}
-use Rattle.mk_alloc.specs.TurnCalls.{CalledInTurn, IsAnsweredFull, MayTakeTurns}
+use Rattle.mk_alloc.specs.{Below.Callers.States.{caller_of_pass, never_of}, Below.Words.States.{PassState, WordsState}}
+use Rattle.mk_alloc.specs.{TurnCalls.{CalledInTurn, IsAnsweredFull, MayTakeTurns}, declared.making.Full.Full}
 use Rattle.mk_core.specs.History.{never_first}
 use Rattle.mk_never.specs.NeverHeap.{after_op}
 use Rattle.mk_heap.specs.{Dispatching.{Answers, MakesNoCall, StaysAdmitted}, Hosts.{HostState, first_host, pass_for}}
@@ -21,8 +21,8 @@ all_own globals n [] count admitted = refl
 all_own globals n (x ∷ xs) count admitted =
     let here : 8 * x.caller + 7 < length n.registers = admitted.0.of_a_caller in
     ap (λ (b : Bool). if b then x ∷ calls_by 0 xs else calls_by 0 xs) (eq-eqb x.caller 0 (omega (arith, count, here)))
-    ∙ ap (λ (l : List Decided). x ∷ l) (all_own globals (after_op n x.caller x.op) xs ((op_stays n x.caller x.op).registers
-    ∙ count) admitted.1)
+    ∙ ap (λ (l : List Decided). x ∷ l) (all_own globals (after_op n x.caller x.op) xs
+    ((op_stays n x.caller x.op).registers ∙ count) admitted.1)
 
 -- The pass of the one caller, which made these calls.
 pub record Made (c : Config) (p : PassState) (xs : List Decided) : Type 0 where
@@ -65,8 +65,8 @@ module _ {c : Config} {p : PassState} {xs : List Decided} (made : Made c p xs) w
     pub all_made : calls c p.seen ≡ xs
     all_made =
         let here = subst (λ (d : Config). IsHistory d p.seen) made.config history in
-        sym (all_own c.globals (never_first c) (calls c p.seen) (length-replicate (8 * c.callers) Null ∙ ap (λ (n : ℕ). 8 * n) one)
-        here.admitted) ∙ made.own
+        let eight = length-replicate (8 * c.callers) Null ∙ ap (λ (n : ℕ). 8 * n) one in
+        sym (all_own c.globals (never_first c) (calls c p.seen) eight here.admitted) ∙ made.own
 
     never_is : never_of p ≡ after_calls (never_first c) (asked xs)
     never_is =

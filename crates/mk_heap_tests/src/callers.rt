@@ -112,19 +112,17 @@ mod tests {
     use super::two_at_once;
     use crate::beginnings::two_callers;
     use crate::configs::one_page;
+    use crate::reports::counts_of;
     use mk_never::Kind;
-    use std::test::Fail;
 
     /// Nobody holds a gate, so no call is refused for that.
     #[test]
-    fn two_callers_make_their_calls_at_once(rt: HostRuntime) -> Result<(), Fail> {
+    fn two_callers_make_their_calls_at_once(rt: HostRuntime) {
         let mut config = one_page(rt.alloc(), 2, 0, &[Kind::Num]).expect(&rt, "memory");
         config.globals.add(0).expect(&rt, "memory");
         let two = two_callers(rt.alloc(), &config).expect(&rt, "memory");
         let (report, fine) = two_at_once(&rt, two);
         assert!(rt; fine);
-        assert_eq!(rt; (report.held, report.fresh, report.quarantined), (0, 0, 0));
-        assert_eq!(rt; (report.released, report.cycles, report.full), (0, 0, 0));
-        Ok(())
+        assert_eq!(rt; counts_of(&report), [0; 6]);
     }
 }

@@ -3,7 +3,7 @@
 
 use mk_core::{Answer, Config, Core, Event, GlobalTable, NotEnabled, Seat, Step, Tally};
 use mk_never::{Kind, Op, TypeTable};
-use std::test::Fail;
+use std::alloc::Global;
 
 /// The `take` of a New.
 fn new(register: u8) -> Step {
@@ -55,6 +55,11 @@ fn make(core: &mut Core, seat: Seat, steps: &[Step]) -> Result<Option<Answer>, N
         }
     }
     Ok(last)
+}
+
+/// Whether a seat's steps are all enabled, and this is the last answer that they decide.
+fn decides(core: &mut Core, seat: Seat, steps: &[Step], last: Option<Answer>) -> bool {
+    make(core, seat, steps) == Ok(last)
 }
 
 /// Two objects are made.
@@ -149,45 +154,41 @@ fn third_made() -> [Step; 17] {
     ]
 }
 
-/// What was freed before the `begin` is given back in that cycle, and what was freed after it stays. A third object
-/// stands where the first one was.
-#[test]
-fn what_is_freed_after_the_begin_stays(rt: HostRuntime) -> Result<(), Fail> {
-    let mut types = TypeTable::new(rt.alloc());
-    types
-        .add(Vec::from_elem(rt.alloc(), Kind::Num, 32)?)
-        .expect(&rt, "memory");
+/// A core of one caller, on a page for two objects of 32 words, if memory suffices.
+fn new_core(alloc: Global) -> Option<Core> {
+    let mut types = TypeTable::new(alloc);
+    types.add(Vec::from_elem(alloc, Kind::Num, 32).ok()?).ok()?;
     let config = Config {
         pages: 1,
         resident: 1,
         callers: 1,
         markers: 0,
         types,
-        globals: GlobalTable::new(rt.alloc()),
+        globals: GlobalTable::new(alloc),
     };
-    let mut core = Core::start(rt.alloc(), &config).expect(&rt, "memory");
+    Core::start(alloc, &config).ok()
+}
+
+/// Whether the first object's cycle goes so: its caller's calls are done, and the host closes it.
+fn comes_to_a_close(core: &mut Core) -> bool {
     let caller = Seat::Caller(0);
-    assert_eq!(rt;
-        make(&mut core, caller, &two_made()),
-        Ok(Some(Answer::Done))
-    );
-    assert_eq!(rt;
-        make(&mut core, caller, &both_freed()),
-        Ok(Some(Answer::Done))
-    );
-    assert_eq!(rt;
-        make(&mut core, caller, &registers_cleared()),
-        Ok(Some(Answer::Done))
-    );
-    assert_eq!(rt; make(&mut core, Seat::Host, &cycle_closed()), Ok(None));
+    decides(core, caller, &two_made(), Some(Answer::Done))
+        & decides(core, caller, &both_freed(), Some(Answer::Done))
+        & decides(core, caller, &registers_cleared(), Some(Answer::Done))
+        & decides(core, Seat::Host, &cycle_closed(), None)
+}
+
+/// What was freed before the `begin` is given back in that cycle, and what was freed after it stays. A third object
+/// stands where the first one was.
+#[test]
+fn what_is_freed_after_the_begin_stays(rt: HostRuntime) {
+    let mut core = new_core(rt.alloc()).expect(&rt, "memory");
+    assert!(rt; comes_to_a_close(&mut core));
     let both = make(&mut core, Seat::Host, &[used(0)]);
-    assert_eq!(rt; both, Err(NotEnabled { condition: 7 }));
-    assert_eq!(rt; make(&mut core, Seat::Host, &first_given_back()), Ok(None));
-    assert_eq!(rt;
-        make(&mut core, caller, &third_made()),
-        Ok(Some(Answer::Done))
-    );
+    assert!(rt; both == Err(NotEnabled { condition: 7 }));
+    assert!(rt; decides(&mut core, Seat::Host, &first_given_back(), None));
+    let caller = Seat::Caller(0);
+    assert!(rt; decides(&mut core, caller, &third_made(), Some(Answer::Done)));
     let shown = [Step::Enter(Op::IsNull { p: 2 }), Step::Reg, Step::Leave];
-    assert_eq!(rt; make(&mut core, caller, &shown), Ok(Some(Answer::Num(0))));
-    Ok(())
+    assert!(rt; decides(&mut core, caller, &shown, Some(Answer::Num(0))));
 }

@@ -18,7 +18,7 @@ fn clear(caller: &mut Caller) -> bool
 
 /// Which calls are made: one of the first caller before its gate is held, another of it then, and one of the second
 /// caller beside that.
-#[derive(Clone, Copy, Debug, PartialEq, Eq, Drop)]
+#[derive(Clone, Copy)]
 pub(crate) struct Made {
     pub(crate) before: bool,
     pub(crate) held: bool,
@@ -58,30 +58,27 @@ pub(crate) fn hold_first(split: Split) -> Option<Made>
 
 #[cfg(test)]
 mod tests {
-    use super::{Made, hold_first};
+    use super::hold_first;
     use crate::beginnings::split_callers;
     use crate::configs::one_page;
     use mk_never::Kind;
     use mk_run::lower::callers::Refusal;
-    use std::test::Fail;
 
     #[test]
-    fn a_gate_that_is_held_refuses_its_caller(rt: HostRuntime) -> Result<(), Fail> {
+    fn a_gate_that_is_held_refuses_its_caller(rt: HostRuntime) {
         let config = one_page(rt.alloc(), 2, 0, &[Kind::Num]).expect(&rt, "memory");
-        let expected = Made {
-            before: true,
-            held: false,
-            beside: true,
-        };
         let split = split_callers(rt.alloc(), &config).expect(&rt, "memory");
-        assert_eq!(rt; hold_first(split), Some(expected));
-        Ok(())
+        let made = hold_first(split).expect(&rt, "the gate");
+        assert_eq!(rt; (made.before, made.held, made.beside), (true, false, true));
     }
 
     #[test]
     fn refusals_have_numbers(rt: HostRuntime) {
-        assert_eq!(rt; Refusal::Fault as u8, 1);
-        assert_eq!(rt; Refusal::Null as u8, 2);
-        assert_eq!(rt; Refusal::Held as u8, 4);
+        let numbers = (
+            Refusal::Fault as u8,
+            Refusal::Null as u8,
+            Refusal::Held as u8,
+        );
+        assert_eq!(rt; numbers, (1, 2, 4));
     }
 }

@@ -161,14 +161,14 @@ pub(crate) fn come_when_over<E: Engine, R: Threads + Wait + Sync>(
 mod tests {
     use super::{come_to_a_cycle, come_when_over, split_for_one};
     use crate::configs::one_page;
+    use crate::reports::counts_of;
     use mk_never::Kind;
     use mk_run::lower::cycles::{Engine, MostlyEngine};
     use mk_run::lower::markers::Work;
-    use std::test::Fail;
 
     /// At the `begin` the engine marks the object that the register points to, and that one alone is scanned.
     #[test]
-    fn a_marker_comes_to_a_cycle_and_is_told_to_go(rt: HostRuntime) -> Result<(), Fail> {
+    fn a_marker_comes_to_a_cycle_and_is_told_to_go(rt: HostRuntime) {
         let config = one_page(
             rt.alloc(),
             1,
@@ -178,22 +178,17 @@ mod tests {
         .expect(&rt, "memory");
         let split = split_for_one(rt.alloc(), &config).expect(&rt, "memory");
         let mut engine = MostlyEngine::make(rt.alloc(), config.pages).expect(&rt, "memory");
-        assert_eq!(rt;
-            come_to_a_cycle(&rt, split, &mut engine),
-            Some(Work::Wanted)
-        );
-        Ok(())
+        let told = come_to_a_cycle(&rt, split, &mut engine);
+        assert!(rt; told == Some(Work::Wanted));
     }
 
     #[test]
-    fn a_marker_that_comes_when_all_is_over_finds_that(rt: HostRuntime) -> Result<(), Fail> {
+    fn a_marker_that_comes_when_all_is_over_finds_that(rt: HostRuntime) {
         let config = one_page(rt.alloc(), 1, 1, &[Kind::Num]).expect(&rt, "memory");
         let report = come_when_over::<MostlyEngine, HostRuntime>(&rt, rt.alloc(), &config).expect(
             &rt, "memory",
         );
         let report = report.expect(&rt, "the phase of the end");
-        assert_eq!(rt; (report.held, report.fresh, report.quarantined), (0, 0, 0));
-        assert_eq!(rt; (report.released, report.cycles, report.full), (0, 0, 0));
-        Ok(())
+        assert_eq!(rt; counts_of(&report), [0; 6]);
     }
 }

@@ -1,6 +1,6 @@
 //! Tests of the running heap, with real threads.
 //! It promises nothing: the tests try what no clause says.
-//! Start with `rows`, then `lists`, `stacks` and `queues`.
+//! Start with `rows`, then `lists` and `shared`.
 #![tactic(auto)]
 
 #[cfg(test)]
@@ -16,6 +16,8 @@ mod frees;
 #[cfg(test)]
 mod gates;
 #[cfg(test)]
+mod large_runs;
+#[cfg(test)]
 mod late_markers;
 #[cfg(test)]
 mod lists;
@@ -26,11 +28,15 @@ mod objects;
 #[cfg(test)]
 mod queues;
 #[cfg(test)]
+mod reports;
+#[cfg(test)]
 mod retiring;
 #[cfg(test)]
 mod rows;
 #[cfg(test)]
 mod runs;
+#[cfg(test)]
+mod shared;
 #[cfg(test)]
 mod stacks;
 #[cfg(test)]

@@ -1,12 +1,9 @@
 //! What callers put into an object that they share, a stack or a queue, and what they took out of it.
 
-use mk_run::lower::heaps::Pace;
 use std::alloc::{AllocError, Global};
-use std::sync::atomic::{AtomicBool, AtomicU64, Ordering};
-use std::thread::yield_now;
 
 /// A job that puts a number in or takes one out, and what becomes of it.
-#[derive(Clone, Copy, Debug, PartialEq, Eq)]
+#[derive(Clone, Copy, PartialEq, Eq)]
 pub enum Move {
     Put(u64),
     /// There is no room for the number.
@@ -40,82 +37,6 @@ pub fn moves_of(alloc: Global, row: &str) -> Option<Vec<Move>> {
     Some(moves)
 }
 
-/// The jobs that each caller of a large run does beside the others.
-const JOBS_EACH: u64 = 25_000;
-
-/// The jobs of a caller of a large run. When the others have done theirs, caller 3 takes out what is left, and finds
-/// nothing at last.
-pub fn jobs_of(caller: u64) -> u64 {
-    if caller == 3 {
-        3 * JOBS_EACH + 1
-    } else {
-        JOBS_EACH
-    }
-}
-
-/// Whether a job of a caller of a large run puts a number in. Callers 0 and 1 put two in, take two out, and so on;
-/// caller 2 only puts in, and caller 3 only takes out.
-pub fn puts(caller: u64, job: u64) -> bool {
-    match caller {
-        2 => true,
-        3 => false,
-        _ => job % 4 < 2,
-    }
-}
-
-/// The number that it puts in. No number is put in twice, and each caller's become larger.
-pub fn number_of(caller: u64, job: u64) -> u64 {
-    caller.wrapping_mul(JOBS_EACH).wrapping_add(job)
-}
-
-/// How often caller 3 waits for the others.
-const MOST_YIELDS: u64 = 10_000_000;
-
-/// Holds caller 3 of a large run back, until the others have done all their jobs.
-#[derive(Drop)]
-pub struct ThenTheRest {
-    ended: AtomicU64,
-    in_vain: AtomicBool,
-}
-
-impl ThenTheRest {
-    /// None of the others has done its jobs yet.
-    pub fn new() -> ThenTheRest {
-        ThenTheRest {
-            ended: AtomicU64::new(0),
-            in_vain: AtomicBool::new(false),
-        }
-    }
-
-    /// Whether caller 3 waited so long that it went on.
-    pub fn was_in_vain(&self) -> bool {
-        self.in_vain.load(Ordering::SeqCst)
-    }
-}
-
-impl Pace for ThenTheRest {
-    fn before(&self, caller: u64, job: u64) {
-        if caller != 3 || job != JOBS_EACH {
-            return;
-        }
-        for _yield in 0..MOST_YIELDS {
-            if self.ended.load(Ordering::SeqCst) == 3 {
-                return;
-            }
-            yield_now();
-        }
-        self.in_vain.store(true, Ordering::SeqCst);
-    }
-
-    fn answered(&self, caller: u64, job: u64) {
-        if caller != 3 && job == JOBS_EACH - 1 {
-            self.ended.fetch_add(1, Ordering::SeqCst);
-        }
-    }
-
-    fn marked(&self, _marker: u64) {}
-}
-
 /// The numbers that a caller put in, and those that it took out, each in order.
 #[derive(Drop)]
 pub struct Moved {
@@ -123,26 +44,16 @@ pub struct Moved {
     pub taken: Vec<u64>,
 }
 
-/// Those of the numbers that this caller of a large run put in.
-pub fn numbers_from(alloc: Global, numbers: &[u64], caller: u64) -> Result<Vec<u64>, AllocError> {
-    let mut own = Vec::new(alloc);
-    for number in numbers {
-        if *number / JOBS_EACH == caller {
-            own.push(*number)?;
-        }
-    }
-    Ok(own)
-}
-
-/// Whether all numbers of a large run were put in, and each of them was taken out once.
-pub fn agree(alloc: Global, all: &[Moved]) -> Result<bool, AllocError> {
+/// What these moves put in and took out.
+pub fn parted(alloc: Global, moves: &[Move]) -> Result<Moved, AllocError> {
     let mut put = Vec::new(alloc);
     let mut taken = Vec::new(alloc);
-    for moved in all {
-        put.extend_from_slice(&moved.put)?;
-        taken.extend_from_slice(&moved.taken)?;
+    for it in moves {
+        match *it {
+            Move::Put(number) => put.push(number)?,
+            Move::Taken(number) => taken.push(number)?,
+            Move::Full(_) | Move::Empty => {}
+        }
     }
-    put.sort()?;
-    taken.sort()?;
-    Ok(put.len() as u64 == 2 * JOBS_EACH && put == taken)
+    Ok(Moved { put, taken })
 }

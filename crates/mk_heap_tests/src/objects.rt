@@ -79,7 +79,7 @@ fn free_eight<E: Engine, R: Threads + Wait + Sync>(
 }
 
 /// What the calls answer.
-#[derive(Clone, Copy, Debug, PartialEq, Eq, Drop)]
+#[derive(Clone, Copy)]
 pub(crate) struct Answers {
     pub(crate) all_fit: bool,
     pub(crate) one_more_fits: bool,
@@ -135,32 +135,24 @@ pub(crate) fn fill_a_page<E: Engine, R: Threads + Wait + Sync>(
 
 #[cfg(test)]
 mod tests {
-    use super::{Answers, fill_a_page};
+    use super::fill_a_page;
     use crate::beginnings::two_callers;
     use crate::configs::one_page;
+    use crate::reports::counts_of;
     use mk_never::Kind;
     use mk_run::lower::cycles::{Engine, StopEngine};
-    use std::test::Fail;
 
     /// A 33rd object doesn't fit, after a cycle that releases nothing. Of 64 words 16 are a quarter, so that the
     /// eighth free isn't due and the ninth is; its cycle releases nothing either, since each freed object is in a
     /// register.
     #[test]
-    fn the_ninth_of_32_is_due(rt: HostRuntime) -> Result<(), Fail> {
+    fn the_ninth_of_32_is_due(rt: HostRuntime) {
         let config = one_page(rt.alloc(), 2, 0, &[Kind::Num, Kind::Num]).expect(&rt, "memory");
-        let expected = Answers {
-            all_fit: true,
-            one_more_fits: false,
-            eight_undue: true,
-            ninth_due: true,
-            ninth_again: false,
-        };
         let two = two_callers(rt.alloc(), &config).expect(&rt, "memory");
         let mut engine = StopEngine::make(rt.alloc(), config.pages).expect(&rt, "memory");
         let (answers, report) = fill_a_page(&rt, two, &mut engine);
-        assert_eq!(rt; answers, expected);
-        assert_eq!(rt; (report.held, report.fresh, report.quarantined), (64, 0, 9));
-        assert_eq!(rt; (report.released, report.cycles, report.full), (0, 2, 1));
-        Ok(())
+        assert_eq!(rt; (answers.all_fit, answers.one_more_fits), (true, false));
+        assert!(rt; answers.eight_undue & answers.ninth_due & !answers.ninth_again);
+        assert_eq!(rt; counts_of(&report), [64, 0, 9, 0, 2, 1]);
     }
 }

@@ -5,13 +5,13 @@ use mk_run::lower::cycles::Engine;
 use mk_run::lower::heaps::Pace;
 use mk_run::{Outcome, run_all};
 use mk_script::parse;
-use std::alloc::{AllocError, Global};
+use std::alloc::Global;
 use std::sync::Wait;
 use std::thread::Threads;
 
 /// The text with a newline for each `/`.
-pub fn lines(alloc: Global, text: &str) -> Result<String, AllocError> {
-    text.replace(alloc, "/", "\n")
+pub fn lines(alloc: Global, text: &str) -> Option<String> {
+    text.replace(alloc, "/", "\n").ok()
 }
 
 /// The run of a text with at most 8 markers, if it is that of a program and memory suffices.
@@ -27,11 +27,11 @@ pub fn run_of<E: Engine + Send, P: Pace + Sync, R: Threads + Wait + Sync>(
     run_all::<E, P, R>(rt, alloc, &program, markers.min(8), pace).ok()
 }
 
-/// What all scripts printed.
-pub fn printed(alloc: Global, outcome: &Outcome) -> Result<Vec<u8>, AllocError> {
+/// What all scripts printed, if memory suffices.
+pub fn printed(alloc: Global, outcome: &Outcome) -> Option<Vec<u8>> {
     let mut bytes = Vec::new(alloc);
     for text in &outcome.texts {
-        bytes.extend_from_slice(&text.bytes)?;
+        bytes.extend_from_slice(&text.bytes).ok()?;
     }
-    Ok(bytes)
+    Some(bytes)
 }

@@ -1,14 +1,14 @@
 //! Callers on one stack, each on a thread of its own: what became of their jobs, and what is left.
+ghost use Rattle.std.specs.Prelude.{◌≤◌};
 
-use crate::moves::{
-    Move, Moved, ThenTheRest, agree, jobs_of, moves_of, number_of, numbers_from, puts,
-};
+use crate::large_runs::ThenTheRest;
+use crate::moves::{Move, moves_of, parted};
+use crate::shared::{Shared, became_what_is_said, jobs_of_four, jobs_said, what_is_wrong};
 use mk_run::lower::cycles::MostlyEngine;
 use mk_run::lower::heaps::NoPace;
-use mk_stack::{Done, Job, Jobs, run_stack};
+use mk_stack::{Done, Job, run_stack};
 use std::alloc::{AllocError, Global};
 use std::sync::Wait;
-use std::test::Fail;
 use std::thread::Threads;
 
 /// What one caller alone pushes and pops on a page. It has 32 cells: one for the top, and 31 for nodes.
@@ -20,79 +20,44 @@ the cell of a popped node is there for the next one | \
     -27 -26 -25 -24 -23 -22 -21 -20 -19 -18 -17 -16 -15 -14 -13 -12 -11 -10 -9 -8 -7 -6 -5 -4 -3 -2 -1 -0 -
 ";
 
-fn job_of(it: Move) -> Job {
-    match it {
-        Move::Put(number) | Move::Full(number) => Job::Push(number),
-        Move::Taken(_) | Move::Empty => Job::Pop,
-    }
-}
+/// A stack that callers share.
+struct OfStack;
 
-fn done_of(it: Move) -> Done {
-    match it {
-        Move::Put(_) => Done::Pushed,
-        Move::Full(_) => Done::Full,
-        Move::Taken(number) => Done::Popped(number),
-        Move::Empty => Done::Empty,
+impl Shared<Job, Done> for OfStack {
+    fn job_of(it: Move) -> Job {
+        match it {
+            Move::Put(number) | Move::Full(number) => Job::Push(number),
+            Move::Taken(_) | Move::Empty => Job::Pop,
+        }
+    }
+
+    fn move_of(job: Job, done: Done) -> Option<Move> {
+        match (job, done) {
+            (Job::Push(number), Done::Pushed) => Some(Move::Put(number)),
+            (Job::Push(number), Done::Full) => Some(Move::Full(number)),
+            (Job::Pop, Done::Popped(number)) => Some(Move::Taken(number)),
+            (Job::Pop, Done::Empty) => Some(Move::Empty),
+            _ => None,
+        }
+    }
+
+    fn is_order(alloc: Global, taken: &[u64]) -> Result<bool, AllocError> {
+        is_stack_order(alloc, taken)
     }
 }
 
 /// Whether one caller alone, on a heap of one page, does what a row says.
 fn goes<R: Threads + Wait + Sync>(rt: &R, alloc: Global, row: &str) -> Option<bool> {
-    let mut list = Vec::new(alloc);
-    let mut dones = Vec::new(alloc);
-    for it in &moves_of(alloc, row)? {
-        list.push(job_of(*it)).ok()?;
-        dones.push(done_of(*it)).ok()?;
-    }
-    let lists = [Jobs { list }];
+    let lists = [jobs_said::<OfStack, Job, Done>(alloc, row)?];
     let run = run_stack::<MostlyEngine, NoPace, R>(rt, alloc, 1, 1, 0, &lists, &NoPace).ok()?;
-    let done = run.done.first()?;
-    Some(run.done.len() == 1 && done.list == dones)
+    became_what_is_said::<OfStack, Job, Done>(alloc, row, &lists[0].list, &run)
 }
 
 #[test]
-fn one_caller_pops_what_it_pushed_last(rt: HostRuntime) -> Result<(), Fail> {
+fn one_caller_pops_what_it_pushed_last(rt: HostRuntime) {
     for row in ROWS.lines() {
         assert!(rt; goes(&rt, rt.alloc(), row) == Some(true), "{row}");
     }
-    Ok(())
-}
-
-/// The jobs of a caller of a large run.
-fn list_of(alloc: Global, caller: u64) -> Result<Jobs, AllocError> {
-    let mut list = Vec::new(alloc);
-    for job in 0..jobs_of(caller) {
-        let number = number_of(caller, job);
-        list.push(if puts(caller, job) {
-            Job::Push(number)
-        } else {
-            Job::Pop
-        })?;
-    }
-    Ok(Jobs { list })
-}
-
-/// The number that a push put in, if there was room.
-fn number_put(job: Job, done: Done) -> Option<u64> {
-    match job {
-        Job::Push(number) if matches!(done, Done::Pushed) => Some(number),
-        _ => None,
-    }
-}
-
-/// What a caller pushed and popped.
-fn moved(alloc: Global, jobs: &[Job], dones: &[Done]) -> Result<Moved, AllocError> {
-    let mut put = Vec::new(alloc);
-    let mut taken = Vec::new(alloc);
-    for (job, done) in jobs.iter().zip(dones) {
-        if let Some(number) = number_put(*job, *done) {
-            put.push(number)?;
-        }
-        if let Done::Popped(number) = *done {
-            taken.push(number)?;
-        }
-    }
-    Ok(Moved { put, taken })
 }
 
 /// Takes what is next in this order off the stack, as long as that is its top. What is left of the order.
@@ -123,71 +88,64 @@ fn is_stack_order(alloc: Global, order: &[u64]) -> Result<bool, AllocError> {
     Ok(rest.is_empty())
 }
 
-/// Of three numbers on a stack the lowest isn't taken off between the uppermost and the middle one.
-#[test]
-fn one_order_of_three_is_not_that_of_a_stack(rt: HostRuntime) -> Result<(), Fail> {
-    for (name, order, is) in [
-        ("each is popped before the next is pushed", [1, 2, 3], true),
-        (
-            "the first is popped before the others are pushed",
-            [1, 3, 2],
-            true,
-        ),
-        ("two are pushed and popped, and then one", [2, 1, 3], true),
-        (
-            "the first lies below both others, one after the other",
-            [2, 3, 1],
-            true,
-        ),
-        (
-            "the lowest of three is popped before the middle one",
-            [3, 1, 2],
-            false,
-        ),
-        ("all are pushed, and then popped", [3, 2, 1], true),
-    ] {
-        assert_eq!(rt; is_stack_order(rt.alloc(), &order)?, is, "{name}");
-    }
-    Ok(())
+/// Orders of three numbers, and whether they are those of a stack: of three numbers on it the lowest isn't taken off
+/// between the uppermost and the middle one.
+const ORDERS: &str = "\
+each is popped before the next is pushed | -1 -2 -3 | yes
+the first is popped before the others are pushed | -1 -3 -2 | yes
+two are pushed and popped, and then one | -2 -1 -3 | yes
+the first lies below both others, one after the other | -2 -3 -1 | yes
+the lowest of three is popped before the middle one | -3 -1 -2 | no
+all are pushed, and then popped | -3 -2 -1 | yes
+";
+
+/// Whether the order of a row is that of a stack just if the row says so.
+fn is_as_said(alloc: Global, row: &str) -> Option<bool> {
+    let (order, said) = row.rsplit_once(" | ")?;
+    let order = parted(alloc, &moves_of(alloc, order)?).ok()?.taken;
+    Some(is_stack_order(alloc, &order).ok()? == (said == "yes"))
 }
 
-/// Whether one caller popped the numbers of each caller in an order in which they can be taken off a stack.
-fn pops_as_of_a_stack(alloc: Global, taken: &[u64]) -> Result<bool, AllocError> {
-    for from in 0..3 {
-        if !is_stack_order(alloc, &numbers_from(alloc, taken, from)?)? {
-            return Ok(false);
-        }
+#[test]
+fn one_order_of_three_is_not_that_of_a_stack(rt: HostRuntime) {
+    for row in ORDERS.lines() {
+        assert!(rt; is_as_said(rt.alloc(), row) == Some(true), "{row}");
     }
-    Ok(true)
 }
 
-/// Four callers, with room for all numbers, so that no push is full. Each number that is pushed is popped once.
+/// What is wrong where four callers do their jobs beside so many markers, if anything is. There is room for all
+/// numbers.
+fn wrong_of_four<R: Threads + Wait + Sync>(
+    rt: &R,
+    alloc: Global,
+    markers: u64,
+) -> Option<&'static str>
+    requires markers { markers ≤ 8 }
+{
+    let Some(lists) = jobs_of_four::<OfStack, Job, Done>(alloc) else {
+        return Some("memory is refused");
+    };
+    if lists.len() != 4 {
+        return Some("there aren't four callers");
+    }
+    let pace = ThenTheRest::new();
+    let run = run_stack::<MostlyEngine, ThenTheRest, R>(
+        rt, alloc, 4096, 4096, markers, &lists, &pace,
+    );
+    let Ok(run) = run else {
+        return Some("memory is refused");
+    };
+    if pace.was_in_vain() {
+        return Some("a caller waited in vain");
+    }
+    what_is_wrong::<OfStack, Job, Done>(alloc, &lists, &run)
+}
+
+/// Each number that is pushed is popped once, in the order of a stack.
 #[test]
-fn four_callers_pop_as_of_a_stack(rt: HostRuntime) -> Result<(), Fail> {
-    let alloc = rt.alloc();
+fn four_callers_pop_as_of_a_stack(rt: HostRuntime) {
     for markers in [0, 2] {
-        let lists = [
-            list_of(alloc, 0)?,
-            list_of(alloc, 1)?,
-            list_of(alloc, 2)?,
-            list_of(alloc, 3)?,
-        ];
-        let pace = ThenTheRest::new();
-        let run = run_stack::<MostlyEngine, ThenTheRest, HostRuntime>(
-            &rt, alloc, 4096, 4096, markers, &lists, &pace,
-        );
-        let outcome = run.expect(&rt, "memory");
-        let mut all = Vec::new(alloc);
-        for (jobs, dones) in lists.iter().zip(&outcome.done) {
-            let moved = moved(alloc, &jobs.list, &dones.list)?;
-            assert!(rt;
-                pops_as_of_a_stack(alloc, &moved.taken)?,
-                "beside {markers} markers"
-            );
-            all.push(moved)?;
-        }
-        assert!(rt; !pace.was_in_vain());
-        assert!(rt; agree(alloc, &all)?, "beside {markers} markers");
+        let wrong = wrong_of_four(&rt, rt.alloc(), markers);
+        assert_eq!(rt; wrong, None, "beside {markers} markers");
     }
-    Ok(())
 }

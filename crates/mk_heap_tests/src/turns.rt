@@ -103,7 +103,7 @@ fn holder_told(
 
 /// Who has the turn, as the first of two callers is told when the second, whose number is 1, has taken it, as it is
 /// told when the host has, and as the host is told when the second has.
-#[derive(Clone, Copy, Debug, PartialEq, Eq, Drop)]
+#[derive(Clone, Copy)]
 pub(crate) struct Told {
     pub(crate) caller_to_caller: Option<u64>,
     pub(crate) host_to_caller: Option<u64>,
@@ -131,33 +131,27 @@ pub(crate) fn holders(alloc: Global, config: &Config) -> Result<Told, NoMemory>
 
 #[cfg(test)]
 mod tests {
-    use super::{Told, holders, places};
+    use super::{holders, places};
     use crate::configs::one_page;
     use mk_never::Kind;
-    use std::test::Fail;
 
     /// A page has 64 words, and so 32 cells of two.
     #[test]
-    fn a_page_has_places_for_32_objects_of_two_words(rt: HostRuntime) -> Result<(), Fail> {
+    fn a_page_has_places_for_32_objects_of_two_words(rt: HostRuntime) {
         let config = one_page(rt.alloc(), 2, 0, &[Kind::Num, Kind::Num]).expect(&rt, "memory");
         let found = places(&rt, rt.alloc(), &config).expect(&rt, "memory");
         assert_eq!(rt; found, 32);
-        Ok(())
     }
 
     /// The host's number is that after the callers'.
     #[test]
-    fn a_turn_that_is_taken_names_its_holder(rt: HostRuntime) -> Result<(), Fail> {
+    fn a_turn_that_is_taken_names_its_holder(rt: HostRuntime) {
         let config = one_page(rt.alloc(), 2, 0, &[Kind::Num]).expect(&rt, "memory");
-        let expected = Told {
-            caller_to_caller: Some(1),
-            host_to_caller: Some(2),
-            caller_to_host: Some(1),
-        };
+        let told = holders(rt.alloc(), &config).expect(&rt, "memory");
+        let to_callers = (told.caller_to_caller, told.host_to_caller);
         assert_eq!(rt;
-            holders(rt.alloc(), &config).expect(&rt, "memory"),
-            expected
+            (to_callers, told.caller_to_host),
+            ((Some(1), Some(2)), Some(1))
         );
-        Ok(())
     }
 }

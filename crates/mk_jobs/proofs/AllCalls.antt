@@ -1,11 +1,10 @@
 -- All operations, one after the other, as the jobs that they are.
-use Rattle.mk_jobs.specs.declared.steps.Step.TheVariants as step
 use Rattle.mk_jobs.proofs.Vocabulary.{AreBelow, AreClears, AreDecidedOnce, AreJobRuns, Asks, Call, IsClear, IsTyped}
 use Rattle.mk_jobs.proofs.Vocabulary.{JobRun, Keeps, Leads, List, NeverState, Op, Option, Plan, Replied, World, []}
-use Rattle.mk_jobs.proofs.Vocabulary.{after_op, all_of, ap, arith, drop, false≢true, inl, inr, leads, length}
-use Rattle.mk_jobs.proofs.Vocabulary.{order_of, own_replied, refl, reply_of, subst, sym, take, taken, ℕ, ◌++◌, ◌<◌}
+use Rattle.mk_jobs.proofs.Vocabulary.{after_op, all_of, ap, arith, drop, false≢true, inl, inr, length}
+use Rattle.mk_jobs.proofs.Vocabulary.{order_of, own_replied, refl, reply_of, subst, sym, take, ℕ, ◌++◌, ◌<◌}
 use Rattle.mk_jobs.proofs.Vocabulary.{◌∙◌, ◌∷◌, ◌≡◌}
-use Rattle.mk_jobs.proofs.Owners.{frees, nothing_idle, own_owed, own_private}
+use Rattle.mk_jobs.proofs.Owners.{nothing_idle, own_owed, own_private}
 use Rattle.mk_jobs.proofs.Callers.{cons_head, mine, nothing_left, put, put_same}
 use Rattle.mk_jobs.proofs.Owing.{Doing, IsAtJob, Now, Work, clears, does, first_of_job, owed_now, rest_of}
 use Rattle.mk_jobs.proofs.Interleaving.{Inv, IsDoing, IsDoingNow, IsLocal, Stepped, steps}

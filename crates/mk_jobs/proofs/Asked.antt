@@ -1,5 +1,5 @@
 -- An operation and the point that it leads to, from what the step asks.
-use Rattle.mk_laws.proofs.Vocabulary.{NeverState, Op, subst, sym, true, false, ℕ, ◌≡◌, ◌⊎◌, inl, inr}
+use Rattle.mk_laws.proofs.Vocabulary.{NeverState, Op, subst, sym, ℕ, ◌≡◌, ◌⊎◌, inl, inr}
 use Rattle.mk_never.specs.NeverHeap.{reply_of}
 use Rattle.mk_never.specs.declared.operations.Reply.{Reply}
 

@@ -1,9 +1,12 @@
 -- Shared objects that are linked in a row: what leaves their words leaves them linked.
 use Rattle.std.proofs.Common.{ap₂}
-use Rattle.mk_laws.proofs.Vocabulary.{List, NeverState, Null, Ptr, Value, allocation_at, ap, number_of, refl, subst}
-use Rattle.mk_laws.proofs.Vocabulary.{sym}
-use Rattle.mk_laws.proofs.Vocabulary.{word_at, ℕ, [], ◌∙◌, ◌∷◌, ◌≡◌, ◌≢◌, inl, inr, ◌⊎◌}
+use Rattle.mk_laws.proofs.Vocabulary.{List, NeverState, Null, Ptr, Value, allocation_at, ap, get_or, inl, inr}
+use Rattle.mk_laws.proofs.Vocabulary.{number_of, refl, subst, sym, word_at, words_of, ℕ, [], ◌∙◌, ◌∷◌, ◌≡◌, ◌≢◌, ◌⊎◌}
 use Rattle.mk_jobs.specs.{Keeping.{Public, World}, Laws.IsOneOf, Linked.{AreLinked, numbers_in}}
+
+-- Words that are the same are so one by one.
+pub word_of : (n m : NeverState) (a i : ℕ) → words_of m a ≡ words_of n a → word_at m a i ≡ word_at n a i
+word_of n m a i e = ap (λ (ws : List Value). get_or ws i Null) e
 
 abbrev pub IsNotAmong : ℕ → List ℕ → Type 0
 IsNotAmong a [] = Unit {0}
@@ -35,6 +38,15 @@ module _ (w : World) (ty i : ℕ) where
   part_of v [] chain one = absurd one
   part_of v (b ∷ nodes) chain (inl e) = subst (IsPart w ty) (sym e) chain.1
   part_of v (b ∷ nodes) chain (inr one) = part_of (word_at w.n b i) nodes chain.3 one
+
+  -- Each is linked to none, or to another of them.
+  pub next_of : (a : ℕ) (v : Value) (nodes : List ℕ) → IsChain w ty i v nodes → IsOneOf a nodes
+      → (word_at w.n a i ≡ Null) ⊎ ((b : ℕ) × (word_at w.n a i ≡ Ptr b ty 0) × IsPart w ty b)
+  next_of a v [] chain one = absurd one
+  next_of a v (b ∷ []) chain (inl e) = inl (ap (λ (x : ℕ). word_at w.n x i) e ∙ chain.3)
+  next_of a v (b ∷ c ∷ nodes) chain (inl e) =
+      inr (c, ap (λ (x : ℕ). word_at w.n x i) e ∙ chain.3.0, chain.3.1)
+  next_of a v (b ∷ nodes) chain (inr one) = next_of a (word_at w.n b i) nodes chain.3 one
 
   -- What isn't shared isn't among them.
   pub hidden : {a : ℕ} (v : Value) (nodes : List ℕ) → w.role a ≢ Public → IsChain w ty i v nodes → IsNotAmong a nodes

@@ -5,11 +5,10 @@ use Rattle.mk_jobs.proofs.Vocabulary.{AreClears, Covers, Hold, IsClear, IsTyped,
 use Rattle.mk_jobs.proofs.Vocabulary.{Option, Ordered, Plan, Replied, Role, Value, World, [], after_op, arith, refl}
 use Rattle.mk_jobs.proofs.Vocabulary.{register_at, subst, sym, there, ℕ, ◌<◌, ◌∙◌, ◌∷◌, ◌≡◌, ◌≢◌}
 use Rattle.mk_jobs.proofs.Holds.{same_so}
-use Rattle.mk_jobs.proofs.Owners.{IsOwner, frees, idle_owner, nothing_idle, others_owner, unmoved}
-use Rattle.mk_jobs.proofs.Passing.{stays}
+use Rattle.mk_jobs.proofs.Owners.{IsOwner, idle_owner, nothing_idle, others_owner, unmoved}
 use Rattle.mk_jobs.proofs.Allocations.{fits_pass, quiet_keeps}
 use Rattle.mk_jobs.proofs.Left.{same_owner}
-use Rattle.mk_jobs.proofs.Waiting.{Holding, Standing, is_there, waits}
+use Rattle.mk_jobs.proofs.Waiting.{Holding, Standing, is_there}
 use Rattle.mk_jobs.proofs.Callers.{put_by}
 use Rattle.mk_jobs.proofs.Owing.{IsOnce, Now, Work, clears, does, holds_at}
 use Rattle.mk_jobs.proofs.Interleaving.{Inv, IsLocal, Stepped}

@@ -1,5 +1,5 @@
 -- What a client shows of each kind of operation: what is its own to show, where the layer knows the rest.
-use Rattle.mk_laws.proofs.Vocabulary.{List, NeverState, None, Null, Num, Op, Option, Ptr, Some, Value, allocation_at}
+use Rattle.mk_laws.proofs.Vocabulary.{List, NeverState, None, Null, Num, Op, Option, Ptr, Some, Value}
 use Rattle.mk_laws.proofs.Vocabulary.{ap}
 use Rattle.mk_laws.proofs.Vocabulary.{arith, false, get_or, global_at, inl, inr, kinds_of, length, nat_lt}
 use Rattle.mk_laws.proofs.Vocabulary.{no_allocation}
@@ -9,8 +9,8 @@ use Rattle.mk_laws.proofs.Vocabulary.{Kind, eqb-true, ltb-true, ◌≤◌, ◌�
 use Rattle.mk_never.specs.{Laws.StoresTo, NeverHeap.{Allocation, after_op, reply_of}, Types.zero_words}
 use Rattle.mk_never.specs.declared.operations.Reply.{Reply}
 use Rattle.mk_jobs.specs.{Jobs.{Asks, number_replied}, Laws.is_pointer_to, Plans.{Hold, Plan}, Typing.hold_of}
-use Rattle.mk_jobs.specs.Keeping.{Covers, Decides, Gone, IsOf, IsShown, IsThere, Moves, Private, Public, Role, Taken}
-use Rattle.mk_jobs.specs.Keeping.{TakesPublic, World, after, is_owed, role_after}
+use Rattle.mk_jobs.specs.Keeping.{Covers, Decides, Gone, IsOf, IsShown, IsThere, Moves, Private, Public}
+use Rattle.mk_jobs.specs.Keeping.{TakesPublic, Unborn, World, after, is_owed}
 use Rattle.mk_jobs.proofs.Asked.{new_ways, one_way, two_ways}
 use Rattle.mk_jobs.proofs.Covering.{by_free, by_grant, by_look, by_own_write}
 use Rattle.mk_jobs.proofs.{Heaps.{Creates, Frees, Sets, Stores}, Puts.{Puts, points_to, puts_at, puts_new}}
@@ -56,6 +56,15 @@ when_some (inr h) some = h
 abbrev pub OwnStays : ℕ → World → World → Type 0
 OwnStays k w w' = (a : ℕ) → w.role a ≡ Private k → (w'.role a ≡ Private k) × (words_of w'.n a ≡ words_of w.n a)
 
+own_granted : {k d ty : ℕ} {w w' : World} → Creates k d ty w.n w'.n
+    → Puts (length w.n.allocations) (Private k) w.role w'.role → w.role (length w.n.allocations) ≡ Unborn
+    → OwnStays k w w'
+own_granted {k} {w = w} new puts unborn a e =
+    (puts.others a old ∙ e, ap (λ (x : Allocation). x.words) (new.old a old))
+  where
+    old : a ≢ length w.n.allocations
+    old same = (let x : Private k ≡ Unborn = sym e ∙ ap w.role same ∙ unborn in cc x)
+
 module _ {Job Done Point State : Type 0} {p : Plan Job Done Point} {left_by : State → Job → Done → Option State}
     (c : Client p left_by) where
   -- Its job is decided by what the state is, or isn't decided here.
@@ -93,6 +102,11 @@ module _ {Job Done Point State : Type 0} {p : Plan Job Done Point} {left_by : St
     pub local : c.Local w' k t decided
     pub shared : c.Shared w' state
     pub rely : c.Rely k w w'
+
+  pub leads : {k : ℕ} {s t : Point} {u u' : Option Done} {x y : State} {w w' : World} → Deciding s u x u' y t
+      → c.Local w' k t u' → c.Shared w' y → c.Rely k w w' → Leads k s u x w w' t
+  leads deciding local shared rely =
+      record { decided = _; state = _; deciding = deciding; local = local; shared = shared; rely = rely }
 
   module _ (u : Option Done) {callers : ℕ} {w : World} {k : ℕ} {s : Point} {x : State}
       (there : IsThere p left_by callers w k s) (shared : c.Shared w x) where
@@ -203,7 +217,8 @@ module _ {Job Done Point State : Type 0} {p : Plan Job Done Point} {left_by : St
         → (Creates k d ty w.n (after_op w.n k (Op.New d ty false))
         → Puts (length w.n.allocations) (Private k) w.role (to (Op.New d ty false) to').role
         → words_of (after_op w.n k (Op.New d ty false)) (length w.n.allocations) ≡ zero_words (kinds_of p.types ty)
-        → c.Rely k w (to (Op.New d ty false) to') → c.Local (to (Op.New d ty false) to') k to' u)
+        → c.Rely k w (to (Op.New d ty false) to') → OwnStays k w (to (Op.New d ty false) to')
+        → c.Local (to (Op.New d ty false) to') k to' u)
         → Deciding s u x u' x full → (c.Rely k w (to (Op.New d ty true) full)
         → c.Local (to (Op.New d ty true) full) k full u') → Goes o t
     by_new {to' = to'} {full = none} {d = d} {ty = ty} asks lt same deciding made deciding' full =
@@ -213,9 +228,9 @@ module _ {Job Done Point State : Type 0} {p : Plan Job Done Point} {left_by : St
         ∙ ap (λ (ts : List (List Kind)). zero_words (kinds_of ts ty)) there.types in
         new_ways Goes asks (goes (Op.New d ty false) to' tt (λ a i j h. absurd h) (by_covers
         (Op.New d ty false) to' (by_grant new puts (next_is_unborn there)) deciding
-        (made new puts words))) (goes (Op.New d ty true) none tt (λ a i j h. absurd h) (looks
-        (Op.New d ty true) none (refl, λ g. refl) same deciding' (λ rely alone.
-        full rely)))
+        (λ rely. made new puts words rely (own_granted new puts (next_is_unborn there)))))
+        (goes (Op.New d ty true) none tt (λ a i j h. absurd h) (looks (Op.New d ty true) none
+        (refl, λ g. refl) same deciding' (λ rely alone. full rely)))
 
     -- A word of an object of its own is stored.
     spares_own : (o : Op) {a : ℕ} → w.role a ≡ Private k → ((b i : ℕ) → StoresTo w.n k o b i → b ≡ a) → Spares o

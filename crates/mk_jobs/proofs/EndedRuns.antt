@@ -1,14 +1,14 @@
 -- All that happened on an object: it was made, the jobs were done, and the host came last, with markers beside them.
 use Rattle.std.proofs.{Common.{IfOk, Ok, ⊎_elim}, lemmas.Result.IfOk-weaker}
-use Rattle.mk_jobs.proofs.RunVocabulary.{AreOfOthers, Caller, CallerState, Config, Dones, Event, Grows, Has, HasCallers}
+use Rattle.mk_jobs.proofs.RunVocabulary.{AreOfOthers, Caller, CallerState, Config, Event, Grows, Has, HasCallers}
 use Rattle.mk_jobs.proofs.RunVocabulary.{NeverState}
-use Rattle.mk_jobs.proofs.RunVocabulary.{HasMade, HaveDone, Host, HostState, IsAtHome, IsBetweenJobs, IsHistory}
+use Rattle.mk_jobs.proofs.RunVocabulary.{HasMade, HaveDone, Host, HostState, IsAtHome, IsHistory}
 use Rattle.mk_jobs.proofs.RunVocabulary.{IsMadeFor}
-use Rattle.mk_jobs.proofs.RunVocabulary.{Jobs, Joined, Leads, PassState, Plan, Replied, Seat, TurnsOfAreExact}
+use Rattle.mk_jobs.proofs.RunVocabulary.{Jobs, Joined, PassState, Plan, Replied, Seat, TurnsOfAreExact}
 use Rattle.mk_jobs.proofs.RunVocabulary.{WordsState}
 use Rattle.mk_jobs.proofs.RunVocabulary.{pass_for, replied_to}
 use Rattle.mk_jobs.proofs.{JobRuns.are_jobs_of, JoinedJobs.{exact_on, next_unasked, still_have}}
-use Rattle.mk_laws.proofs.Vocabulary.{Bool, List, ℕ, ap, arith, false, Option, is_begin, is_one_of, length, subst, sym}
+use Rattle.mk_laws.proofs.Vocabulary.{Bool, List, ℕ, ap, arith, false, Option, is_one_of, length, subst, sym}
 use Rattle.mk_laws.proofs.Vocabulary.{true}
 use Rattle.mk_laws.proofs.Vocabulary.{true≢false, [], ◌++◌, ◌+◌, ◌<◌, ◌∙◌, ◌∷◌, ◌≡◌, ◌≤◌}
 use Rattle.mk_heap.proofs.{Below.Objects.Bounds.quarantines_are_bounded, Below.Words.Seats.others_own}

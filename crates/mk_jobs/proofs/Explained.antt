@@ -3,10 +3,9 @@ use Rattle.mk_never.proofs.TypedCalls.{start_is_typed}
 use Rattle.mk_jobs.proofs.Vocabulary.{AreDecidedOnce, Call, Gone, IsAlwaysExplained, IsExplained, IsInterleaved}
 use Rattle.mk_jobs.proofs.Vocabulary.{IsTyped, JobRun, Keeps, List, NeverState, None, Null, Option, Plan, Private}
 use Rattle.mk_jobs.proofs.Vocabulary.{Public, Replied, Role, Taken, Unborn, World, [], after_calls, ap, arith, bit}
-use Rattle.mk_jobs.proofs.Vocabulary.{drop, false≢true, first_world, found, freed, jobs_of_first, leads, length}
+use Rattle.mk_jobs.proofs.Vocabulary.{drop, false≢true, first_world, found, jobs_of_first, length}
 use Rattle.mk_jobs.proofs.Vocabulary.{length-replicate, order_of, own_decisions, refl, start_of, subst, suc, sym}
-use Rattle.mk_jobs.proofs.Vocabulary.{take, taken, times_freed, zero, ℕ, ◌*◌, ◌<◌, ◌∙◌, ◌≡◌}
-use Rattle.mk_jobs.proofs.Owners.{frees}
+use Rattle.mk_jobs.proofs.Vocabulary.{take, times_freed, zero, ℕ, ◌*◌, ◌<◌, ◌∙◌, ◌≡◌}
 use Rattle.mk_jobs.proofs.Allocations.{is_gone}
 use Rattle.mk_jobs.proofs.Waiting.{Holding, Standing, born_below}
 use Rattle.mk_jobs.proofs.Owing.{Work, clears, does, holds_at}

@@ -1,12 +1,10 @@
 -- What holds at every place of an interleaving, and what one operation makes of it.
-use Rattle.mk_jobs.specs.declared.steps.Step.TheVariants as step
 use Rattle.mk_jobs.proofs.Vocabulary.{AreClears, AreDecidedOnce, AreJobRuns, Asks, Call, IsAdmitted, IsThere, IsTyped}
 use Rattle.mk_jobs.proofs.Vocabulary.{Keeps, Leads, List, Moves, NeverState, None, Op, Option, Ordered, Plan, Replied}
 use Rattle.mk_jobs.proofs.Vocabulary.{Reply, World, after, after_op, all_of, bit, drop, freed_by, length, order_of}
 use Rattle.mk_jobs.proofs.Vocabulary.{own_replied, refl, reply_of, subst, sym, take, ℕ, ◌++◌, ◌+◌, ◌<◌, ◌∙◌, ◌∷◌, ◌≡◌}
 use Rattle.mk_jobs.proofs.Vocabulary.{◌≢◌}
 use Rattle.mk_jobs.proofs.Meeting.{sound}
-use Rattle.mk_jobs.proofs.Passing.{takes}
 use Rattle.mk_jobs.proofs.Ways.{asks_way}
 use Rattle.mk_jobs.proofs.Allocations.{is_gone}
 use Rattle.mk_jobs.proofs.Left.{Left, leaves}

@@ -5,7 +5,7 @@ use Rattle.mk_jobs.proofs.Vocabulary.{Private, Ptr, Reply, Role, Unborn, Value, 
 use Rattle.mk_jobs.proofs.Vocabulary.{allocation_at, ap, arith, bit, cases_Bool, eq-eqb, eqb-true, false, false≢true}
 use Rattle.mk_jobs.proofs.Vocabulary.{free_reply, freed, freed_by, get_or-set_other, get_or-set_same, gives, hold_of}
 use Rattle.mk_jobs.proofs.Vocabulary.{if◌then◌else◌, inl, inr, is_done, is_held_no_more, is_owed, is_own}
-use Rattle.mk_jobs.proofs.Vocabulary.{is_pointer_to, is_private, leads, length, refl, register_at, reply_of}
+use Rattle.mk_jobs.proofs.Vocabulary.{is_pointer_to, is_private, length, refl, register_at, reply_of}
 use Rattle.mk_jobs.proofs.Vocabulary.{role_after, subst, sym, true, with_hold, ℕ, ◌*◌, ◌+◌, ◌<◌, ◌==◌, ◌∙◌, ◌≡◌, ◌≢◌}
 use Rattle.mk_jobs.proofs.Holds.{HoldsIn, lead_so, same_so, set_so, shares_so}
 use Rattle.mk_jobs.proofs.Stepping.{freed_has}

@@ -36,6 +36,10 @@ pub mod Operations
 pub mod Covering
 pub mod Asked
 pub mod Chains
-pub mod Rows
 pub mod Clients
 pub mod Having
+pub mod Relying
+pub mod Rows
+pub mod Longer
+pub mod Roots
+pub mod JobKinds

@@ -3,7 +3,6 @@ use Rattle.mk_jobs.proofs.Vocabulary.{Anything, Bool, Hold, List, NeverState, Va
 use Rattle.mk_jobs.proofs.Vocabulary.{false, false≢true, hold_of, inl, inr, is_held_no_more, is_pointer_to, not}
 use Rattle.mk_jobs.proofs.Vocabulary.{or_cases, or_left, or_right, register_at, suc, sym, there, true, zero, ℕ, ◌&&◌}
 use Rattle.mk_jobs.proofs.Vocabulary.{◌+◌, ◌∙◌, ◌∷◌, ◌≡◌}
-use Rattle.mk_jobs.proofs.Holds.{both}
 
 -- A register that points to it is held so before, and not so after.
 pub record Loses (f : Hold → Bool) (v : ℕ → Value) (hs gs : List Hold) (a : ℕ) : Type 0 where

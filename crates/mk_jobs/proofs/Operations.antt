@@ -8,7 +8,7 @@ use Rattle.mk_laws.proofs.Vocabulary.{target_of}
 use Rattle.mk_laws.proofs.Vocabulary.{Option, true, with_register, with_word, word_at, words_of, ℕ, ◌*◌, ◌+◌, ◌<◌, ◌∙◌}
 use Rattle.mk_laws.proofs.Vocabulary.{◌≡◌, ◌≢◌, ◌≤◌, nat_lt, ltb-true}
 use Rattle.mk_never.specs.{Laws.{Reaches, StoresTo}, NeverHeap.{Allocation, after_free, after_op, reply_of}}
-use Rattle.mk_never.specs.declared.{operations.Reply.{Reply}, values.Target.{Target}}
+use Rattle.mk_never.specs.declared.{operations.Reply.{Reply}}
 use Rattle.mk_never.proofs.Sameness.{equal_from_same, same_from_equal}
 use Rattle.mk_jobs.specs.{Keeping.{IsThere, Unborn, World}, Plans.Plan}
 use Rattle.mk_jobs.proofs.Heaps.{Creates, Frees, Sets, Stores, creates, frees, global_set, sets, stores}

@@ -2,9 +2,9 @@
 -- public.
 use Rattle.mk_jobs.proofs.Vocabulary.{Bool, Hold, List, Private, Public, Role, Taken, Value, ap, arith, cases_Bool}
 use Rattle.mk_jobs.proofs.Vocabulary.{false, false≢true, hold_of, if◌then◌else◌, inl, inr, is_owed, is_own}
-use Rattle.mk_jobs.proofs.Vocabulary.{is_pointer_to, is_private, leads, refl, shares, sym, true, ℕ, ◌<◌, ◌∙◌, ◌≡◌}
+use Rattle.mk_jobs.proofs.Vocabulary.{is_pointer_to, is_private, refl, shares, sym, true, ℕ, ◌<◌, ◌∙◌, ◌≡◌}
 use Rattle.mk_jobs.proofs.Vocabulary.{◌⊎◌}
-use Rattle.mk_jobs.proofs.Losses.{Loses, loses}
+use Rattle.mk_jobs.proofs.Losses.{Loses}
 use Rattle.mk_jobs.proofs.Owners.{Finds, IsOwner, RolePasses, own_is, own_owed, own_private, own_public, own_role}
 use Rattle.mk_jobs.proofs.Owners.{private_not_owed, private_public, private_taken, publishes, taken_public, takes_out}
 use Rattle.mk_jobs.proofs.Owners.{unmoved}

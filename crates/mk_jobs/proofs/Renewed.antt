@@ -6,13 +6,13 @@ use Rattle.mk_jobs.proofs.Vocabulary.{Ordered, Plan, Replied, Some, Step, World,
 use Rattle.mk_jobs.proofs.Vocabulary.{false, gives, inl, inr, is_own, leads, own_decisions, refl, register_at, subst}
 use Rattle.mk_jobs.proofs.Vocabulary.{sym, true, ℕ, ◌++◌, ◌<◌, ◌∙◌, ◌∷◌, ◌≡◌}
 use Rattle.mk_jobs.proofs.Holds.{all_so}
-use Rattle.mk_jobs.proofs.Owners.{IsIdle, frees, idle_owner, nothing_idle}
+use Rattle.mk_jobs.proofs.Owners.{IsIdle, idle_owner, nothing_idle}
 use Rattle.mk_jobs.proofs.Waiting.{Holding}
 use Rattle.mk_jobs.proofs.Callers.{nothing_left, put, put_back, put_by}
 use Rattle.mk_jobs.proofs.Owing.{Agrees, AgreesNow, Doing, IsAtJob, IsGoal, IsJob, IsOnce, Now, Work, clears, does}
 use Rattle.mk_jobs.specs.Jobs.{IsEnd}
 use Rattle.mk_jobs.proofs.Owing.{first_of_job, job_of, holds_at, owed_by, owed_now, rest_of}
-use Rattle.mk_jobs.proofs.Interleaving.{Inv, IsDoing, IsDoingNow, IsLocal, IsWork, steps}
+use Rattle.mk_jobs.proofs.Interleaving.{Inv, IsDoing, IsDoingNow, IsLocal, IsWork}
 use Rattle.mk_jobs.proofs.Running.{AllWork, Ran}
 
 gives_none : (h : Hold) → gives h Anything ≡ true → is_own h ≡ false

@@ -8,7 +8,7 @@ use Rattle.mk_jobs.proofs.Vocabulary.{Owns, Plan, Points, Ptr, Some, Step, Store
 use Rattle.mk_jobs.proofs.Vocabulary.{Value, WordOf, ap, arith, false, false≢true, freed, global_type, hold_of}
 use Rattle.mk_jobs.proofs.Vocabulary.{if◌then◌else◌, is_freed, is_number_there, is_own, is_there, kind_there, left_at}
 use Rattle.mk_jobs.proofs.Vocabulary.{length, ltb-true, may_go, may_set, nat_lt, not, op_of, refl, register_at, subst}
-use Rattle.mk_jobs.proofs.Vocabulary.{sym, there, true, type_there, with_word, ℕ, ◌&&◌, ◌<◌, ◌∙◌, ◌≡◌}
+use Rattle.mk_jobs.proofs.Vocabulary.{sym, true, type_there, with_word, ℕ, ◌&&◌, ◌<◌, ◌∙◌, ◌≡◌}
 use Rattle.mk_jobs.proofs.Holds.{HoldsIn, both}
 use Rattle.mk_jobs.proofs.Meeting.{IsStateOf, global_so, go_so, is_number_so, meets, sound, there_so, type_so}
 use Rattle.mk_jobs.proofs.Meeting.{word_met}

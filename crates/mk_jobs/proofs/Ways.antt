@@ -10,7 +10,7 @@ use Rattle.mk_jobs.proofs.Vocabulary.{freed, get_or-set_other, get_or-set_same, 
 use Rattle.mk_jobs.proofs.Vocabulary.{hold_of, inl, inr, is_freed, is_number_there, is_owed, is_own, is_pointer_to}
 use Rattle.mk_jobs.proofs.Vocabulary.{is_same, is_there, kind_there, leads, leads_shared, left_at, length, loaded}
 use Rattle.mk_jobs.proofs.Vocabulary.{ltb-true, may_go, may_set, nat_lt, not, number_replied, refl, register_at}
-use Rattle.mk_jobs.proofs.Vocabulary.{reply_of, subst, sym, taken, target_of, there, true, type_there, with_hold}
+use Rattle.mk_jobs.proofs.Vocabulary.{reply_of, subst, sym, taken, target_of, true, type_there, with_hold}
 use Rattle.mk_jobs.proofs.Vocabulary.{with_register, word_at, ℕ, ◌&&◌, ◌*◌, ◌+◌, ◌<◌, ◌==◌, ◌∙◌, ◌≡◌, ◌⊎◌}
 use Rattle.mk_jobs.proofs.Holds.{HoldsIn, pointer_may}
 use Rattle.mk_jobs.proofs.Meeting.{IsStateOf, global_so, loads, sound, there_so, type_so, word_met}

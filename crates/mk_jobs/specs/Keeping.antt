@@ -1,11 +1,11 @@
 -- How a client proves that its jobs are always explained: what holds between any two operations, one at a time.
-use Rattle.std.specs.Prelude.{◌≡◌, ◌⊎◌, ◌&&◌, ◌||◌, ◌==◌, ◌<◌, ◌≤◌, ◌+◌, ◌*◌, ℕ, Bool, true, false, not, List, [], ◌∷◌}
+use Rattle.std.specs.Prelude.{◌≡◌, ◌&&◌, ◌||◌, ◌==◌, ◌<◌, ◌≤◌, ◌+◌, ◌*◌, ℕ, Bool, true, false, not, List, [], ◌∷◌}
 use Rattle.std.specs.Prelude.{length, Option, Some, None}
 use Rattle.std.specs.Prelude.{if◌then◌else◌}
-use Rattle.mk_never.specs.{declared.values.Value.Value, declared.operations.Op.Op, declared.operations.Reply.Reply}
-use Rattle.mk_never.specs.NeverHeap.{Allocation, NeverState, after_op, allocation_at, global_at, register_at, reply_of}
-use Rattle.mk_never.specs.{Laws.StoresTo, NeverHeap.{start_of, word_at, words_of}, Typed.IsTyped}
-use Rattle.mk_jobs.specs.{Plans.{Plan, Hold, Anything, MayPoint, Points, Owns, Owes}, Jobs.{Asks, HoldsAt}}
+use Rattle.mk_never.specs.{declared.operations.Op.Op}
+use Rattle.mk_never.specs.NeverHeap.{NeverState, after_op, allocation_at, global_at, register_at, reply_of}
+use Rattle.mk_never.specs.{Laws.StoresTo, NeverHeap.{start_of, words_of}, Typed.IsTyped}
+use Rattle.mk_jobs.specs.{Plans.{Plan, Hold, Owns, Owes}, Jobs.{Asks, HoldsAt}}
 use Rattle.mk_jobs.specs.Typing.{hold_of}
 use Rattle.mk_jobs.specs.Laws.{IsOneOf, is_pointer_to}
 use Rattle.mk_never.specs.declared.operations.Op.TheVariants as op

@@ -1,10 +1,10 @@
 -- Jobs in the history of a running heap: what a caller's operations were replied there.
-use Rattle.std.specs.Prelude.{◌≡◌, ℕ, ◌<◌, ◌≤◌, List, ◌++◌}
+use Rattle.std.specs.Prelude.{◌≡◌, ℕ, ◌<◌, ◌≤◌, Bool, List, ◌++◌}
 use Rattle.mk_never.specs.declared.values.Value.TheVariants.{Null}
 use Rattle.mk_core.specs.{declared.config.Config.Config, declared.events.Event.Event, Decided.asked}
 use Rattle.mk_core.specs.History.{calls, never_first}
 use Rattle.mk_heap.specs.{Below.Words.States.PassState, Below.Callers.States.{CallerState, caller_of_pass, value_of}}
-use Rattle.mk_heap.specs.Below.Objects.TurnCalls.{MayTakeTurns}
+use Rattle.mk_heap.specs.Below.Objects.{Laws.OwnAreExact, TurnCalls.MayTakeTurns}
 use Rattle.mk_jobs.specs.{Plans.Plan, Jobs.{Replied, Leads, own_replied}}
 use Rattle.mk_jobs.specs.declared.steps.Step.TheVariants as step
 
@@ -54,3 +54,11 @@ module _ {Job Done Point : Type 0} (p : Plan Job Done Point) where
   -- Its caller did the job, and this became of it.
   abbrev pub DoesJob : PassState → Job → Done → PassState → Type 0
   DoesJob q job done q' = GoesToEnd q (p.starting job) q' done
+
+  -- The same, and the caller is ready for the next job and keeps no object.
+  pub record HasDone {E : Type 0} (made_for : E → ℕ) (on : Bool) (s : CallerState) (job : Job) (done : Done)
+      (t : CallerState) (engine : E) : Type 0 where
+    pub ready : IsReady made_for t engine
+    pub does : DoesJob s.pass job done t.pass
+    pub keeps : KeepsNothing t.pass
+    pub exact : OwnAreExact on s.pass → OwnAreExact on t.pass

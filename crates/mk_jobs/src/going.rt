@@ -1,15 +1,18 @@
 //! A caller goes from point to point of a job, and forgets what it held when the job has ended.
-ghost use Rattle.std.specs.Prelude.{◌≡◌, ◌<◌, ◌≤◌};
-ghost use Rattle.mk_heap.specs.Below.{Callers.States.value_of, Objects.Laws.OwnAreExact};
+ghost use Rattle.std.specs.Prelude.{◌≡◌, ◌<◌, ◌≤◌, Bool, false, true};
+ghost use Rattle.mk_core.specs.Calls.{is_under_turn};
+ghost use Rattle.mk_heap.specs.Below.{Callers.States.{caller_of_pass, value_of}, Objects.Laws.OwnAreExact};
+ghost use Rattle.mk_heap.specs.Dispatching.{Answers, StaysAdmitted};
 ghost use Rattle.mk_jobs.specs.{Advancing.Clears, Jobs.HoldsAt};
-ghost use Rattle.mk_jobs.specs.Passes.{DoesJob, Founds, GoesToEnd, IsReady, KeepsNothing};
+ghost use Rattle.mk_jobs.specs.Passes.{Founds, GoesToEnd, HasDone, IsReady};
 
 use crate::advancing::{next_by, op_of};
 use crate::objects::Object;
 use crate::steps::Step;
+use mk_core::Answer;
 use mk_heap::lower::callers::Caller;
 use mk_heap::lower::cycles::Engine;
-use mk_heap::{answer_to, answer_when_open};
+use mk_heap::{answer_at_once, answer_put_off, answer_when_open};
 use mk_never::Op;
 use std::sync::Wait;
 use std::thread::Threads;
@@ -36,10 +39,30 @@ fn go<O: Object, E: Engine, R: Threads + Wait + Sync>(
             };
             return done;
         };
-        let told = answer_to(rt, caller, engine, op);
+        // Matched here and not by `answer_to`, so that each kind of answer leads on by a way of its own.
+        let told = match answer_at_once(caller, op) {
+            Some(told) => told,
+            None => answer_put_off(rt, caller, engine, op),
+        };
         point = next_by::<O>(point, asked, told);
     }
     unreachable!()
+}
+
+/// Carries out an operation that takes no turn, at once or once its gate is open, and returns its answer.
+#[inline(always)]
+fn answer_beside<R: Wait>(rt: &R, caller: &mut Caller, op: Op) -> Answer
+    requires home { caller.old.home ≡ true }
+    requires exists { caller_of_pass caller.old.pass < caller.old.pass.table.config.callers }
+    requires entered { is_under_turn op ≡ false }
+    requires admitted { StaysAdmitted caller.old.pass op }
+    ensures home { caller.new.home ≡ true }
+    ensures answers { (on : Bool) → Answers on caller.old.pass op result caller.new.pass }
+{
+    match answer_at_once(caller, op) {
+        Some(told) => told,
+        None => answer_when_open(rt, caller, op),
+    }
 }
 
 /// Sets the registers that the object uses to null. As long as a register points to a freed object, the heap keeps that
@@ -51,7 +74,7 @@ fn forget<O: Object, E: Engine, R: Threads + Wait + Sync>(rt: &R, caller: &mut C
     ensures exact { OwnAreExact E.on caller.old.pass → OwnAreExact E.on caller.new.pass }
 {
     for register in 0..O::registers() {
-        answer_when_open(rt, caller, Op::Clear { d: register });
+        answer_beside(rt, caller, Op::Clear { d: register });
     }
 }
 
@@ -78,10 +101,7 @@ pub fn do_job<O: Object, E: Engine, R: Threads + Wait + Sync>(
     job: O::Job,
 ) -> O::Done
     requires ready { IsReady O.plan E.made_for caller.old engine.old }
-    ensures ready { IsReady O.plan E.made_for caller.new engine.new }
-    ensures does { DoesJob O.plan caller.old.pass job result caller.new.pass }
-    ensures keeps { KeepsNothing O.plan caller.new.pass }
-    ensures exact { OwnAreExact E.on caller.old.pass → OwnAreExact E.on caller.new.pass }
+    ensures { HasDone O.plan E.made_for E.on caller.old job result caller.new engine.new }
 {
     let done = go::<O, E, R>(rt, caller, engine, O::starting(job));
     forget::<O, E, R>(rt, caller, engine);

@@ -9,6 +9,7 @@ mod going;
 mod job_lists;
 mod joining;
 pub mod laws;
+mod linked;
 mod objects;
 mod runs;
 mod shared;
@@ -17,6 +18,7 @@ mod working;
 
 pub use going::do_job;
 pub use job_lists::{Dones, Jobs, run_jobs};
+pub use linked::{Full, LINK, NODE_TYPE, NUMBER, ROOT_TYPE, linked_types, root_global, to_node};
 pub use objects::{Linearizable, Object, explained_of};
 pub use runs::{Outcome, run, run_objects};
 pub use steps::{

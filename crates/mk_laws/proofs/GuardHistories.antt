@@ -31,7 +31,7 @@ use Rattle.mk_core.proofs.{WordBits.{bit_of_power, bits_added, more_bits}, Point
 use Rattle.mk_core.{proofs.StandingAllocations.cell_is_known, specs.declared.seats.Presence.TheVariants.Out}
 use Rattle.mk_core.specs.{Accesses.scan_bit, Cells.words_point_well, ClosedMarks.is_marked_allocation}
 use Rattle.mk_core.specs.{MarkerConditions.is_markers_word, StopConditions.blackens}
-use Rattle.mk_laws.proofs.Kept.{CloseFindsMarksClosed, EventsKeepTheMarks, GuardPremisesAtFirst, MarkingGuards}
+use Rattle.mk_laws.proofs.Kept.{CloseFindsMarksClosed, GuardPremisesAtFirst, MarkingGuards}
 use Rattle.mk_laws.proofs.{Kept.{MarksStandBehindLists, StandsMapped, StoppedMarksAreClosed}, Guard.Guard}
 use Rattle.mk_laws.proofs.Guard.{MarksStand}
 
@@ -361,11 +361,6 @@ pub closed_allocations : {c : Config} (w : World) → IsWithinLimits c
     → ((i : ℕ) → is_mapped c (placed_at w.allocations i) ≡ true
     → StandsMapped c w.now.words (placed_at w.allocations i)) → CellsAreClosed c w.now.words → MarksAreClosed c w
 closed_allocations w limits stand closed = grind (arith, closed, and_parts, closed_word, not-true)
-
-pub events_keep_the_marks : EventsKeepTheMarks
-events_keep_the_marks c es e limits on enabled say g =
-    marks_behind c (left c es) e.seat limits (known_left c es limits on) (histories_keep_lengths c es) say e.step
-    (enabled_meets c (left c es).now e enabled) g
 
 -- nothing stands at first: the phase is 0
 pub marks_at_first : (c : Config) → MarksStand c (first_moment c)

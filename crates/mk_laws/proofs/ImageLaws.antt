@@ -29,8 +29,3 @@ ReachedIsUnreleased =
 abbrev pub HistoriesCompareValues : Type 0
 HistoriesCompareValues = (c : Config) (es : List Event) → IsHistory c es → ImagePremisesAlong c es
     → ExchangesCompareValues c es
-
--- What the images tell the other groups is so.
-abbrev pub HistoriesTellOthers : Type 0
-HistoriesTellOthers = (c : Config) (es : List Event) → IsHistory c es → ImagePremisesAlong c es
-    → ImagesSay c (left c es) (never_behind c es)

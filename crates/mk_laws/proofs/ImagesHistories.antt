@@ -27,7 +27,6 @@ use Rattle.mk_never.proofs.{Sameness.{equal_from_same, same_from_equal}, Later.c
 use Rattle.mk_never.proofs.TypedCalls.{calls_keep, start_is_typed}
 use Rattle.mk_core.{proofs.{ChangedAllocations.granted_at, Histories.enabled_more}, specs.History.never_first}
 use Rattle.mk_laws.proofs.ImageLaws.{HistoriesCompareValues, HistoriesMirrorNever, HistoriesRefineNever}
-use Rattle.mk_laws.proofs.ImageLaws.{HistoriesTellOthers}
 use Rattle.mk_laws.proofs.{ImageLaws.ReachedIsUnreleased, Images.AreTwins, SafeSets.HasSafeSet}
 
 -- There is a safe set after each move, and the two lists of allocations still go together.
@@ -283,10 +282,6 @@ histories_mirror c es h others = (all_follow h others).mirrors
 pub say_along : (c : Config) (front rest : List Event) → ImagePremisesAlong c (front ++ rest)
     → ImagePremisesAlong c front
 say_along c front rest others xs ys e = others xs (ys ++ rest) (sym (append_assoc xs ys rest) ∙ rw e)
-
-pub histories_tell : HistoriesTellOthers
-histories_tell c es h others = images_say c (left c es) _ (known_world c es h.within_limits h.enabled)
-    (others es [] (append-nil es)) (histories_mirror c es h others)
 
 -- What is reached is in a safe set.
 safe_leads : (safe : ℕ → Bool) (v : Value) (number : ℕ) → IsSafe safe v → LeadsTo v number → safe number ≡ true

@@ -63,12 +63,6 @@ GuardPremisesFrom c w (e ∷ es) = GuardPremises c w × GuardPremisesFrom c (wor
 abbrev pub GuardPremisesAtFirst : Type 0
 GuardPremisesAtFirst = (c : Config) → GuardPremises c (first_world c)
 
--- One event, whatever it is, keeps what stands while a cycle marks and stops.
-abbrev pub EventsKeepTheMarks : Type 0
-EventsKeepTheMarks =
-    (c : Config) (es : List Event) (e : Event) → IsWithinLimits c → AreEnabled c es → IsEnabledBehind c es e
-    → GuardPremises c (left c es) → MarksStand c (left c es).now → MarksStand c (world_behind c (left c es) e).now
-
 -- So it stands after every enabled list.
 abbrev pub MarksStandBehindLists : Type 0
 MarksStandBehindLists =

@@ -12,7 +12,7 @@ use Rattle.mk_laws.proofs.Vocabulary.{object_made, object_now, pages_made, place
 use Rattle.mk_laws.proofs.Vocabulary.{seat_exists, shows_on, slice_index, slice_set, sym, true, true≢false}
 use Rattle.mk_laws.proofs.Vocabulary.{unmapped_header, world_behind, ◌%◌, ◌-◌, ◌<◌, ◌^◌, ◌∙◌, ◌≡◌}
 use Rattle.mk_laws.proofs.Basics.{Before, Known, Meets, WorldBehind, at_first, bit_cases, headed_other}
-use Rattle.mk_laws.proofs.Basics.{is_releasing_behind, known_left, made_sized, none_set, own_claim, page_within}
+use Rattle.mk_laws.proofs.Basics.{is_releasing_behind, made_sized, none_set, own_claim, page_within}
 use Rattle.mk_laws.proofs.Basics.{reg_leaves_ground, tally_ground, used_header, with_header_on}
 use Rattle.mk_laws.proofs.{Behind.{layout_behind, phase_kind, releasing_marks}, Known.along_enabled}
 use Rattle.mk_laws.proofs.{LayoutByKind.off_at, QuarantineByKind.{quarantine_by_kind, shown_at}}
@@ -20,7 +20,7 @@ use Rattle.mk_laws.proofs.{QuarantineSteps.{none_released, unmarked}, Releasing.
 use Rattle.mk_laws.proofs.{ResidentPages.{count_none, resident_few}, Rooms.room_behind, SnapshotKinds.snapshot_behind}
 use Rattle.mk_laws.proofs.{Unmapping.cells_at_claim, WholeRuns.whole_behind}
 use Rattle.mk_core.proofs.{EvaluatedHistories.enabled, ObjectHeaders.unmapped_shows}
-use Rattle.mk_laws.proofs.LayoutLaws.{EventsKeepTheLayout, HistoriesAreLaidOut, LayoutHasFewResidentPages}
+use Rattle.mk_laws.proofs.LayoutLaws.{HistoriesAreLaidOut, LayoutHasFewResidentPages}
 use Rattle.mk_laws.proofs.{LayoutLaws.LayoutHasHeaderWords, Quarantine.FreedCellsAreKnown, Room.HasHeaderWords}
 
 -- Each freed bit is that of a cell of its page, after each event.
@@ -157,10 +157,6 @@ order_behind {c} {w} e limits lengths known on others all =
       words = words_behind c w e.seat e.step b h all.laid all.words;
       room = room_behind e.seat e.step b h all.laid all.room;
     }
-
-pub events_keep_the_layout : EventsKeepTheLayout
-events_keep_the_layout c es e limits on enabled others both =
-    order_behind e limits (histories_keep_lengths c es) (known_left c es limits on) enabled others both
 
 pub histories_are_laid_out : HistoriesAreLaidOut
 unfolding LayoutPremisesFrom

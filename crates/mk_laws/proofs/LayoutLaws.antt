@@ -1,7 +1,7 @@
 -- What stands on the pages stays laid out after each event, and the quarantine with it.
 use Rattle.std.specs.Prelude.{List, Some, [], slice_index, true, ⊤, ◌∷◌, ◌≡◌, ◌≤◌}
 use Rattle.mk_geom.specs.{PageUses.resident_pages, PageWords.uses_of_pages, declared.addresses.Cell.Cell}
-use Rattle.mk_core.specs.{Bits.has_bit, Config.IsWithinLimits, History.{AreEnabled, IsEnabledBehind, World}}
+use Rattle.mk_core.specs.{Bits.has_bit, Config.IsWithinLimits, History.{AreEnabled, World}}
 use Rattle.mk_core.specs.{History.{first_world, left, world_behind}, Moments.{flight_of, is_phase}, NewPlaces.target}
 use Rattle.mk_core.specs.{declared.config.Config.Config, declared.events.Event.Event, declared.events.Seat.Seat}
 use Rattle.mk_core.specs.declared.seats.RunPages.{RunPages}
@@ -28,13 +28,6 @@ pub record StandsInOrder (c : Config) (w : World) : Type 0 where
   pub words : HasHeaderWords w
   pub room : HasRoom c w
   pub runs : RunsAreWhole c w
-
--- One event, whatever it is: all stays in order.
-abbrev pub EventsKeepTheLayout : Type 0
-EventsKeepTheLayout =
-    (c : Config) (es : List Event) (e : Event) → IsWithinLimits c → AreEnabled c es → IsEnabledBehind c es e
-    → LayoutPremises c (left c es)
-    → StandsInOrder c (left c es) → StandsInOrder c (world_behind c (left c es) e)
 
 -- The other groups say so before each event.
 unfoldable pub LayoutPremisesFrom : Config → World → List Event → Type 0

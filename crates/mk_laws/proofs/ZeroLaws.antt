@@ -3,7 +3,7 @@ use Rattle.std.specs.Prelude.{◌≡◌, Bool, true, false, List, [], ◌∷◌,
 use Rattle.mk_geom.specs.declared.addresses.Cell.{Cell}
 use Rattle.mk_core.specs.{declared.config.Config.Config, declared.events.Step.Step, declared.events.Event.Event}
 use Rattle.mk_core.specs.{Config.IsWithinLimits, Calls.word_met, Moments.flight_of, NewPlaces.target}
-use Rattle.mk_core.specs.History.{World, first_world, world_behind, left, AreEnabled, IsEnabledBehind}
+use Rattle.mk_core.specs.History.{World, world_behind}
 use Rattle.mk_laws.proofs.{Terrain.{IsCellOf, LayoutStands}, Zeros.HasZeros}
 use Rattle.mk_laws.specs.FreeWords.{IsWordOfMapped}
 use Rattle.mk_core.specs.declared.events.Step.TheVariants as step
@@ -23,20 +23,7 @@ pub record ZeroPremises (c : Config) (w : World) (e : Event) : Type 0 where
   -- An admitted store is to a word of a mapped allocation.
   pub stored : is_heap_store e.step ≡ true → IsWordOfMapped c w.allocations (word_met (flight_of w.now e.seat))
 
--- One event, whatever it is: all other words stay 0.
-abbrev pub EventsKeepTheZeros : Type 0
-EventsKeepTheZeros =
-    (c : Config) (es : List Event) (e : Event) → IsWithinLimits c → AreEnabled c es → IsEnabledBehind c es e
-    → ZeroPremises c (left c es) e
-    → HasZeros c (left c es) → HasZeros c (world_behind c (left c es) e)
-
 -- The other groups say so before each event.
 unfoldable pub ZeroPremisesFrom : Config → World → List Event → Type 0
 ZeroPremisesFrom c w [] = ⊤
 ZeroPremisesFrom c w (e ∷ es) = ZeroPremises c w e × ZeroPremisesFrom c (world_behind c w e) es
-
--- Then they are 0 after every list of enabled events.
-abbrev pub ZerosStandBehindLists : Type 0
-ZerosStandBehindLists =
-    (c : Config) (es : List Event) → IsWithinLimits c → AreEnabled c es → ZeroPremisesFrom c (first_world c) es
-    → HasZeros c (left c es)

@@ -2,16 +2,16 @@
 use Rattle.mk_laws.proofs.Vocabulary.{AreEnabledFrom, AreOfPages, Bool, Config, Event, HasZeros, Holding, IsEnabled}
 use Rattle.mk_laws.proofs.Vocabulary.{IsReleasedWord, IsWithinLimits, IsWordOfMapped, List, MayHold, None, OfFreedRun}
 use Rattle.mk_laws.proofs.Vocabulary.{OfMapped, OfReleased, OthersAreZero, PlacedAllocation, Seat, Step, World}
-use Rattle.mk_laws.proofs.Vocabulary.{ZeroScene, ℕ, access, accessed_lengths, address_of, and_parts, arith, cases_Bool}
+use Rattle.mk_laws.proofs.Vocabulary.{ZeroScene, ℕ, address_of, and_parts, arith, cases_Bool}
 use Rattle.mk_laws.proofs.Vocabulary.{cell_of_allocation, cells_begin, enabled_meets, eqb-true, false, first_world}
 use Rattle.mk_laws.proofs.Vocabulary.{flight_of, granted, has_bit_without, head_step, held_by_pages}
-use Rattle.mk_laws.proofs.Vocabulary.{histories_keep_lengths, if◌then◌else◌, inl, inr, is_decided, is_heap_store}
+use Rattle.mk_laws.proofs.Vocabulary.{if◌then◌else◌, inl, inr, is_decided, is_heap_store}
 use Rattle.mk_laws.proofs.Vocabulary.{is_left_unmarked, is_phase, is_released_there, is_run_gone, left, left_from, map}
 use Rattle.mk_laws.proofs.Vocabulary.{may_end, nothing_done, object_placed, placed_at, quarantine_step, refl}
 use Rattle.mk_laws.proofs.Vocabulary.{reg_access, register_met, subst, sym, true, true≢false, used_step, with_released}
-use Rattle.mk_laws.proofs.Vocabulary.{word_accessed, word_points, world_behind, zero_lengths, zero_scene_with, [], ◌*◌}
+use Rattle.mk_laws.proofs.Vocabulary.{word_points, world_behind, zero_scene_with, [], ◌*◌}
 use Rattle.mk_laws.proofs.{Vocabulary.{◌++◌, ◌==◌, ◌∙◌, ◌∷◌, ◌≡◌}, Basics.{Known, Meets, WorldBehind, at_first}}
-use Rattle.mk_laws.proofs.Basics.{changed_words, is_releasing_behind, known_at_first, known_behind, known_left}
+use Rattle.mk_laws.proofs.Basics.{changed_words, is_releasing_behind}
 use Rattle.mk_laws.proofs.{Basics.{mapped_stays, none_released}, Behind.{phase_kind, releasing_marks}}
 use Rattle.mk_laws.proofs.ChangedScenes.{Before, early_words, here, kept_heap, standing, stored_words, wiped_words}
 use Rattle.mk_laws.proofs.MappedWords.{word_of_fresh, word_of_longer, word_of_unreleased}
@@ -19,7 +19,7 @@ use Rattle.mk_laws.proofs.{ZerosPageKinds.{gone_word, head_kind, quar_kind, used
 use Rattle.mk_laws.proofs.{LayoutByKind.off_at, LayoutHistories.histories_are_laid_out, QuarantineByKind.shown_at}
 use Rattle.mk_laws.proofs.QuarantineChanges.{index_small}
 use Rattle.mk_core.proofs.{PointedPages.pointed_within, RegisterAccesses.{register_leaves, tally_leaves}}
-use Rattle.mk_laws.proofs.ZeroLaws.{EventsKeepTheZeros, ZeroPremises, ZeroPremisesFrom, ZerosStandBehindLists}
+use Rattle.mk_laws.proofs.ZeroLaws.{ZeroPremises}
 use Rattle.mk_laws.proofs.LayoutLaws as layout
 
 -- What each kind of event makes of the words that may hold values.
@@ -146,24 +146,8 @@ zeros_behind {c} {w} {e} limits lengths known on others z =
         (sym (releasing_marks w e.seat e.step known (enabled_meets c w.now e on) is)) z
     marked false is z = with_marks c (world_behind c w e) w.now.words.marks (world_behind c w e).now.words.marks z
 
-pub events_keep_the_zeros : EventsKeepTheZeros
-events_keep_the_zeros c es e limits on enabled others z =
-    zeros_behind limits (histories_keep_lengths c es) (known_left c es limits on) enabled others z
-
-zeros_from : (c : Config) (w : World) (es : List Event) → IsWithinLimits c → AreOfPages c.pages w.now.words
-    → Known c w.now → AreEnabledFrom c w es → ZeroPremisesFrom c w es → HasZeros c w → HasZeros c (left_from c w es)
-unfolding left_from AreEnabledFrom ZeroPremisesFrom
-zeros_from c w [] limits lengths known on others z = z
-zeros_from c w (e ∷ es) limits lengths known on others z = zeros_from c (world_behind c w e) es limits
-    (accessed_lengths c.pages w.now.words (word_accessed c w.now e) (access c w.now e) lengths)
-    (known_behind c w.now e known on.0) on.1 others.1 (zeros_behind limits lengths known on.0 others.0 z)
-
 pub zeros_at_first : (c : Config) → HasZeros c (first_world c)
 zeros_at_first c n some = absurd (some (at_first (64 * c.pages) n 0))
-
-pub zeros_stand_behind_lists : ZerosStandBehindLists
-zeros_stand_behind_lists c es limits on others =
-    zeros_from c (first_world c) es limits (zero_lengths c.pages) (known_at_first limits) on others (zeros_at_first c)
 
 -- The premises aren't empty.
 pub others_at_first : {c : Config} (e : Event) → IsWithinLimits c → is_heap_store e.step ≡ false

@@ -10,10 +10,11 @@ use Rattle.mk_words.proofs.{Below.Laws.Changes.marks_kind, Doing.{done_in_parts,
 use Rattle.mk_words.proofs.Doing.{own_or_others_in_parts}
 use Rattle.mk_words.specs.Doing.{AreOwnOrOfOthers}
 use Rattle.mk_core.proofs.{Conditions.meets_enabled, WordBits.{bit_for_has, bits_added}}
-use Rattle.mk_core.specs.{Accesses.scan_bit, Bits.bit_for, Frames.{Attends, ScanIsLeft}, Growing.own_from}
+use Rattle.mk_core.specs.{Accesses.scan_bit, Bits.bit_for, Cells.words_scanned, Frames.{Attends, ScanIsLeft}}
+use Rattle.mk_core.specs.Growing.{own_from}
 use Rattle.mk_core.specs.{Words.named_word, declared.seats.Presence.TheVariants.Attending}
 use Rattle.mk_marker.specs.Steps.{ClaimsMarked, IsMarkedIn, IsOf, IsScanning, IsScanOf, MarksGrow, Moved, MovesMarker}
-use Rattle.mk_marker.specs.{Steps.words_left, Doing.finding, Markers.{attends, between_scans}, Scanning.words_scanned}
+use Rattle.mk_marker.specs.{Steps.words_left, Doing.finding, Markers.{attends, between_scans}}
 use Rattle.mk_marker.specs.{Working.IsBlackIn, declared.cells.MarkedCell.MarkedCell}
 use Rattle.mk_words.proofs.{Made.{made, own_before}, Seats.same_self}
 use Rattle.mk_words.specs.{Markers.{Marks, marker_in}, Seats.Has, States.{PassState, WordsState, event_of, now_of}}
@@ -88,7 +89,7 @@ still_marked p page k n q on is f =
 pub claimed : {p : PassState} (cell : MarkedCell) {n : ℕ} {q : PassState} → marker_in p ≡ between_scans
     (Some (record { page = cell.page; header = cell.header })) → IsMarkedIn p cell.page cell.index
     → Marks p (Step.Claim cell.page cell.index) n q → ClaimsMarked p cell q × IsScanning (marker_in q) × IsScanOf
-    (marker_in q) cell.page cell.index × (words_left (marker_in q) ≡ words_scanned cell.header)
+    (marker_in q) cell.page cell.index × (words_left (marker_in q) ≡ words_scanned (header_of cell.header))
 claimed {p} cell {n = n} {q = q} at is m =
     let on : attends p ≡ true = ap (λ (x : MarkerState). is_attending x.presence) at in
     let marked = still_marked p cell.page cell.index n q on is m.finds in
@@ -113,7 +114,8 @@ claimed {p} cell {n = n} {q = q} at is m =
         bit = ap (λ (y : MarkerState). scan_bit y.scan) now;
       },
       ap (λ (y : MarkerState). words_left y) now
-          ∙ begun_left (64 * cell.page + cell.index * words_under (header_of cell.header)) (words_scanned cell.header),
+          ∙ begun_left (64 * cell.page + cell.index * words_under (header_of cell.header))
+          (words_scanned (header_of cell.header)),
     )
   where
     begun_left : (a w : ℕ) → (a + w) - a ≡ w

@@ -5,7 +5,9 @@ use Rattle.mk_words.proofs.{Below.Laws.Vocabulary.{◌++◌, ◌+◌, ◌∙◌,
 use Rattle.mk_core.specs.Growing.{Finding}
 use Rattle.mk_marker.{proofs.Did.{did_nothing, did_then, seat_kept}, specs.declared.cells.MarkedCell.{MarkedCell}}
 use Rattle.mk_marker.specs.{Doing.{Did, count_loads, finding, is_markers_load, is_of_scan}, Steps.{ClaimsMarked, Moved}}
-use Rattle.mk_marker.specs.{Steps.{MovesMarker, ScansCell, ScansOn}, Scanning.words_scanned}
+use Rattle.mk_marker.specs.Steps.{MovesMarker, ScansCell, ScansOn}
+use Rattle.mk_core.specs.Cells.{words_scanned}
+use Rattle.mk_geom.specs.Headers.{header_of}
 use Rattle.mk_words.specs.States.{PassState}
 
 count_in_parts : (xs ys : List Finding) → count_loads (xs ++ ys) ≡ count_loads xs + count_loads ys
@@ -34,7 +36,7 @@ loads_once {p} {n} m =
 
 pub scanned : {p : PassState} {cell : MarkedCell} {a : PassState} {count : ℕ} {b : PassState} (q : PassState)
     → ClaimsMarked p cell a → ScansOn a count b
-    → count ≡ words_scanned cell.header → Moved b Step.Mblack q → ScansCell p cell q
+    → count ≡ words_scanned (header_of cell.header) → Moved b Step.Mblack q → ScansCell p cell q
 scanned {p} {cell} {a} {b} q claims goes is black =
     let one = goes.did in
     let at : b.seat ≡ p.seat = seat_kept goes.did ∙ seat_kept claims.moves.did in

@@ -1,16 +1,12 @@
 -- The scan of a cell: it is claimed, each of its words is loaded and what that points into is marked, and it is made
 -- black.
-use Rattle.std.specs.Prelude.{◌≡◌, ℕ, true, List, [], ◌∷◌, ◌++◌, if◌then◌else◌}
+use Rattle.std.specs.Prelude.{◌≡◌, ℕ, true, List, [], ◌∷◌, ◌++◌}
 use Rattle.mk_geom.specs.Headers.{header_of}
-use Rattle.mk_core.specs.{declared.events.Seat.Seat, Bits.has_bit, Cells.{words_under, has_no_pointers}}
+use Rattle.mk_core.specs.{declared.events.Seat.Seat, Bits.has_bit, Cells.words_scanned}
 use Rattle.mk_core.specs.Growing.{Finding}
 use Rattle.mk_words.specs.Doing.{are_of}
 use Rattle.mk_marker.specs.Doing.{finding, is_of_scan, count_loads}
 use Rattle.mk_core.specs.declared.events.Step.TheVariants as step
-
--- how many words of a cell are scanned under a header word: none of a leaf cell, or of an unmapped run
-abbrev pub words_scanned : ℕ → ℕ
-words_scanned header = if has_no_pointers (header_of header) then 0 else words_under (header_of header)
 
 -- These steps are the scan of a cell that was seen under the header: its `claim`, which finds it marked, a load of each
 -- of its words with the looks and marks that these lead to, and its `mblack`.
@@ -21,4 +17,4 @@ pub record Scans (s : Seat) (page index header : ℕ) (xs : List Finding) : Type
   pub is : xs ≡ finding s (step.Claim page index) marks ∷ (words ++ finding s step.Mblack blacks ∷ [])
   pub marked : has_bit marks index ≡ true
   pub of_scan : are_of is_of_scan words ≡ true
-  pub loads : count_loads words ≡ words_scanned header
+  pub loads : count_loads words ≡ words_scanned (header_of header)

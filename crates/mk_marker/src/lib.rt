@@ -4,7 +4,6 @@
 #![tactic(auto)]
 
 mod cells;
-mod headers;
 mod markers;
 mod phases;
 mod scans;

@@ -3,14 +3,13 @@ ghost use Rattle.std.specs.Prelude.{◌≡◌, ◌+◌, ◌<◌, Some};
 ghost use Rattle.mk_geom.specs.{Headers.header_of, Addresses.page_at_address};
 ghost use Rattle.mk_core.specs.Cells.{cells_under};
 ghost use Rattle.mk_words.specs.Markers.{marker_in};
-ghost use Rattle.mk_marker.specs.{Markers.{between_scans, IsBetweenScans}, Scanning.words_scanned, Working.IsBlackIn};
+ghost use Rattle.mk_marker.specs.{Markers.{between_scans, IsBetweenScans}, Working.IsBlackIn};
 ghost use Rattle.mk_marker.specs.Steps.{IsOf, IsMarkedIn, IsScanning, IsHolding, SameScan, ScansOn, ScansCell};
 ghost use Rattle.mk_marker.specs.Steps.{words_left};
 
 use crate::cells::MarkedCell;
-use crate::headers::words_scanned;
 use crate::steps::{blacken, claim, load, look, mark};
-use mk_core::Word;
+use mk_core::{Word, words_scanned};
 use mk_geom::{heap_page, lookup};
 use mk_words::{MarkerPass, Words};
 

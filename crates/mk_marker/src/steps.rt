@@ -2,9 +2,9 @@
 ghost use Rattle.std.specs.Prelude.{◌≡◌, ◌<◌, ◌≤◌, ◌%◌, ◌&&◌, true, false, Some};
 ghost use Rattle.mk_geom.specs.Headers.{header_of};
 ghost use Rattle.mk_core.specs.{Words.named_word, Ranges.is_word, MarkerConditions.{is_markers_word, is_out}};
-ghost use Rattle.mk_core.specs.{MarkerConditions.{may_mmark, may_mblack}, Cells.cells_under};
+ghost use Rattle.mk_core.specs.{MarkerConditions.{may_mmark, may_mblack}, Cells.{cells_under, words_scanned}};
 ghost use Rattle.mk_words.specs.{States.now_of, Markers.marker_in};
-ghost use Rattle.mk_marker.specs.{Markers.{IsOut, attends, between_scans}, Scanning.words_scanned, Working.IsBlackIn};
+ghost use Rattle.mk_marker.specs.{Markers.{IsOut, attends, between_scans}, Working.IsBlackIn};
 ghost use Rattle.mk_marker.specs.Steps.{IsOf, MovesMarker, Moved, IsMarkedIn, IsScanning, IsScanOf, ClaimsMarked};
 ghost use Rattle.mk_marker.specs.Steps.{words_left};
 ghost use Rattle.mk_core.specs.declared.events.Step.TheVariants as step;
@@ -57,7 +57,7 @@ pub(crate) fn claim(words: &Words, pass: &mut MarkerPass, cell: MarkedCell)
     ensures claims { ClaimsMarked pass.old cell pass.new }
     ensures scanning { IsScanning (marker_in pass.new) }
     ensures cell { IsScanOf (marker_in pass.new) cell.page cell.index }
-    ensures left { words_left (marker_in pass.new) ≡ words_scanned cell.header }
+    ensures left { words_left (marker_in pass.new) ≡ words_scanned (header_of cell.header) }
 {
     pass.claim(words, cell.page, cell.index);
 }

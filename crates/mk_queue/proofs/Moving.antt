@@ -1,32 +1,26 @@
 -- Each operation of a queue's jobs.
-use Rattle.mk_laws.proofs.Vocabulary.{List, Null, Op, Option, Ptr, Some, Value, ap}
-use Rattle.mk_laws.proofs.Vocabulary.{arith}
-use Rattle.mk_laws.proofs.Vocabulary.{cases_eq, cases_lt, false≢true, get_or, inl, inr, kinds_of}
-use Rattle.mk_laws.proofs.Vocabulary.{length}
-use Rattle.mk_laws.proofs.Vocabulary.{number_of, refl, register_at, subst, suc, sym, word_at, zero, ℕ, []}
-use Rattle.mk_laws.proofs.Vocabulary.{◌+◌}
-use Rattle.mk_laws.proofs.Vocabulary.{◌<◌, ◌∙◌, ◌∷◌, ◌≡◌, ◌≢◌, ◌≤◌, ◌⊎◌}
+use Rattle.mk_laws.proofs.Vocabulary.{Bool, Kind, List, None, Op, Option, Some, Value, ap, arith, cond, eq-eqb}
+use Rattle.mk_laws.proofs.Vocabulary.{allocation_at, false≢true, inl, inr, number_of, refl}
+use Rattle.mk_laws.proofs.Vocabulary.{subst, sym, word_at, ℕ, [], ◌++◌, ◌∙◌, ◌∷◌, ◌≡◌, ◌≢◌}
 use Rattle.mk_never.specs.NeverHeap.{after_op}
-use Rattle.mk_jobs.specs.{Keeping.{IsShown, IsThere, Private, Public, Taken, World, after}}
-use Rattle.mk_jobs.specs.{Linked.numbers_in}
-use Rattle.mk_jobs.proofs.{Chains.IsChain, Heaps.Stores, Operations.{global_there, register_has}}
-use Rattle.mk_jobs.proofs.Clients.{Client, Deciding, Leads, MovesAt, by_dropping, by_exchange, by_freeing, by_load}
-use Rattle.mk_jobs.proofs.Clients.{by_load_global, by_load_number, by_new, by_null, by_store, by_store_global}
-use Rattle.mk_jobs.proofs.Clients.{by_store_number, decides_so, some_not_none, takes_public, undecided, was_decided}
-use Rattle.mk_jobs.proofs.{Clients.{when_null, when_some}, Puts.{points_to, puts_one, puts_two}}
-use Rattle.mk_queue.specs.{Points.{done_without, holds, queue_plan}, Queue.left_by}
+use Rattle.mk_jobs.specs.Keeping.{IsShown, IsThere, Private, Public, Taken, World}
+use Rattle.mk_jobs.proofs.{Chains.word_of, Heaps.Stores, Operations.{global_there, register_has}}
+use Rattle.mk_jobs.proofs.Clients.{Client, MovesAt, by_dropping, by_exchange, by_freeing, by_load, by_load_number}
+use Rattle.mk_jobs.proofs.Clients.{by_new, by_null, by_store, by_store_global, by_store_number, decides_so, leads}
+use Rattle.mk_jobs.proofs.Clients.{takes_public, undecided, was_decided, when_null, when_some}
+use Rattle.mk_jobs.proofs.Having.{HasOwn, founder_on, has_word, not_null, own_beside, own_new, own_now}
+use Rattle.mk_jobs.proofs.Having.{own_stays, points_stay, root_stays}
+use Rattle.mk_jobs.proofs.Puts.{puts_one, puts_two}
+use Rattle.mk_jobs.proofs.Relying.{onward_own, onward_taken, onward_two, relies_freed, relies_placed, relies_stored}
+use Rattle.mk_jobs.proofs.Roots.{by_checking, by_starting, dropped, founded_still, none_passed, of_root, placed}
+use Rattle.mk_jobs.proofs.Roots.{shared_two, small_linked, unfounded}
+use Rattle.mk_jobs.proofs.{Longer.row_longer, Rows.{HasRow, first_of, not_root, points_first, row_popped}}
+use Rattle.mk_queue.specs.{Points.{holds, queue_plan}, Queue.left_by}
 use Rattle.mk_queue.specs.declared.{jobs.Done.{Done}, jobs.Job.{Job}, points.Point.{Point}}
-use Rattle.mk_queue.proofs.{Changing.{dummy_is_public, last_is_public, linked_queue, linked_rely, tail_moved, takes}}
-use Rattle.mk_queue.proofs.{Changing.takes_rely, Founding.{dropped, placed, placed_rely}}
-use Rattle.mk_queue.proofs.Invariant.{HasEnds, HasFirst, HasHead, IsFounder, IsPassed, IsQueue, IsUnfounded, Local}
-use Rattle.mk_queue.proofs.Invariant.{MayPointToNode, PointsToNode, Rely, Shared, job_at}
-use Rattle.mk_queue.proofs.Leaving.{covered, may_point_on, part_is_node, passed_has_link, the_queue}
-use Rattle.mk_queue.proofs.Staying.{ends, enqueuing, enqueuing_set, followed, may_point, next, not_null, points, taken}
-
-pub small : (ty : ℕ) → length (kinds_of queue_plan.types ty) ≤ 32
-small zero = omega arith
-small (suc zero) = omega arith
-small (suc (suc ty)) = omega arith
+use Rattle.mk_queue.proofs.Invariant.{Local, Rely, Shared, done_without, job_at}
+use Rattle.mk_queue.proofs.Changing.{covered, head_goes_on, is_empty, last_is_public, may_point_on, passed_put}
+use Rattle.mk_queue.proofs.Changing.{rely_at, rely_founding, tail_moved}
+use Rattle.mk_queue.proofs.Staying.{ends, enqueuing, followed, next, taken}
 
 abbrev pub client : Client queue_plan left_by
 client = record {
@@ -34,318 +28,288 @@ client = record {
   Local = Local;
   Rely = Rely;
   job_at = job_at;
-  covers = λ j x w w' covers shared. covered covers x j shared;
-  small = small;
+  covers = λ j x w w' covers shared. covered x j covers shared;
+  small = small_linked (Kind.To 0 0 ∷ Kind.To 0 0 ∷ []) (omega arith);
 }
 
--- What an operation leaves
-leads : {k : ℕ} {s t : Point} {u u' : Option Done} {x y : List ℕ} {w w' : World} → Deciding client s u x u' y t
-    → Local w' k t u' → Shared w' y → Rely k w w' → Leads client k s u x w w' t
-leads deciding local shared rely =
-    record { decided = _; state = _; deciding = deciding; local = local; shared = shared; rely = rely }
+none_left : (j : Job) → left_by [] j (done_without j) ≡ Some []
+none_left (Job.Enqueue n) = refl
+none_left Job.Dequeue = refl
 
-some_is : {A : Type 0} {a b : A} → Some a ≡ Some b → a ≡ b
-some_is e = cc e
+takes_first : (x : List ℕ) (m : ℕ) (ys : List ℕ) → x ≡ m ∷ ys → left_by x Job.Dequeue (Done.Dequeued m) ≡ Some ys
+takes_first x m ys e =
+    ap (λ (l : List ℕ). left_by l Job.Dequeue (Done.Dequeued m)) e
+    ∙ ap (λ (t : Bool). cond t (Some ys) None) (eq-eqb m m refl)
 
-none_left : {x : List ℕ} (j : Job) → x ≡ [] → left_by x j (done_without j) ≡ Some x
-none_left (Job.Enqueue n) e = refl
-none_left Job.Dequeue e = subst (λ (l : List ℕ). left_by l Job.Dequeue Done.Empty ≡ Some l) (sym e) refl
+-- Objects of two types are two.
+apart : {callers : ℕ} {w : World} {k : ℕ} {s : Point} {r r' : ℕ} {P Q : List Value → Type 0}
+    → IsThere queue_plan left_by callers w k s → (node : HasOwn w k r 0 P) (root : HasOwn w k r' 1 Q)
+    → node.a ≢ root.a
+apart {w = w} {r = r} {r' = r'} there node root same =
+    let e : 0 ≡ 1 = sym (register_has there r node.register).is_of
+    ∙ ap (λ (y : ℕ). (allocation_at w.n y).ty) same ∙ (register_has there r' root.register).is_of in
+    cc e
 
-points_to_ends : {w : World} {k : ℕ} → HasEnds w k → register_at w.n k 0 ≢ Null
-points_to_ends h = not_null h.e 1 _ h.register
-
--- The queue that the ends in a register belong to
-has_queue : {w : World} {k : ℕ} {x : List ℕ} → HasEnds w k → Shared w x
-    → (q : IsQueue w x) × (register_at w.n k 0 ≡ Ptr q.e 1 0)
-has_queue h shared =
-    let q = the_queue h.e h.global shared in (q.0, h.register ∙ ap (λ (a : ℕ). Ptr a 1 0) (sym q.1))
-
-unfounded : {w : World} {k : ℕ} {x : List ℕ} → IsFounder w k → Shared w x → IsUnfounded w x
-unfounded h (inl none) = none
-unfounded h (inr q) = absurd (not_null q.e 1 _ q.global h.1)
-
--- A word of the ends is set to the dummy.
-stored_first : {callers : ℕ} {w w' : World} {k i : ℕ} {s : Point} → IsThere queue_plan left_by callers w k s
-    → (h : HasFirst w k i) → Stores h.e i (register_at w.n k 1) w.n w'.n → ((a : ℕ) → w'.role a ≡ w.role a)
-    → HasFirst w' k (i + 1)
-stored_first {w = w} {w' = w'} {k = k} {i = i} there h stores roles = record {
-  founder = (h.founder.0, stores.globals 0 ∙ h.founder.1);
-  e = h.e;
-  a = h.a;
-  ends = stores.registers k 0 ∙ h.ends;
-  dummy = stores.registers k 1 ∙ h.dummy;
-  role_e = roles h.e ∙ h.role_e;
-  role_a = roles h.a ∙ h.role_a;
-  stored = λ j lt. by j (cases_eq j i) lt;
-  link = ap (λ (ws : List Value). get_or ws 1 Null) (stores.others h.a apart) ∙ h.link;
-}
-  where
-    apart : h.a ≢ h.e
-    apart e =
-        let x = (register_has there 0 h.ends).is_of in
-        let y = (register_has there 1 h.dummy).is_of in
-        grind (arith, x, y)
-
-    by : (j : ℕ) → (j ≡ i) ⊎ (j ≢ i) → j < i + 1 → word_at w'.n h.e j ≡ Ptr h.a 0 0
-    by j (inl e) lt = ap (word_at w'.n h.e) e ∙ stores.here ∙ h.dummy
-    by j (inr ne) lt = stores.beside j ne ∙ h.stored j (omega (arith, cases_lt j i))
-
--- If the node that was loaded from head is linked to none, nothing is queued: a node that head has left has a link, so
--- head points to this one still.
-is_empty : {w : World} {k : ℕ} {x : List ℕ} (h : HasHead w k) → Shared w x → word_at w.n h.a 1 ≡ Null → x ≡ []
-is_empty {w} {x = x} h shared null = empty q.0.rest refl q.0.chain.3
-  where
-    q : (y : IsQueue w x) × (y.e ≡ h.e)
-    q = the_queue h.e h.global shared
-
-    dummy_is : (word_at w.n h.e 0 ≡ Ptr h.a 0 0) ⊎ IsPassed (w.role h.a) → q.0.dummy ≡ h.a
-    dummy_is (inl is) = (let e : Ptr q.0.dummy 0 0 ≡ Ptr h.a 0 0 = sym q.0.chain.0
-        ∙ ap (λ (e : ℕ). word_at w.n e 0) q.1 ∙ is in cc e)
-    dummy_is (inr passed) = absurd (passed_has_link h.a (q.0.links h.a h.node) passed null)
-
-    empty : (l : List ℕ) → q.0.rest ≡ l → IsChain w 0 1 (word_at w.n q.0.dummy 1) l → x ≡ []
-    empty [] e chain = sym q.0.numbers ∙ ap (numbers_in w.n 0) e
-    empty (d ∷ ds) e chain =
-        absurd (not_null d 0 _ chain.0 (ap (λ (a : ℕ). word_at w.n a 1) (dummy_is h.was) ∙ null))
-
-some_node : {w : World} {v : Value} → v ≢ Null → MayPointToNode w v → PointsToNode w v
-some_node ne (inl null) = absurd (ne null)
-some_node ne (inr h) = h
-
-pub moves : (callers : ℕ) (w : World) (k : ℕ) (s : Point) (u : Option Done) (x : List ℕ)
-    → MovesAt client callers w k u x s
--- The first caller creates the ends
-moves callers w k Point.Founding u x there shared local o t asks =
-    by_new client u there shared asks refl (λ a. refl) (undecided client refl)
-    (λ new puts words rely. (local.0, (local.1.0, new.globals 0 ∙ local.1.1))) (undecided client refl)
-    (λ rely. local.0)
--- and a dummy,
-moves callers w k Point.Grounding u x there shared local o t asks =
-    let ends = there.holds 0 (omega arith) in
-    let e = ends.number in
-    let exists = (register_has there 0 ends.is).exists in
-    by_new client u there shared asks refl (λ a. refl) (undecided client refl) (λ new puts words rely. (
-      local.0,
-      record {
-        founder = (local.1.0, new.globals 0 ∙ local.1.1);
-        e = e;
-        a = length w.n.allocations;
-        ends = new.others 0 (λ e. omega arith) ∙ ends.is;
-        dummy = new.here;
-        role_e = puts.others e (λ same. omega (arith, exists, same))
-            ∙ there.privates 0 e (omega arith) refl (points_to e 1 _ ends.is);
-        role_a = puts.here;
-        stored = λ j lt. absurd (omega arith);
-        link = ap (λ (ws : List Value). get_or ws 1 Null) words;
-      },
-    )) (undecided client refl) (λ rely. local)
--- or frees them, where there is no room for it.
-moves callers w k Point.Dropping u x there shared local o t asks =
-    let ends = there.holds 0 (omega arith) in
-    let e = ends.number in
-    by_dropping client u there shared asks ends.is (λ frees puts.
-    let now = dropped (unfounded local.1 shared) (there.privates 0 e (omega arith) refl (points_to e 1 _ ends.is))
-    (register_has there 0 ends.is).is_of frees puts in
-    leads (undecided client refl) local.0 (inl now.0) now.1)
-moves callers w k Point.FirstHead u x there shared local o t asks =
-    by_store client u there shared asks local.1.ends refl local.1.role_e (λ a. refl) (undecided client refl)
-    (λ stores rely. (local.0, stored_first there local.1 stores (λ a. refl)))
-moves callers w k Point.FirstTail u x there shared local o t asks =
-    by_store client u there shared asks local.1.ends refl local.1.role_e (λ a. refl) (undecided client refl)
-    (λ stores rely. (local.0, stored_first there local.1 stores (λ a. refl)))
--- The global is set to the ends.
-moves callers w k Point.Placing u x there shared local o t asks =
-    let h = local.1 in
-    let none = unfounded h.founder shared in
-    let w' = after queue_plan left_by w k (Op.SetGlobal 0 0) Point.Placing Point.Founded in
-    let global = global_there there 0 0 refl ∙ h.ends in
-    let ends_type = (register_has there 0 h.ends).is_of in
-    let node_type = (register_has there 1 h.dummy).is_of in
-    let puts = puts_two h.ends h.dummy (λ a. refl) in
-    by_store_global client u there shared asks (leads (undecided client refl) local.0
-    (inr (placed w' none h ends_type node_type refl global puts))
-    (placed_rely w' none h ends_type node_type refl global puts))
--- A job loads the ends,
-moves callers w k (Point.Starting j) u x there (inl none) local o t asks =
-    by_load_global client u there (inl none) asks refl (λ a. refl)
-    (decides_so client (done_without j) local refl (none_left j none.none_left))
-    (λ set rely alone. inl (set.here ∙ none.global, refl))
-moves callers w k (Point.Starting j) u x there (inr q) local o t asks =
-    by_load_global client u there (inr q) asks refl (λ a. refl) (undecided client refl)
-    (λ set rely alone. inr (local, record { e = q.e; global = q.global; register = set.here ∙ q.global }))
--- which are null or not.
-moves callers w k (Point.Checking (Job.Enqueue m)) u x there shared local o t asks =
-    by_null client u there shared asks (λ a. refl) (λ a. refl)
-    (λ null. let e = when_null local points_to_ends null in (was_decided client e, λ rely alone. e))
-    (λ some. let h = when_some local some in (undecided client refl, λ rely alone. (h.0, ends rely refl h.1)))
-moves callers w k (Point.Checking Job.Dequeue) u x there shared local o t asks =
-    by_null client u there shared asks (λ a. refl) (λ a. refl)
-    (λ null. let e = when_null local points_to_ends null in (was_decided client e, λ rely alone. e))
-    (λ some. let h = when_some local some in (undecided client refl, λ rely alone. (h.0, ends rely refl h.1)))
--- An enqueue creates a node,
-moves callers w k (Point.Making m) u x there shared local o t asks =
-    by_new client u there shared asks refl (λ a. refl) (undecided client refl) (λ new puts words rely. record {
-      open_still = local.0;
-      ends = ends rely (new.others 0 (λ e. omega arith)) local.1;
-      own = record {
-        a = length w.n.allocations;
-        register = new.here;
-        role = puts.here;
-        link = ap (λ (ws : List Value). get_or ws 1 Null) words;
-        number = λ y e. absurd (some_not_none e refl);
-      };
-    }) (decides_so client Done.Full local.0 refl refl) (λ rely. refl)
--- stores its number in it,
-moves callers w k (Point.Filling m) u x there shared local o t asks =
-    by_store_number client u there shared asks local.own.register refl local.own.role (λ a. refl)
-    (undecided client refl) (λ stores rely. record {
-      open_still = local.open_still;
-      ends = ends rely (stores.registers k 0) local.ends;
-      own = record {
-        a = local.own.a;
-        register = stores.registers k 1 ∙ local.own.register;
-        role = local.own.role;
-        link = stores.beside 1 (λ e. omega arith) ∙ local.own.link;
-        number = λ y e. ap number_of stores.here ∙ some_is e;
-      };
-    })
--- loads the tail,
-moves callers w k (Point.Loading m) u x there shared local o t asks =
-    let h = has_queue local.ends shared in
-    by_load client u there shared asks h.1 refl (λ a. refl) (undecided client refl) (λ set rely alone.
-    (enqueuing_set rely set (omega arith) alone local, points rely.nodes.node set.here h.0.tail))
--- and its link,
-moves callers w k (Point.Following m) u x there shared local o t asks =
-    let link = may_point_on local.1.a ((has_queue local.0.ends shared).0.links local.1.a local.1.node) in
-    by_load client u there shared asks local.1.is refl (λ a. refl) (undecided client refl) (λ set rely alone. (
-      enqueuing_set rely set (omega arith) alone local.0,
-      points rely.nodes.node (set.others 2 (λ e. omega arith)) local.1,
-      may_point rely.nodes.node set.here link,
-    ))
--- which is null or not.
-moves callers w k (Point.Testing m) u x there shared local o t asks =
-    by_null client u there shared asks (λ a. refl) (λ a. refl) (λ null. (
-      undecided client refl,
-      λ rely alone.
-          (enqueuing rely refl refl alone local.0, points rely.nodes.node refl local.1, null),
-    ))
-    (λ some. (
-      undecided client refl,
-      λ rely alone.
-          (enqueuing rely refl refl alone local.0, points rely.nodes.node refl (some_node some local.2)),
-    ))
--- Its link is exchanged for the node, or another caller was first.
-moves callers w k (Point.Linking m) u x there shared local o t asks =
-    let own = local.0.own in
-    let old = local.1 in
-    let q = (has_queue local.0.ends shared).0 in
-    by_exchange client u there shared asks old.is refl (λ same stores.
-    let null = same ∙ local.2 in
-    let is_of = (register_has there 1 own.register).is_of in
-    let puts = puts_one Public own.register (λ a. refl) in
-    let stored = subst (λ (v : Value). Stores old.a 1 v w.n (after_op w.n k
-    (Op.CasPtr 2 1 3 1))) own.register stores in
-    let rely = linked_rely q old.node null own is_of stored puts in (
-      last_is_public q old.node null own is_of stored puts,
-      (λ e. absurd (false≢true e)),
-      leads (decides_so client Done.Enqueued local.0.open_still refl refl) (
-        refl,
-        ends rely (stores.registers k 0) local.0.ends,
-        record {
-          a = own.a;
-          is = stores.registers k 1 ∙ own.register;
-          node = record { shown = subst IsShown (sym puts.here) tt; is_of = stores.types own.a ∙ is_of };
-        },
-      ) (inr (linked_queue q old.node null own is_of stored puts)) rely,
-    )) (λ a. refl) refl (undecided client refl)
-    (λ same rely alone. enqueuing rely (same 0) (same 1) alone local.0)
--- The tail is exchanged for that, or was by another caller,
-moves callers w k Point.Swinging u x there shared local o t asks =
-    let h = has_queue local.1 shared in
-    by_exchange client u there shared asks h.1 refl (λ same stores.
-    let now = tail_moved k h.0 stores (λ c. refl) local.2 in (
-      h.0.ends.role,
-      (λ e. absurd (false≢true e)),
-      leads (was_decided client local.0) local.0 (inr now.0) now.1,
-    )) (λ a. refl) refl (was_decided client local.0) (λ same rely alone. local.0)
--- or for the link of the one that was the tail.
-moves callers w k (Point.Helping m) u x there shared local o t asks =
-    let h = has_queue local.0.ends shared in
-    by_exchange client u there shared asks h.1 refl (λ same stores.
-    let now = tail_moved k h.0 stores (λ c. refl) local.1 in (
-      h.0.ends.role,
-      (λ e. absurd (false≢true e)),
-      leads (undecided client refl) (enqueuing now.1 (stores.registers k 0) (stores.registers k 1) (λ a e. (
-        e,
-        stores.others a (λ f. (let y : Private k ≡ Public = sym e ∙ ap w.role f ∙ h.0.ends.role in cc y)),
-      )) local.0) (inr now.0) now.1,
-    )) (λ a. refl) refl (undecided client refl)
-    (λ same rely alone. enqueuing rely (same 0) (same 1) alone local.0)
--- A dequeue loads the head,
-moves callers w k Point.Heading u x there shared local o t asks =
-    let h = has_queue local.1 shared in
-    let q = h.0 in
-    by_load client u there shared asks h.1 refl (λ a. refl) (undecided client refl) (λ set rely alone. (
-      local.0,
-      ends rely (set.others 0 (λ e. omega arith)) local.1,
-      record {
-        e = q.e;
-        a = q.dummy;
-        global = rely.ends q.e q.global;
-        register = set.here ∙ q.chain.0;
-        node = rely.nodes.node q.dummy (part_is_node q.chain.1);
-        was = rely.head q.e q.dummy q.global q.chain.0;
-      },
-    ))
--- and its link, which is null where nothing is queued.
-moves callers w k Point.Peeking u x there shared local o t asks =
-    let h = local.2 in
-    elim (may_point_on h.a ((has_queue local.1 shared).0.links h.a h.node)) [
-      | inl null ↦ by_load client u there shared asks h.register refl (λ a. refl)
-          (decides_so client Done.Empty local.0 refl (none_left Job.Dequeue (is_empty h shared null)))
-          (λ set rely alone. (ends rely (set.others 0 (λ e. omega arith)) local.1, inl (set.here ∙ null, refl)))
-      | inr to ↦ by_load client u there shared asks h.register refl (λ a. refl) (undecided client refl)
-          (λ set rely alone. (
-            ends rely (set.others 0 (λ e. omega arith)) local.1,
-            inr (local.0, followed rely (set.others 2 (λ e. omega arith)) (set.here ∙ to.is) h to.is to.node),
-          ))
-    ]
-moves callers w k Point.Asking u x there shared local o t asks =
-    by_null client u there shared asks (λ a. refl) (λ a. refl) (λ null.
-    let e = when_null local.1 (λ h. not_null h.b 0 _ h.register) null in (was_decided client e, λ rely alone. e))
-    (λ some. let h = when_some local.1 some in
-    (undecided client refl, λ rely alone. (h.0, ends rely refl local.0, next rely refl refl h.1)))
--- The head is exchanged for it, or was by another caller.
-moves callers w k Point.Taking u x there shared local o t asks =
-    let h = has_queue local.1 shared in
-    let head = local.2.head in
-    by_exchange client u there shared asks h.1 refl (λ same stores.
-    let is = same ∙ head.register in
-    let stored = subst (λ (v : Value). Stores h.0.e 0 v w.n (after_op w.n k
-    (Op.CasPtr 0 0 2 3))) local.2.register stores in
-    let puts = puts_one (Taken k) head.register (λ a. refl) in
-    let now = takes h.0 is local.2.link stored puts in
-    let rely = takes_rely h.0 is local.2.link stored puts in (
-      h.0.ends.role,
-      takes_public w k 0 0 2 3 (holds Point.Taking) (holds Point.Freeing) head.register
-          (dummy_is_public h.0 is local.2.link stored puts),
-      leads (decides_so client _ local.0 refl now.explained) (
-        record {
-          b = local.2.b;
-          register = stores.registers k 3 ∙ local.2.register;
-          node = rely.nodes.node local.2.b local.2.node;
-          owes = ap (λ (v : Value). Some (Done.Dequeued (number_of v)))
-              (sym (rely.nodes.number local.2.b local.2.node));
-        },
-        record { a = head.a; is = stores.registers k 2 ∙ head.register; node = rely.nodes.node head.a head.node },
-      ) (inr now.queue) rely,
-    )) (λ a. refl) refl (undecided client refl) (λ same rely alone. (local.0, ends rely (same 0) local.1))
--- The old dummy is freed,
-moves callers w k Point.Freeing u x there shared local o t asks =
-    by_freeing client u there shared asks local.1.is refl refl (undecided client refl)
-    (λ frees rely. taken rely (frees.registers k 3) local.0)
--- and the number of the new one loaded.
-moves callers w k Point.Reading u x there shared local o t asks =
-    by_load_number client u there shared {to' = Point.Ended (Done.Dequeued 0)} asks local.register (λ a. refl)
-    (undecided client refl) (λ rely. local.owes)
-moves callers w k _ u x there shared local o t asks = absurd asks
+module _ {callers : ℕ} {w : World} {k : ℕ} {u : Option Done} {x : List ℕ} where
+  pub moves : (s : Point) → MovesAt client callers w k u x s
+  unfolding root_stays points_stay ends
+  -- The first caller creates the ends
+  moves Point.Founding there shared local o t asks =
+      by_new client u there shared asks refl (λ a. refl) (undecided client refl)
+      (λ new puts words rely alone. (founder_on (new.globals 0) local, own_new new puts words tt))
+      (undecided client refl) (λ rely. local.undecided)
+  -- and a dummy,
+  moves Point.Grounding there shared local o t asks =
+      by_new client u there shared asks refl (λ a. refl) (undecided client refl) (λ new puts words rely alone. (
+        founder_on (new.globals 0) local.0,
+        own_stays (new.others 0 (λ e. omega arith)) alone local.1,
+        own_new new puts words refl,
+      )) (undecided client refl) (λ rely. (founder_on refl local.0, own_now refl local.1 refl tt))
+  -- or frees them, where there is no room for it.
+  moves Point.Dropping there shared local o t asks =
+      let own = local.1 in
+      let is_of = (register_has there 0 own.register).is_of in
+      by_dropping client u there shared asks own.register (λ frees puts. leads client (undecided client refl)
+      local.0.undecided
+      (inl (dropped (unfounded local.0 shared) (λ e. (let y : 1 ≡ 0 = sym is_of ∙ e in cc y)) frees puts))
+      (rely_founding local.0.none (relies_freed frees (onward_own own.role puts))))
+  -- Both words of the ends are set to the dummy.
+  moves Point.FirstHead there shared local o t asks =
+      by_store client u there shared asks local.1.register refl local.1.role (λ a. refl) (undecided client refl)
+      (λ stores rely. (
+        founder_on (stores.globals 0) local.0,
+        own_now (stores.registers k 0) local.1 refl (stores.here ∙ sym (stores.registers k 1)),
+        own_beside stores local.2 (apart there local.2 local.1) refl,
+      ))
+  moves Point.FirstTail there shared local o t asks =
+      by_store client u there shared asks local.1.register refl local.1.role (λ a. refl) (undecided client refl)
+      (λ stores rely. (
+        founder_on (stores.globals 0) local.0,
+        own_now (stores.registers k 0) local.1 refl (
+          stores.beside 0 (λ e. omega arith) ∙ local.1.also ∙ sym (stores.registers k 1),
+          stores.here ∙ sym (stores.registers k 1),
+        ),
+        own_beside stores local.2 (apart there local.2 local.1) refl,
+      ))
+  -- The global is set to them.
+  moves Point.Placing there shared local o t asks =
+      let root = local.1 in
+      let dummy = local.2 in
+      let none = unfounded local.0 shared in
+      let puts = puts_two root.register dummy.register (λ a. refl) in
+      let is_node = (register_has there 1 dummy.register).is_of in
+      by_store_global client u there shared asks (leads client (undecided client refl) local.0.undecided
+      (placed root.a (global_there there 0 0 refl ∙ root.register) (record {
+        nodes = dummy.a ∷ [];
+        of_dummy = number_of (word_at w.n dummy.a 0);
+        row = record {
+          apart = λ e. cc e;
+          root = record { role = puts.first; is_of = (register_has there 0 root.register).is_of };
+          chain = (
+            root.also.0 ∙ dummy.register,
+            record { role = puts.second; is_of = is_node },
+            tt,
+            dummy.also,
+          );
+          numbers = ap (λ (l : List ℕ). number_of (word_at w.n dummy.a 0) ∷ l) (sym none.none_left);
+          all = λ a e. elim (shared_two none puts a e) [ inl root ↦ inl root | inr first ↦ inr (inl first) ];
+        };
+        tail = record {
+          a = dummy.a;
+          is = root.also.1 ∙ dummy.register;
+          known = record { shown = subst IsShown (sym puts.second) tt; is_of = is_node };
+        };
+        passed = λ a h other. absurd (none_passed none puts a h.is_of (h.shown, other));
+      })) (rely_founding local.0.none (relies_placed local.0.first local.0.none refl (onward_two root.role dummy.role
+      puts))))
+  -- A job loads the ends,
+  moves (Point.Starting j) there shared local o t asks =
+      by_starting client there shared (done_without j) asks (λ a. refl) local refl refl (none_left j) (λ u' h. h) shared
+  -- which are null or not.
+  moves (Point.Checking (Job.Enqueue m)) there shared local o t asks =
+      by_checking client there shared asks (λ a. refl) (λ a. refl) local refl (λ e. e) (λ h. h)
+  moves (Point.Checking Job.Dequeue) there shared local o t asks =
+      by_checking client there shared asks (λ a. refl) (λ a. refl) local refl (λ e. e) (λ h. h)
+  -- An enqueue creates a node,
+  moves (Point.Making m) there shared local o t asks =
+      by_new client u there shared asks refl (λ a. refl) (undecided client refl) (λ new puts words rely alone.
+      (ends rely (new.others 0 (λ e. omega arith)) local, own_new new puts words refl))
+      (decides_so client Done.Full local.0 refl refl) (λ rely. refl)
+  -- stores its number in it,
+  moves (Point.Filling m) there shared local o t asks =
+      let own = local.1 in
+      by_store_number client u there shared asks own.register refl own.role (λ a. refl) (undecided client refl)
+      (λ stores rely. (
+        ends rely (stores.registers k 0) local.0,
+        own_now (stores.registers k 1) own refl
+            (stores.beside 1 (λ e. omega arith) ∙ own.also, ap number_of stores.here),
+      ))
+  -- loads the tail,
+  moves (Point.Loading m) there shared local o t asks =
+      let root = local.0.1 in
+      by_load client u there shared asks root.register refl (λ a. refl) (undecided client refl) (λ set rely alone. (
+        enqueuing rely (set.others 0 (λ e. omega arith)) (set.others 1 (λ e. omega arith)) alone local,
+        points_stay rely.stays set.here (of_root root shared).tail,
+      ))
+  -- and its link,
+  moves (Point.Following m) there shared local o t asks =
+      let link = may_point_on (of_root local.0.0.1 shared) local.1 in
+      by_load client u there shared asks local.1.is refl (λ a. refl) (undecided client refl) (λ set rely alone. (
+        enqueuing rely (set.others 0 (λ e. omega arith)) (set.others 1 (λ e. omega arith)) alone local.0,
+        points_stay rely.stays (set.others 2 (λ e. omega arith)) local.1,
+        elim link [ inl null ↦ inl (set.here ∙ null) | inr to ↦ inr (points_stay rely.stays set.here to) ],
+      ))
+  -- which is null or not.
+  moves (Point.Testing m) there shared local o t asks =
+      by_null client u there shared asks (λ a. refl) (λ a. refl) (λ null. (
+        undecided client refl,
+        λ rely alone. (enqueuing rely refl refl alone local.0, points_stay rely.stays refl local.1, null),
+      ))
+      (λ some. (
+        undecided client refl,
+        λ rely alone. (
+          enqueuing rely refl refl alone local.0,
+          elim local.2 [ inl null ↦ absurd (some null) | inr to ↦ points_stay rely.stays refl to ],
+        ),
+      ))
+  -- Its link is exchanged for the node, or another caller was first.
+  moves (Point.Linking m) there shared local o t asks =
+      let root = local.0.0.1 in
+      let own = local.0.1 in
+      let old = local.1 in
+      let q = of_root root shared in
+      by_exchange client u there shared asks old.is refl (λ same stores.
+      let null = same ∙ local.2 in
+      let is_of = (register_has there 1 own.register).is_of in
+      let public = last_is_public q old.a old.known null in
+      let puts = puts_one Public own.register (λ a. refl) in
+      let stored = subst (λ (v : Value). Stores old.a 1 v w.n (after_op w.n k (Op.CasPtr 2 1 3 1))) own.register
+      stores in
+      let stays = relies_stored stores (onward_own own.role puts) (λ h final. final null) in
+      let end_word : (i : ℕ) → word_at (after_op w.n k (Op.CasPtr 2 1 3 1)) root.t i ≡ word_at w.n root.t i =
+      λ i. word_of w.n (after_op w.n k (Op.CasPtr 2 1 3 1)) root.t i
+      (stores.others root.t (λ e. not_root q.row old.a old.known.is_of (sym e))) in
+      let rely = rely_at root.global stays (λ a was. inl (end_word 0 ∙ was)) in (
+        public,
+        (λ e. absurd (false≢true e)),
+        leads client (decides_so client Done.Enqueued local.0.0.0 refl
+            (ap (λ (y : ℕ). Some (x ++ y ∷ [])) (sym own.also.1))) (
+              refl,
+              root_stays stays (stores.registers k 0) root,
+              record {
+                a = own.a;
+                is = stores.registers k 1 ∙ own.register;
+                known = record { shown = subst IsShown (sym puts.here) tt; is_of = stores.types own.a ∙ is_of };
+              },
+            )
+            (founded_still root (stores.globals 0) (record {
+              nodes = q.nodes ++ own.a ∷ [];
+              of_dummy = q.of_dummy;
+              row = row_longer q.row (record { role = public; is_of = old.known.is_of }) null own.role is_of own.also.0
+                  stored puts (λ e. omega arith);
+              tail = points_stay stays (end_word 1) q.tail;
+              passed = passed_put stays stores puts (λ other. absurd (other refl)) q.passed;
+            })) rely,
+      )) (λ a. refl) refl (undecided client refl)
+      (λ same rely alone. enqueuing rely (same 0) (same 1) alone local.0)
+  -- The tail is exchanged for that, or was by another caller,
+  moves Point.Swinging there shared local o t asks =
+      let q = of_root local.1 shared in
+      by_exchange client u there shared asks local.1.register refl (λ same stores.
+      let now = tail_moved k local.1.global q stores (λ a. refl) local.2 in (
+        q.row.root.role,
+        (λ e. absurd (false≢true e)),
+        leads client (was_decided client local.0) local.0 (founded_still local.1 (stores.globals 0) now.0) now.1,
+      )) (λ a. refl) refl (was_decided client local.0) (λ same rely alone. local.0)
+  -- or for the link of the one that was the tail.
+  moves (Point.Helping m) there shared local o t asks =
+      let root = local.0.0.1 in
+      let q = of_root root shared in
+      by_exchange client u there shared asks root.register refl (λ same stores.
+      let now = tail_moved k root.global q stores (λ a. refl) local.1 in (
+        q.row.root.role,
+        (λ e. absurd (false≢true e)),
+        leads client (undecided client refl) (enqueuing now.1 (stores.registers k 0) (stores.registers k 1) (λ a e. (
+          e,
+          stores.others a (λ f. (let y : Private k ≡ Public = sym e ∙ ap w.role f ∙ q.row.root.role in cc y)),
+        )) local.0) (founded_still root (stores.globals 0) now.0) now.1,
+      )) (λ a. refl) refl (undecided client refl)
+      (λ same rely alone. enqueuing rely (same 0) (same 1) alone local.0)
+  -- A dequeue loads the head,
+  moves Point.Heading there shared local o t asks =
+      let root = local.1 in
+      elim (points_first (of_root root shared).row) [
+        | inl none ↦ absurd (cc none.1)
+        | inr to ↦ by_load client u there shared asks root.register refl (λ a. refl) (undecided client refl)
+            (λ set rely alone. record {
+              ends = ends rely (set.others 0 (λ e. omega arith)) local;
+              node = points_stay rely.stays set.here to;
+              was = rely.head root.t to.a root.global to.is;
+            })
+      ]
+  -- and its link, which is null where nothing is queued.
+  moves Point.Peeking there shared local o t asks =
+      let q = of_root local.ends.1 shared in
+      elim (may_point_on q local.node) [
+        | inl null ↦ by_load client u there shared asks local.node.is refl (λ a. refl)
+            (decides_so client Done.Empty local.ends.0 refl
+            (subst (λ (l : List ℕ). left_by l Job.Dequeue Done.Empty ≡ Some l) (sym (is_empty local q null)) refl))
+            (λ set rely alone. inl (set.here ∙ null, refl))
+        | inr to ↦ by_load client u there shared asks local.node.is refl (λ a. refl) (undecided client refl)
+            (λ set rely alone. inr (
+              tt,
+              followed rely (set.others 0 (λ e. omega arith)) (set.others 2 (λ e. omega arith))
+                  set.here local refl to,
+            ))
+      ]
+  moves Point.Asking there shared local o t asks =
+      by_null client u there shared asks (λ a. refl) (λ a. refl) (λ null.
+      let e = when_null local (λ h. not_null h.next.a 0 _ h.next.is) null in (was_decided client e, λ rely alone. e))
+      (λ some. let h = when_some local some in
+      (undecided client refl, λ rely alone. next rely refl refl refl h.1))
+  -- The head is exchanged for it, or was by another caller.
+  moves Point.Taking there shared local o t asks =
+      let root = local.head.ends.1 in
+      let old = local.head.node in
+      let q = of_root root shared in
+      by_exchange client u there shared asks root.register refl (λ same stores.
+      let first = first_of q.row (same ∙ old.is) in
+      let public = first.row.chain.1.role in
+      let puts = puts_one (Taken k) old.is (λ a. refl) in
+      let stays = relies_stored stores (onward_taken public puts) (λ h final. not_root q.row _ h.is_of refl) in
+      let row = row_popped stores puts old.known.is_of first (sym local.link) refl in
+      let second = first_of row (stores.here ∙ local.next.is) in
+      let left_is : first.left ≡ x = (let e = first.numbers in cc e) in
+      let old_link = word_of w.n (after_op w.n k (Op.CasPtr 0 0 2 3)) old.a 1
+      (stores.others old.a (not_root q.row old.a old.known.is_of)) in (
+        q.row.root.role,
+        takes_public w k 0 0 2 3 (holds Point.Taking) (holds Point.Freeing) old.is public,
+        leads client (decides_so client _ local.head.ends.0 refl
+            (takes_first x _ second.left (sym left_is ∙ second.numbers))) (
+              record {
+                number = _;
+                word = has_word (points_stay stays (stores.registers k 3) local.next) tt;
+                owes = refl;
+              },
+              points_stay stays (stores.registers k 2) old,
+            )
+            (founded_still root (stores.globals 0) (record {
+              nodes = local.next.a ∷ second.rest;
+              of_dummy = number_of (word_at (after_op w.n k (Op.CasPtr 0 0 2 3)) local.next.a 0);
+              row = subst (HasRow _ 1 0 0 1 0 root.t (local.next.a ∷ second.rest)) second.numbers second.row;
+              tail = points_stay stays (stores.beside 1 (λ e. omega arith)) q.tail;
+              passed = passed_put stays stores puts
+                  (λ other. points_stay stays (old_link ∙ local.link) local.next) q.passed;
+            }))
+            (head_goes_on root.global stays (same ∙ old.is) puts.here),
+      )) (λ a. refl) refl (undecided client refl) (λ same rely alone. ends rely (same 0) local.head.ends)
+  -- The old dummy is freed,
+  moves Point.Freeing there shared local o t asks =
+      by_freeing client u there shared asks local.1.is refl refl (undecided client refl)
+      (λ frees rely. taken rely (frees.registers k 3) local.0)
+  -- and the number of the new one loaded.
+  moves Point.Reading there shared local o t asks =
+      by_load_number client u there shared {to' = Point.Ended (Done.Dequeued 0)} asks local.word.is (λ a. refl)
+      (undecided client refl)
+      (λ rely. local.owes ∙ ap (λ (v : Value). Some (Done.Dequeued (number_of v))) (sym local.word.word))
+  moves _ there shared local o t asks = absurd asks

@@ -1,68 +1,48 @@
 -- What a caller has stays so after an operation on which it may rely.
-use Rattle.mk_laws.proofs.Vocabulary.{Null, Option, Ptr, Value, arith, inl, inr}
-use Rattle.mk_laws.proofs.Vocabulary.{refl, register_at, subst, sym, word_at, ℕ, ◌<◌, ◌∙◌, ◌≡◌, ◌≢◌}
-use Rattle.mk_jobs.specs.Keeping.{IsOf, Waits, World}
-use Rattle.mk_jobs.proofs.{Clients.OwnStays, Heaps.Sets}
+use Rattle.mk_laws.proofs.Vocabulary.{List, Null, Option, Value, arith, get_or, inl, inr, refl, register_at, subst, sym}
+use Rattle.mk_laws.proofs.Vocabulary.{ℕ, ◌∙◌, word_at, ◌≡◌, ◌≢◌}
+use Rattle.mk_jobs.specs.Keeping.{Waits, World}
+use Rattle.mk_jobs.proofs.{Clients.OwnStays}
+use Rattle.mk_jobs.proofs.Having.{HasOwn, IsSame, PointsTo, founder_waits, not_null, own_stays, own_waits, points_stay}
+use Rattle.mk_jobs.proofs.Having.{root_stays, word_stays}
 use Rattle.mk_queue.specs.declared.{jobs.Done.{Done}, points.Point.{Point}}
-use Rattle.mk_queue.proofs.Invariant.{HasEnds, HasFirst, HasHead, HasNext, HasTaken, IsEnqueuing, IsFounder}
-use Rattle.mk_queue.proofs.Invariant.{IsNode, Local, MayPointToNode, PointsToNode, Rely}
-
-pub not_null : (a ty : ℕ) (v : Value) → v ≡ Ptr a ty 0 → v ≢ Null
-not_null a ty v e null = (let x : Ptr a ty 0 ≡ Null = sym e ∙ null in cc x)
-
--- The caller has the same in this register.
-abbrev pub IsSame : World → World → ℕ → ℕ → Type 0
-IsSame w w' k r = register_at w'.n k r ≡ register_at w.n k r
-
-pub points : {w w' : World} {v v' : Value} → ((a : ℕ) → IsNode w a → IsNode w' a) → v' ≡ v → PointsToNode w v
-    → PointsToNode w' v'
-points node same h = grind arith
-
-pub may_point : {w w' : World} {v v' : Value} → ((a : ℕ) → IsNode w a → IsNode w' a) → v' ≡ v → MayPointToNode w v
-    → MayPointToNode w' v'
-may_point node same h = grind (arith, points)
+use Rattle.mk_queue.proofs.Invariant.{HasEnds, HasHead, HasNext, HasTaken, IsEnqueuing, IsFounding, Local, Rely}
 
 module _ {j k : ℕ} {w w' : World} (rely : Rely j w w') where
-  pub ends : IsSame w w' k 0 → HasEnds w k → HasEnds w' k
-  ends same h = grind arith
+  unfoldable pub ends : {u : Option Done} → IsSame w w' k 0 → HasEnds w k u → HasEnds w' k u
+  ends same h = (h.0, root_stays rely.stays same h.1)
 
-  pub head : IsSame w w' k 2 → HasHead w k → HasHead w' k
-  head same h = record {
-    e = h.e;
-    a = h.a;
-    global = rely.ends h.e h.global;
-    register = same ∙ h.register;
-    node = rely.nodes.node h.a h.node;
-    was = elim h.was [ inl is ↦ rely.head h.e h.a h.global is | inr passed ↦ inr (rely.nodes.passed h.a passed) ];
+  pub enqueuing : {Also : List Value → Type 0} {u : Option Done} → IsSame w w' k 0 → IsSame w w' k 1
+      → OwnStays k w w' → IsEnqueuing w k Also u → IsEnqueuing w' k Also u
+  enqueuing same same' alone h = (ends same h.0, own_stays same' alone h.1)
+
+  pub head : {u : Option Done} → IsSame w w' k 0 → IsSame w w' k 2 → HasHead w k u → HasHead w' k u
+  unfolding root_stays points_stay
+  head same same' h = record {
+    ends = (h.ends.0, root_stays rely.stays same h.ends.1);
+    node = points_stay rely.stays same' h.node;
+    was = elim h.was [
+      | inl is ↦ rely.head h.ends.1.t h.node.a h.ends.1.global is
+      | inr passed ↦ inr (rely.stays.passed h.node.a passed)
+    ];
   }
 
   -- The next one, which was loaded or is there still
-  pub followed : {b : ℕ} → IsSame w w' k 2 → register_at w'.n k 3 ≡ Ptr b 0 0 → (h : HasHead w k)
-      → word_at w.n h.a 1 ≡ Ptr b 0 0 → IsNode w b → HasNext w' k
+  pub followed : {u : Option Done} {v : Value} → IsSame w w' k 0 → IsSame w w' k 2 → register_at w'.n k 3 ≡ v
+      → (h : HasHead w k u) → word_at w.n h.node.a 1 ≡ v → PointsTo w 0 v → HasNext w' k u
   unfolding head
-  followed {b} old register h link node = record {
-    head = head old h;
-    b = b;
-    register = register;
-    link = rely.nodes.link h.a h.node (not_null b 0 _ link) ∙ link;
-    node = rely.nodes.node b node;
+  followed same same' register h link to = record {
+    head = head same same' h;
+    link = rely.stays.words h.node.a 1 h.node.known (λ null. not_null to.a 0 _ to.is (sym link ∙ null)) ∙ link
+        ∙ sym register;
+    next = points_stay rely.stays register to;
   }
 
-  pub next : IsSame w w' k 2 → IsSame w w' k 3 → HasNext w k → HasNext w' k
-  next old same h = followed old (same ∙ h.register) h.head h.link h.node
+  pub next : {u : Option Done} → IsSame w w' k 0 → IsSame w w' k 2 → IsSame w w' k 3 → HasNext w k u → HasNext w' k u
+  next same same' same'' h = followed same same' same'' h.head h.link h.next
 
   pub taken : {u : Option Done} → IsSame w w' k 3 → HasTaken w k u → HasTaken w' k u
-  taken same h = grind arith
-
-  pub enqueuing : {m : Option ℕ} {u : Option Done} → IsSame w w' k 0 → IsSame w w' k 1 → OwnStays k w w'
-      → IsEnqueuing w k m u → IsEnqueuing w' k m u
-  enqueuing same same' alone h = grind (arith, ends)
-
-  -- another register was set,
-  pub enqueuing_set : {d : ℕ} {v : Value} {m : Option ℕ} {u : Option Done} → Sets k d v w.n w'.n → 1 < d
-      → OwnStays k w w' → IsEnqueuing w k m u → IsEnqueuing w' k m u
-  enqueuing_set set above alone h =
-      enqueuing (set.others 0 (λ e. omega arith)) (set.others 1 (λ e. omega arith)) alone h
+  taken same h = record { number = h.number; word = word_stays rely.stays same refl h.word; owes = h.owes }
 
 -- Another caller leaves it what it has.
 module _ {j k : ℕ} {w w' : World} (other : j ≢ k) (waits : Waits k w w') (rely : Rely j w w') where
@@ -79,30 +59,44 @@ module _ {j k : ℕ} {w w' : World} (other : j ≢ k) (waits : Waits k w w') (re
   same_3 = waits.registers 3 (omega arith)
 
   alone : OwnStays k w w'
-  alone a e = let kept = waits.own a (subst (IsOf k) (sym e) refl) in (kept.0 ∙ e, kept.1)
+  alone = own_waits waits
 
-  founder : IsFounder w k → IsFounder w' k
-  founder h = (h.0, rely.founder (λ e. other (e ∙ sym h.0)) ∙ h.1)
+  founding : (Ends : Value → List Value → Type 0) {u : Option Done} → IsFounding w k u Ends → IsFounding w' k u Ends
+  founding Ends h = (
+    founder_waits rely.stays other h.0,
+    subst (λ (v : Value). HasOwn w' k 0 1 (Ends v)) (sym same_1) (own_stays same_0 alone h.1),
+    own_stays same_1 alone h.2,
+  )
 
-  first : {i : ℕ} → HasFirst w k i → HasFirst w' k i
-  first h = grind (arith, founder, alone, same_0, same_1)
-
-  to_node : {v v' : Value} → v' ≡ v → PointsToNode w v → PointsToNode w' v'
-  to_node e h = points rely.nodes.node e h
-
-  has_next : HasNext w k → HasNext w' k
-  has_next h = next rely same_2 same_3 h
-
-  ruleset stays_facts = (founder, first, enqueuing, ends, head, taken, to_node, alone, same_0, same_1, same_2, same_3)
+  open_still : {Also : List Value → Type 0} {u : Option Done} → IsEnqueuing w k Also u → IsEnqueuing w' k Also u
+  open_still h = enqueuing rely same_0 same_1 alone h
 
   pub stays : (s : Point) (u : Option Done) → Local w k s u → Local w' k s u
-  stays Point.Founding u h = (h.0, founder h.1)
-  stays Point.Asking u h = (
-    ends rely same_0 h.0,
-    elim h.1 [
-      | inl none ↦ inl (same_3 ∙ none.0, none.1)
-      | inr has ↦ inr (has.0, has_next has.1)
-    ],
+  stays Point.Founding u h = founder_waits rely.stays other h
+  stays Point.Grounding u h = (founder_waits rely.stays other h.0, own_stays same_0 alone h.1)
+  stays Point.Dropping u h = (founder_waits rely.stays other h.0, own_stays same_0 alone h.1)
+  stays Point.FirstHead u h = founding (λ v ws. Unit {0}) h
+  stays Point.FirstTail u h = founding (λ v ws. get_or ws 0 Null ≡ v) h
+  stays Point.Placing u h = founding (λ v ws. (get_or ws 0 Null ≡ v) × (get_or ws 1 Null ≡ v)) h
+  stays (Point.Checking j) u h =
+      elim h [ inl none ↦ inl (same_0 ∙ none.0, none.1) | inr has ↦ inr (ends rely same_0 has) ]
+  stays (Point.Making m) u h = ends rely same_0 h
+  stays (Point.Filling m) u h = open_still h
+  stays (Point.Loading m) u h = open_still h
+  stays (Point.Following m) u h = (open_still h.0, points_stay rely.stays same_2 h.1)
+  stays (Point.Testing m) u h = (
+    open_still h.0,
+    points_stay rely.stays same_2 h.1,
+    elim h.2 [ inl null ↦ inl (same_3 ∙ null) | inr to ↦ inr (points_stay rely.stays same_3 to) ],
   )
-  stays Point.Taking u h = (h.0, ends rely same_0 h.1, has_next h.2)
-  stays _ u h = grind (arith, stays_facts)
+  stays (Point.Linking m) u h = (open_still h.0, points_stay rely.stays same_2 h.1, same_3 ∙ h.2)
+  stays Point.Swinging u h = (h.0, root_stays rely.stays same_0 h.1, points_stay rely.stays same_1 h.2)
+  stays (Point.Helping m) u h = (open_still h.0, points_stay rely.stays same_3 h.1)
+  stays Point.Heading u h = ends rely same_0 h
+  stays Point.Peeking u h = head rely same_0 same_2 h
+  stays Point.Asking u h =
+      elim h [ inl none ↦ inl (same_3 ∙ none.0, none.1) | inr has ↦ inr (tt, next rely same_0 same_2 same_3 has.1) ]
+  stays Point.Taking u h = next rely same_0 same_2 same_3 h
+  stays Point.Freeing u h = (taken rely same_3 h.0, points_stay rely.stays same_2 h.1)
+  stays Point.Reading u h = taken rely same_3 h
+  stays _ u h = h

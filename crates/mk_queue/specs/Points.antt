@@ -7,16 +7,6 @@ use Rattle.mk_jobs.specs.declared.steps.Step.{Step}
 use Rattle.mk_queue.specs.declared.{jobs.Job.{Job}, jobs.Done.{Done}, points.Point.{Point}}
 use Rattle.mk_queue.specs.declared.points.Point.TheVariants as at
 
--- what a job ends with where there is no queue
-abbrev pub done_without : Job → Done
-done_without (Job.Enqueue n) = Done.Full
-done_without Job.Dequeue = Done.Empty
-
--- where a job goes on that has found the ends
-abbrev pub with_ends : Job → Point
-with_ends (Job.Enqueue n) = at.Making n
-with_ends Job.Dequeue = at.Heading
-
 -- the operation of each point, and where its answers lead
 abbrev pub step_of : Point → Step Point Done
 step_of at.Founding = Step.New 0 1 at.Grounding at.Founded
@@ -27,7 +17,8 @@ step_of at.FirstTail = Step.SetPtr 0 1 1 at.Placing
 step_of at.Placing = Step.SetGlobal 0 0 at.Founded
 step_of at.Founded = Step.End Done.Empty
 step_of (at.Starting j) = Step.GetGlobal 0 0 (at.Checking j)
-step_of (at.Checking j) = Step.IsNull 0 (at.Ended (done_without j)) (with_ends j)
+step_of (at.Checking (Job.Enqueue n)) = Step.IsNull 0 (at.Ended Done.Full) (at.Making n)
+step_of (at.Checking Job.Dequeue) = Step.IsNull 0 (at.Ended Done.Empty) at.Heading
 step_of (at.Making n) = Step.New 1 0 (at.Filling n) (at.Ended Done.Full)
 step_of (at.Filling n) = Step.SetNum 1 0 n (at.Loading n)
 step_of (at.Loading n) = Step.GetPtr 2 0 1 (at.Following n)

@@ -1,5 +1,7 @@
 -- A plain queue of numbers: what a job leaves of it, and what it is that a heap has one.
-use Rattle.std.specs.Prelude.{◌≡◌, ◌⊎◌, ◌==◌, ℕ, List, [], ◌∷◌, ◌++◌, Option, Some, None, if◌then◌else◌}
+use Rattle.std.specs.Prelude.{◌≡◌, ◌⊎◌, ◌==◌, ℕ, List, [], ◌∷◌, ◌++◌, Option, Some, None, Result, Ok, Err}
+use Rattle.std.specs.Prelude.{if◌then◌else◌}
+use Rattle.mk_jobs.specs.declared.linked.Full.{Full}
 use Rattle.mk_never.specs.{declared.values.Value.TheVariants.{Null, Ptr}, NeverHeap.{NeverState, global_at, word_at}}
 use Rattle.mk_jobs.specs.Linked.{AreLinked, numbers_in}
 use Rattle.mk_queue.specs.declared.jobs.{Job.{Job}, Done.{Done}}
@@ -12,6 +14,11 @@ left_by xs (Job.Enqueue n) _ = None
 left_by [] Job.Dequeue Done.Empty = Some []
 left_by (x ∷ xs) Job.Dequeue (Done.Dequeued n) = if x == n then Some xs else None
 left_by _ Job.Dequeue _ = None
+
+-- what became of an enqueue
+abbrev pub enqueued : Result (Unit {0}) Full → Done
+enqueued (Ok x) = Done.Enqueued
+enqueued (Err x) = Done.Full
 
 -- what became of a dequeue
 abbrev pub dequeued : Option ℕ → Done

@@ -9,19 +9,19 @@
 //!
 //! A caller that is stopped with an old dummy in a register keeps that node, and by the links all that were enqueued
 //! since, from being released. So an enqueue may be Full while few numbers are queued.
-ghost use Rattle.std.specs.Prelude.{◌≡◌, ℕ, List, []};
+ghost use Rattle.std.specs.Prelude.{ℕ, List, []};
 ghost use Rattle.mk_never.specs.NeverHeap.{NeverState};
-ghost use Rattle.mk_queue.specs.Points.{done_without, queue_is_typed, queue_plan, with_ends};
-ghost use Rattle.mk_queue.specs.Queue.{HasNumbers, left_by};
+ghost use Rattle.mk_queue.specs.{Points.{queue_is_typed, queue_plan}, Queue.{HasNumbers, left_by}};
 
 use crate::jobs::{Done, Job};
 use crate::points::Point;
 use mk_core::GlobalTable;
 use mk_jobs::{
-    Linearizable, Object, Step, exchange, free, if_null, load, load_global, load_number, new,
-    store, store_global, store_number,
+    LINK, Linearizable, NODE_TYPE, NUMBER, Object, ROOT_TYPE, Step, exchange, free, if_null,
+    linked_types, load, load_global, load_number, new, root_global, store, store_global,
+    store_number, to_node,
 };
-use mk_never::{Kind, NoMemory, TypeTable};
+use mk_never::{NoMemory, TypeTable};
 use std::alloc::Global;
 
 /// The register that points to the ends, to the node that is enqueued, to the head or tail that was loaded, and to what
@@ -37,38 +37,10 @@ const NEXT: u8 = 3;
 /// The global that points to the ends
 const QUEUE: u8 = 0;
 
-/// A node has a number and a link; the ends are the head and the tail.
-const NODE_TYPE: u64 = 0;
-
-const ENDS_TYPE: u64 = 1;
-
-const NUMBER: u64 = 0;
-
-const LINK: u64 = 1;
-
+/// The words of the ends
 const HEAD: u64 = 0;
 
 const TAIL: u64 = 1;
-
-/// What a job ends with where there is no queue.
-fn done_without(job: Job) -> Done
-    ensures { result ≡ done_without job }
-{
-    match job {
-        Job::Enqueue(_) => Done::Full,
-        Job::Dequeue => Done::Empty,
-    }
-}
-
-/// Where a job goes on that has found the ends.
-fn with_ends(job: Job) -> Point
-    ensures { result ≡ with_ends job }
-{
-    match job {
-        Job::Enqueue(n) => Point::Making(n),
-        Job::Dequeue => Point::Heading,
-    }
-}
 
 /// A queue of numbers.
 pub struct Queue;
@@ -91,23 +63,11 @@ impl Object for Queue {
     ghost content = { HasNumbers };
 
     fn types(alloc: Global) -> Result<TypeTable, NoMemory> {
-        let link = Kind::To { ty: 0, offset: 0 };
-        let mut node = Vec::new(alloc);
-        node.push(Kind::Num)?;
-        node.push(link)?;
-        let mut ends = Vec::new(alloc);
-        ends.push(link)?;
-        ends.push(link)?;
-        let mut types = TypeTable::new(alloc);
-        types.add(node)?;
-        types.add(ends)?;
-        Ok(types)
+        linked_types(alloc, vec![in alloc; to_node(), to_node()]?)
     }
 
     fn globals(alloc: Global) -> Result<GlobalTable, NoMemory> {
-        let mut globals = GlobalTable::new(alloc);
-        globals.add(ENDS_TYPE)?;
-        Ok(globals)
+        root_global(alloc)
     }
 
     fn registers() -> u8 {
@@ -125,14 +85,16 @@ impl Object for Queue {
     fn step(point: Point) -> Step<Point, Done> {
         use Point::*;
         match point {
-            Founding => new(ENDS, ENDS_TYPE, Grounding, Founded),
+            Founding => new(ENDS, ROOT_TYPE, Grounding, Founded),
             Grounding => new(NODE, NODE_TYPE, FirstHead, Dropping),
             Dropping => free(ENDS, Founded),
             FirstHead => store(ENDS, HEAD, NODE, FirstTail),
             FirstTail => store(ENDS, TAIL, NODE, Placing),
             Placing => store_global(QUEUE, ENDS, Founded),
+            Founded => Step::End(Done::Empty),
             Starting(job) => load_global(ENDS, QUEUE, Checking(job)),
-            Checking(job) => if_null(ENDS, Ended(done_without(job)), with_ends(job)),
+            Checking(Job::Enqueue(n)) => if_null(ENDS, Ended(Done::Full), Making(n)),
+            Checking(Job::Dequeue) => if_null(ENDS, Ended(Done::Empty), Heading),
 
             Making(n) => new(NODE, NODE_TYPE, Filling(n), Ended(Done::Full)),
             Filling(n) => store_number(NODE, NUMBER, n, Loading(n)),
@@ -152,7 +114,6 @@ impl Object for Queue {
             Taking => exchange(ENDS, HEAD, OLD, NEXT, Freeing, Heading),
             Freeing => free(OLD, Reading),
             Reading => load_number(NEXT, NUMBER, Ended(Done::Dequeued(0))),
-            Founded => Step::End(Done::Empty),
             Ended(done) => Step::End(done),
         }
     }

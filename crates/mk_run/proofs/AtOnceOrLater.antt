@@ -5,7 +5,8 @@ use Rattle.mk_heap.{proofs.Dispatched.{beside_keeps, put_off_keeps, put_off_then
 
 -- The caller is told this of an operation, at once or later, and the pass keeps to what its engine does.
 pub record IsAnsweredAs {V : Type 0} (on sweeps : Bool) (begins : Config → Seat → List Event → List Event → Type 0)
-    (tells : V → Config → World → Type 0) (closes : V → PassState → PassState → Type 0) (p : PassState) (o : Op) (told : Answer) (q : CallerState) : Type 0 where
+    (tells : V → Config → World → Type 0) (closes : V → PassState → PassState → Type 0) (p : PassState) (o : Op)
+    (told : Answer) (q : CallerState) : Type 0 where
   pub home : q.home ≡ true
   pub answers : Answers on p o told q.pass
   pub keeps : PassKeeps on sweeps begins tells closes p q.pass

@@ -39,7 +39,8 @@ module _ {V : Type 0} {on sweeps : Bool} {begins : Config → Seat → List Even
 
   -- after more that its pass has seen, and after events of others
 
-  seat_on : (p q : PassState) → PassKeeps on sweeps begins tells closes p q → SeatKeeps on sweeps begins tells closes p.table.config p.seat p.seen
+  seat_on : (p q : PassState) → PassKeeps on sweeps begins tells closes p q
+      → SeatKeeps on sweeps begins tells closes p.table.config p.seat p.seen
       → SeatKeeps on sweeps begins tells closes p.table.config p.seat q.seen
   seat_on p q more before = record {
     unswept = λ off. seat_sweeps_on p q (more.reached off) (before.unswept off);
@@ -74,14 +75,17 @@ module _ {V : Type 0} {on sweeps : Bool} {begins : Config → Seat → List Even
   script_keeps s q r at is more same = grind (arith, first_keeps, seat_on)
 
   -- The host goes on.
-  pub host_on : (w : WordsState) {p q : PassState} → p.table ≡ w → p.seat ≡ Host → PassKeeps on sweeps begins tells closes p q
-      → SeatKeeps on sweeps begins tells closes w.config Host p.seen → SeatKeeps on sweeps begins tells closes w.config Host q.seen
+  pub host_on : (w : WordsState) {p q : PassState} → p.table ≡ w → p.seat ≡ Host
+      → PassKeeps on sweeps begins tells closes p q
+      → SeatKeeps on sweeps begins tells closes w.config Host p.seen
+      → SeatKeeps on sweeps begins tells closes w.config Host q.seen
   host_on w table seat more before = grind (arith, seat_on)
 
   -- The callers are still.
   pub scripts_on : {program : List Item} {k : ℕ} {c : Config} {es : List Event} (fs : List Event)
       → ((j : ℕ) → k ≤ j → IsScript program j → Grows (Caller j ∷ []) es fs)
-      → ScriptsKeep on sweeps begins tells closes program k c es → ScriptsKeep on sweeps begins tells closes program k c fs
+      → ScriptsKeep on sweeps begins tells closes program k c es
+      → ScriptsKeep on sweeps begins tells closes program k c fs
   scripts_on {c} {es} fs still before = record {
     callers = λ j le is. others_on c (Caller j) (Caller j ∷ []) es fs (has_first (Caller j) []) (still j le is)
         (before.callers j le is);
@@ -90,7 +94,8 @@ module _ {V : Type 0} {on sweeps : Bool} {begins : Config → Seat → List Even
   -- One more is joined.
   pub script_joined : {program : List Item} {k : ℕ} {c : Config} {seats : List Seat} {es fs : List Event}
       → seats ≡ Caller k ∷ [] → Grows seats es fs → SeatKeeps on sweeps begins tells closes c (Caller k) es
-      → ScriptsKeep on sweeps begins tells closes program (k + 1) c fs → ScriptsKeep on sweeps begins tells closes program k c fs
+      → ScriptsKeep on sweeps begins tells closes program (k + 1) c fs
+      → ScriptsKeep on sweeps begins tells closes program k c fs
   script_joined {k} {c} {es} {fs} alone came mine others = record {
     callers = λ j le is. ⊎_elim (λ (same : j ≡ k). rw same (others_on c (Caller k) (Caller k ∷ []) es fs
         (has_first (Caller k) []) (subst (λ (l : List Seat). Grows l es fs) alone came) mine))
@@ -133,7 +138,9 @@ module _ {V : Type 0} {W : Type 0} {on sweeps : Bool} {begins : Config → Seat 
     {host_begins : Config → Seat → List Event → List Event → Type 0} {host_tells : W → Config → World → Type 0}
     {host_closes : W → PassState → PassState → Type 0} (program : List Item) (markers : ℕ)
     {w d : Config} {es seen : List Event} (made : w ≡ config_of program markers) (same : d ≡ w) (is : es ≡ seen)
-    (whole : IsWhole d es) (keep : RunKeeps on sweeps begins tells closes host_on host_sweeps host_begins host_tells host_closes program w seen) where
+    (whole : IsWhole d es)
+    (keep : RunKeeps on sweeps begins tells closes host_on host_sweeps host_begins host_tells host_closes program w
+    seen) where
   abbrev c : Config
   c = config_of program markers
 
@@ -142,7 +149,8 @@ module _ {V : Type 0} {W : Type 0} {on sweeps : Bool} {begins : Config → Seat 
 
   keeps : RunKeeps on sweeps begins tells closes host_on host_sweeps host_begins host_tells host_closes program c es
   keeps =
-      rw is (subst (λ (x : Config). RunKeeps on sweeps begins tells closes host_on host_sweeps host_begins host_tells host_closes program x seen) made keep)
+      rw is (subst (λ (x : Config). RunKeeps on sweeps begins tells closes host_on host_sweeps host_begins host_tells
+      host_closes program x seen) made keep)
 
   pub run_is_begun : CyclesAreBegun (by_seat begins host_begins) c es
   run_is_begun b = let at = open_to_its_seat b history in by b.event.seat at.0 at.1 refl
@@ -180,7 +188,8 @@ module _ {V : Type 0} {W : Type 0} {on sweeps : Bool} {begins : Config → Seat 
       by : (s : Seat) → seat_exists c s ≡ true → is_open_to s (group_of k.event.step) ≡ true → k.event.seat ≡ s
           → IsSaid tells c (left c k.before) ⊎ IsSaid host_tells c (left c k.before)
       by (Caller j) exists may of_seat =
-          inl ((keeps.scripts.callers j (omega arith) (ltb-true j (length (script_names program)) exists)).said k of_seat)
+          let script = keeps.scripts.callers j (omega arith) (ltb-true j (length (script_names program)) exists) in
+          inl (script.said k of_seat)
       by (Marker j) exists may of_seat = absurd (true≢false (sym k.of_kind ∙ (grind arith)))
       by Host exists may of_seat = inr (keeps.host.said k of_seat)
 

@@ -15,7 +15,8 @@ use Rattle.mk_why.proofs.Below.Sweeps.{BesideTurn.unmade_markers, SweepCycles.{c
 use Rattle.mk_why.proofs.Below.Sweeps.SweepParts.{NoneOfMarkers, SweepParts, SweepsThenLooks, none_of_all, parts}
 use Rattle.mk_why.specs.{Below.Sweeps.Swept.IsSwept, Below.Sweeps.Sweeps.Sweeps, Stops.{IsClosedBefore, View, is_look}}
 use Rattle.mk_why.specs.Below.Sweeps.Swept.{SweptAreMarked}
-use Rattle.mk_run.{proofs.SaidRuns.said_is_swept, specs.Said.{CyclesAreFinished, CyclesAreSaid, CyclesReleaseTheUnswept}}
+use Rattle.mk_run.proofs.SaidRuns.{said_is_swept}
+use Rattle.mk_run.specs.Said.{CyclesAreFinished, CyclesAreSaid, CyclesReleaseTheUnswept}
 use Rattle.mk_run.specs.Said.{CyclesSweep}
 
 -- Where a seat only holds gates until it wants the close, an engine that begins to mark only holds gates.

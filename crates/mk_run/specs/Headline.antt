@@ -59,7 +59,8 @@ pub record StandsInOneHistory (program : List Item) (markers : ℕ) (sweep last_
   pub over : has_over history ≡ true
   -- Unless a sweep makes the marks, none of them is a sweeping one.
   pub unswept : sweep ≡ false → IsUnswept (config_of program markers) history
-  -- If sweeps make the marks, each cycle marks whatever is swept, reached or not, and releases all else of its snapshot.
+  -- If sweeps make the marks, each cycle marks whatever is swept, reached or not, and releases all else of its
+  -- snapshot.
   pub swept : sweep ≡ true → CyclesSweep (config_of program markers) history
 
 -- What follows of it, by laws.

@@ -1,7 +1,7 @@
--- What an engine keeps to, in the steps of a seat: where it doesn't sweep it makes no sweeping mark, after each `begin` it
--- does its part, at each `close` it says of the world what engines of its type say, and where it doesn't keep on it
--- finishes each cycle at once. Up to the whole run, in which the scripts have engines of one kind and the host one of
--- another. Private functions alone cite these words.
+-- What an engine keeps to, in the steps of a seat. If it doesn't sweep it makes no sweeping mark; after each `begin` it
+-- does its part; at each `close` it says of the world what engines of its type say; if it doesn't keep on it finishes
+-- each cycle at once. Up to the whole run, in which the scripts have engines of one kind and the host one of another.
+-- Only private functions cite these words.
 use Rattle.std.specs.Prelude.{◌≡◌, ◌≤◌, ℕ, Bool, false, List, []}
 use Rattle.mk_core.specs.{declared.config.Config.Config, declared.events.Event.Event, declared.events.Seat.Seat}
 use Rattle.mk_core.specs.declared.events.Seat.TheVariants.{Caller, Host}

@@ -7,13 +7,13 @@ use Rattle.mk_laws.specs.Precision.{through_release}
 use Rattle.mk_heap.specs.Below.{Objects.Closes.{IsFinishedAtOnce, IsSaid}, Words.States.PassState}
 use Rattle.mk_why.specs.{Below.Sweeps.Swept.{IsSwept, SweptAreMarked}, Stops.{IsClosedBefore, IsToldBefore}}
 
--- At each close an engine of the scripts says it, or one of the host. Private functions alone cite this.
+-- At each close an engine of the scripts says it, or one of the host. Only private functions cite this.
 abbrev pub ClosesAreSaid : {V : Type 0} {W : Type 0} → (V → Config → World → Type 0) → (W → Config → World → Type 0)
     → Config → List Event → Type 0
 ClosesAreSaid tells host_tells c es =
     (k : At is_close es) → IsSaid tells c (left c k.before) ⊎ IsSaid host_tells c (left c k.before)
 
--- Each cycle is finished at once, by an engine of the scripts or one of the host. Private functions alone cite this.
+-- Each cycle is finished at once, by an engine of the scripts or one of the host. Only private functions cite this.
 abbrev pub BeginsAreFinished : {V : Type 0} {W : Type 0} → (V → PassState → PassState → Type 0)
     → (W → PassState → PassState → Type 0) → Config → List Event → Type 0
 BeginsAreFinished closes host_closes c es =
@@ -45,8 +45,8 @@ CyclesReleaseTheUnswept c es =
 
 -- What the cycles of a run do whose marks sweeps make.
 pub record CyclesSweep (c : Config) (es : List Event) : Type 0 where
-  -- At its `close` each unreleased allocation is marked into which a register points, or a global, or a word of a mapped
-  -- allocation that isn't leaf, whether that allocation is reached or not.
+  -- At its `close` each unreleased allocation is marked into which a register points, or a global, or a word of a
+  -- mapped allocation that isn't leaf, whether that allocation is reached or not.
   pub marks : CyclesMarkTheSwept c es
   -- No other allocation of its snapshot is kept.
   pub releases : CyclesReleaseTheUnswept c es

@@ -48,7 +48,8 @@ fn run_alone<E: Engine, P: Pace, R: Threads + Wait + Sync>(
     requires pass { IsFirstPass run.now.heap.now k pass }
     requires ready { IsReadyScript E.made_for run.now.program.now run.now.heap.now.config.pages k ready }
     ensures ran { HasRun E.on run.now.program.now run.now.heap.now k result }
-    ensures keeps { SeatKeeps E.on E.sweeps E.begins E.tells E.closes run.now.heap.now.config (seat.Caller k) result.pass.seen }
+    ensures keeps { SeatKeeps E.on E.sweeps E.begins E.tells E.closes run.now.heap.now.config (seat.Caller k)
+        result.pass.seen }
 {
     let mut caller = Caller::new(run.heap.words(), pass);
     let text = run_script(rt, run.alloc, &mut caller, ready, run.program, k, pace);
@@ -90,8 +91,8 @@ pub(crate) fn run_from<E: Engine + Send, P: Pace + Sync, R: Threads + Wait + Syn
             requires pass { IsFirstPass run.now.heap.now k pass }
             requires ready { IsReadyScript E.made_for run.now.program.now run.now.heap.now.config.pages k ready }
             ensures ran { HasRun E.on run.entry.now.program.now run.entry.now.heap.now k result }
-            ensures keeps { SeatKeeps E.on E.sweeps E.begins E.tells E.closes run.entry.now.heap.now.config (seat.Caller k)
-                result.pass.seen }
+            ensures keeps { SeatKeeps E.on E.sweeps E.begins E.tells E.closes run.entry.now.heap.now.config
+                (seat.Caller k) result.pass.seen }
         { run_alone(rt, run, pace, k, pass, ready) },
         move || -> Joined
             requires shared { IsSync R.row × IsSync P.row × IsSend E.row }

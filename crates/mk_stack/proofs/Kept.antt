@@ -1,15 +1,12 @@
 -- The stack is always explained: what its operations keep.
-use Rattle.mk_laws.proofs.Vocabulary.{List, None, Option, Some, ap, inl, inr, refl, word_at, ℕ, [], ◌∙◌, ◌∷◌, ◌≡◌}
-use Rattle.mk_laws.proofs.Vocabulary.{◌⊎◌}
-use Rattle.mk_jobs.specs.{Keeping.{Keeps, Public, World}, Laws.IsOneOf}
-use Rattle.mk_jobs.proofs.{Chains.{linked, part_of}}
-use Rattle.mk_jobs.specs.{Laws.IsAlwaysExplained, declared.steps.Step.{Step}}
-use Rattle.mk_jobs.proofs.Explained.{explained}
+use Rattle.mk_laws.proofs.Vocabulary.{List, None, Option, Some, inl, inr, refl, word_at, ℕ, [], ◌∙◌, ◌∷◌, ◌≡◌}
+use Rattle.mk_jobs.specs.{Keeping.{Keeps, Public, World}, Laws.{IsAlwaysExplained, IsOneOf}}
+use Rattle.mk_jobs.specs.declared.steps.Step.{Step}
+use Rattle.mk_jobs.proofs.{Chains.linked, Explained.explained, Roots.unshared, Rows.part_role}
 use Rattle.mk_stack.specs.{Points.{stack_is_typed, stack_plan, step_of}, Stack.{HasNumbers, left_by}}
 use Rattle.mk_stack.specs.declared.{jobs.{Done.{Done}, Job.{Job}}, points.Point.{Point}}
 use Rattle.mk_stack.proofs.Invariant.{Local, Rely, Shared, job_at}
-use Rattle.mk_stack.proofs.Moving.{moves}
-use Rattle.mk_stack.proofs.Staying.{covered, stays}
+use Rattle.mk_stack.proofs.{Moving.moves, Staying.{covered, stays}}
 
 ends : (w : World) (k : ℕ) (s : Point) (u : Option Done) (d : Done) (j : Job) → Local w k s u → step_of s ≡ Step.End d
     → (u ≡ None → job_at s ≡ Some j) → u ≡ Some d
@@ -24,33 +21,30 @@ contains : (w : World) (x : List ℕ) → Shared w x → (parts : List ℕ) × H
 contains w x (inl none) =
     ([], inl (none.global, refl, none.none_left), (λ a e. absurd (none.none_shared a e)), (λ a one. absurd one))
 contains w x (inr q) = (
-  q.t ∷ q.nodes,
+  q.t ∷ q.is.nodes,
   inr (record {
     top = q.t;
-    nodes = q.nodes;
+    nodes = q.is.nodes;
     global = q.global;
-    linked = linked w 0 1 (word_at w.n q.t 0) q.nodes q.chain;
+    linked = linked w 0 1 (word_at w.n q.t 0) q.is.nodes q.is.row.chain;
     are_parts = refl;
-    numbers = q.numbers;
+    numbers = q.is.row.numbers;
   }),
-  (λ a e. q.all a e),
-  (λ a one. elim one [
-    | inl e ↦ ap w.role e ∙ q.top.role
-    | inr on ↦ (part_of w 0 1 (word_at w.n q.t 0) q.nodes q.chain on).role
-  ]),
+  q.is.row.all,
+  part_role q.is.row,
 )
 
 pub stack_keeps : Keeps stack_plan left_by [] HasNumbers Shared Local Rely job_at
 stack_keeps = record {
   founding = λ callers. (
-    inl (record { global = refl; none_left = refl; none_shared = λ a e. cc e }),
+    unshared stack_plan.types callers,
     record { undecided = refl; first = refl; none = refl },
     refl,
   );
   begins = λ w k j. (refl, refl);
   ends = ends;
   waits = λ callers j k s u w w' other there waits rely local. stays other waits rely s u local;
-  covers = λ j x w w' covers shared. covered covers x j shared;
+  covers = λ j x w w' covers shared. covered x j covers shared;
   moves = λ callers w k s u x. moves s;
   contains = contains;
 }

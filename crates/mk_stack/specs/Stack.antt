@@ -1,5 +1,7 @@
 -- A plain stack of numbers: what a job leaves of it, and what it is that a heap has one.
-use Rattle.std.specs.Prelude.{◌≡◌, ◌⊎◌, ◌==◌, ℕ, List, [], ◌∷◌, Option, Some, None, if◌then◌else◌}
+use Rattle.std.specs.Prelude.{◌≡◌, ◌⊎◌, ◌==◌, ℕ, List, [], ◌∷◌, Option, Some, None, Result, Ok, Err}
+use Rattle.std.specs.Prelude.{if◌then◌else◌}
+use Rattle.mk_jobs.specs.declared.linked.Full.{Full}
 use Rattle.mk_never.specs.{declared.values.Value.TheVariants.{Null, Ptr}, NeverHeap.{NeverState, global_at, word_at}}
 use Rattle.mk_core.specs.declared.config.Config.{Config}
 use Rattle.mk_jobs.specs.{Linked.{AreLinked, numbers_in}, Runs.object_config}
@@ -30,6 +32,11 @@ HasNumbers n parts xs = ((global_at n 0 ≡ Null) × (parts ≡ []) × (xs ≡ [
 -- the heap of a stack
 abbrev pub stack_config : ℕ → ℕ → ℕ → ℕ → Config
 stack_config = object_config stack_plan
+
+-- what became of a push
+abbrev pub pushed : Result (Unit {0}) Full → Done
+pushed (Ok x) = Done.Pushed
+pushed (Err x) = Done.Full
 
 -- what became of a pop
 abbrev pub popped : Option ℕ → Done

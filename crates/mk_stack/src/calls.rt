@@ -1,20 +1,20 @@
-//! A push and a pop, by a caller of a heap that is made for a stack.
-ghost use Rattle.std.specs.Prelude.{◌≡◌, OnErr, OnOk};
-ghost use Rattle.mk_heap.specs.Below.Objects.Laws.{OwnAreExact};
-ghost use Rattle.mk_jobs.specs.Passes.{DoesJob, IsReady, KeepsNothing};
-ghost use Rattle.mk_stack.specs.{Points.stack_plan, Stack.popped};
+//! A push and a pop by a caller of a stack, and a stack from first to last, with callers on threads of their own.
+ghost use Rattle.std.specs.Prelude.{◌≤◌, [], length, IfOk};
+ghost use Rattle.mk_core.specs.Config.{IsBetween};
+ghost use Rattle.mk_heap.specs.Reports.{history_of};
+ghost use Rattle.mk_jobs.specs.{Passes.{HasDone, IsReady}, Runs.{AreExplainedJobs, IsRun}};
+ghost use Rattle.mk_stack.specs.{Points.stack_plan, Stack.{HasNumbers, left_by, popped, pushed, stack_config}};
 
 use crate::jobs::{Done, Job};
 use crate::stacks::Stack;
+use mk_heap::Pace;
 use mk_heap::lower::callers::Caller;
 use mk_heap::lower::cycles::Engine;
-use mk_jobs::do_job;
+use mk_jobs::{Full, Outcome, do_job, run};
+use mk_never::NoMemory;
+use std::alloc::Global;
 use std::sync::Wait;
 use std::thread::Threads;
-
-/// There was no room for the node, and the stack is as it was.
-#[derive(Clone, Copy, Debug, PartialEq, Eq)]
-pub struct Full;
 
 /// Puts a number on the stack.
 pub fn push<E: Engine, R: Threads + Wait + Sync>(
@@ -24,11 +24,7 @@ pub fn push<E: Engine, R: Threads + Wait + Sync>(
     n: u64,
 ) -> Result<(), Full>
     requires ready { IsReady stack_plan E.made_for caller.old engine.old }
-    ensures ready { IsReady stack_plan E.made_for caller.new engine.new }
-    ensures pushed { OnOk result (DoesJob stack_plan caller.old.pass (Job.Push n) Done.Pushed caller.new.pass) }
-    ensures full { OnErr result (DoesJob stack_plan caller.old.pass (Job.Push n) Done.Full caller.new.pass) }
-    ensures keeps { KeepsNothing stack_plan caller.new.pass }
-    ensures exact { OwnAreExact E.on caller.old.pass → OwnAreExact E.on caller.new.pass }
+    ensures { HasDone stack_plan E.made_for E.on caller.old (Job.Push n) (pushed result) caller.new engine.new }
 {
     match do_job::<Stack, E, R>(rt, caller, engine, Job::Push(n)) {
         Done::Pushed => Ok(()),
@@ -43,13 +39,45 @@ pub fn pop<E: Engine, R: Threads + Wait + Sync>(
     engine: &mut E,
 ) -> Option<u64>
     requires ready { IsReady stack_plan E.made_for caller.old engine.old }
-    ensures ready { IsReady stack_plan E.made_for caller.new engine.new }
-    ensures does { DoesJob stack_plan caller.old.pass Job.Pop (popped result) caller.new.pass }
-    ensures keeps { KeepsNothing stack_plan caller.new.pass }
-    ensures exact { OwnAreExact E.on caller.old.pass → OwnAreExact E.on caller.new.pass }
+    ensures { HasDone stack_plan E.made_for E.on caller.old Job.Pop (popped result) caller.new engine.new }
 {
     match do_job::<Stack, E, R>(rt, caller, engine, Job::Pop) {
         Done::Popped(n) => Some(n),
         _ => None,
     }
+}
+
+/// The jobs of one caller, in order.
+pub type Jobs = mk_jobs::Jobs<Job>;
+
+/// What became of each job of one caller, in their order.
+pub type Dones = mk_jobs::Dones<Done>;
+
+/// What became of each caller's jobs, and what is said of the heap, which is closed. What is left on the stack is known
+/// to proofs: the numbers that the order of the jobs leaves.
+pub type StackOutcome = Outcome<Done>;
+
+/// Makes a stack on a heap of its own, has a caller for each list do its jobs, each on a thread of its own, with
+/// markers beside them, and joins all. A caller whose thread can't be started works here, and a marker whose thread
+/// can't be started does nothing. Where memory is refused to a caller, the others work on, and all are joined.
+pub fn run_stack<E: Engine + Send, P: Pace + Sync, R: Threads + Wait + Sync>(
+    rt: &R,
+    alloc: Global,
+    pages: u64,
+    resident: u64,
+    markers: u64,
+    lists: &[Jobs],
+    pace: &P,
+) -> Result<StackOutcome, NoMemory>
+    requires pages { IsBetween 1 4096 pages }
+    requires resident { IsBetween 1 pages resident }
+    requires markers { markers ≤ 8 }
+    requires callers { IsBetween 1 16 (length lists.now) }
+    ensures runs { IfOk result
+        (IsRun stack_plan E.on (stack_config pages resident (length lists.now) markers) lists.now) }
+    ensures explained { IfOk result (λ outcome. AreExplainedJobs stack_plan [] left_by HasNumbers
+        (stack_config pages resident (length lists.now) markers) (history_of outcome.report) lists.now
+        outcome.done.items) }
+{
+    run::<Stack, E, P, R>(rt, alloc, pages, resident, markers, lists, pace)
 }

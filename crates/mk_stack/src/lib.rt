@@ -6,11 +6,10 @@
 mod calls;
 mod jobs;
 mod points;
-mod runs;
 mod stacks;
 
-pub use calls::{Full, pop, push};
+pub use calls::{Dones, Jobs, StackOutcome, pop, push, run_stack};
 pub use jobs::{Done, Job};
+pub use mk_jobs::Full;
 pub use points::Point;
-pub use runs::{Dones, Jobs, StackOutcome, run_stack};
 pub use stacks::Stack;

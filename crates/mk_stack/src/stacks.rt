@@ -7,10 +7,11 @@ use crate::jobs::{Done, Job};
 use crate::points::Point;
 use mk_core::GlobalTable;
 use mk_jobs::{
-    Linearizable, Object, Step, exchange, free, if_null, load, load_global, load_number, new,
-    store, store_global, store_number,
+    LINK, Linearizable, NODE_TYPE, NUMBER, Object, ROOT_TYPE, Step, exchange, free, if_null,
+    linked_types, load, load_global, load_number, new, root_global, store, store_global,
+    store_number, to_node,
 };
-use mk_never::{Kind, NoMemory, TypeTable};
+use mk_never::{NoMemory, TypeTable};
 use std::alloc::Global;
 
 /// The register that points to the top, to the node that is pushed, to the one below the uppermost, and to that itself
@@ -25,15 +26,7 @@ const UPPERMOST: u8 = 2;
 /// The global that points to the top
 const STACK: u8 = 0;
 
-/// A node has a number and a link; the top has the uppermost node.
-const NODE_TYPE: u64 = 0;
-
-const TOP_TYPE: u64 = 1;
-
-const NUMBER: u64 = 0;
-
-const LINK: u64 = 1;
-
+/// The word of the top that points to the uppermost node
 const FIRST: u64 = 0;
 
 /// A stack of numbers.
@@ -57,22 +50,11 @@ impl Object for Stack {
     ghost content = { HasNumbers };
 
     fn types(alloc: Global) -> Result<TypeTable, NoMemory> {
-        let link = Kind::To { ty: 0, offset: 0 };
-        let mut node = Vec::new(alloc);
-        node.push(Kind::Num)?;
-        node.push(link)?;
-        let mut top = Vec::new(alloc);
-        top.push(link)?;
-        let mut types = TypeTable::new(alloc);
-        types.add(node)?;
-        types.add(top)?;
-        Ok(types)
+        linked_types(alloc, vec![in alloc; to_node()]?)
     }
 
     fn globals(alloc: Global) -> Result<GlobalTable, NoMemory> {
-        let mut globals = GlobalTable::new(alloc);
-        globals.add(TOP_TYPE)?;
-        Ok(globals)
+        root_global(alloc)
     }
 
     fn registers() -> u8 {
@@ -88,38 +70,28 @@ impl Object for Stack {
     }
 
     fn step(point: Point) -> Step<Point, Done> {
+        use Point::*;
         match point {
-            Point::Founding => new(TOP, TOP_TYPE, Point::Placing, Point::Founded),
-            Point::Placing => store_global(STACK, TOP, Point::Founded),
-            Point::Starting(job) => load_global(TOP, STACK, Point::Checking(job)),
-            Point::Checking(Job::Push(n)) => if_null(
-                TOP,
-                Point::Ended(Done::Full),
-                Point::Making(n),
-            ),
-            Point::Checking(Job::Pop) => if_null(TOP, Point::Ended(Done::Empty), Point::Peeking),
-            Point::Making(n) => new(NODE, NODE_TYPE, Point::Filling(n), Point::Ended(Done::Full)),
-            Point::Filling(n) => store_number(NODE, NUMBER, n, Point::Looking(n)),
-            Point::Looking(n) => load(UPPERMOST, TOP, FIRST, Point::Linking(n)),
-            Point::Linking(n) => store(NODE, LINK, UPPERMOST, Point::Publishing(n)),
-            Point::Publishing(n) => {
-                exchange(
-                    TOP,
-                    FIRST,
-                    UPPERMOST,
-                    NODE,
-                    Point::Ended(Done::Pushed),
-                    Point::Looking(n),
-                )
-            }
-            Point::Peeking => load(UPPERMOST, TOP, FIRST, Point::Testing),
-            Point::Testing => if_null(UPPERMOST, Point::Ended(Done::Empty), Point::Following),
-            Point::Following => load(BELOW, UPPERMOST, LINK, Point::Taking),
-            Point::Taking => exchange(TOP, FIRST, UPPERMOST, BELOW, Point::Freeing, Point::Peeking),
-            Point::Freeing => free(UPPERMOST, Point::Reading),
-            Point::Reading => load_number(UPPERMOST, NUMBER, Point::Ended(Done::Popped(0))),
-            Point::Founded => Step::End(Done::Empty),
-            Point::Ended(done) => Step::End(done),
+            Founding => new(TOP, ROOT_TYPE, Placing, Founded),
+            Placing => store_global(STACK, TOP, Founded),
+            Founded => Step::End(Done::Empty),
+            Starting(job) => load_global(TOP, STACK, Checking(job)),
+            Checking(Job::Push(n)) => if_null(TOP, Ended(Done::Full), Making(n)),
+            Checking(Job::Pop) => if_null(TOP, Ended(Done::Empty), Peeking),
+
+            Making(n) => new(NODE, NODE_TYPE, Filling(n), Ended(Done::Full)),
+            Filling(n) => store_number(NODE, NUMBER, n, Looking(n)),
+            Looking(n) => load(UPPERMOST, TOP, FIRST, Linking(n)),
+            Linking(n) => store(NODE, LINK, UPPERMOST, Publishing(n)),
+            Publishing(n) => exchange(TOP, FIRST, UPPERMOST, NODE, Ended(Done::Pushed), Looking(n)),
+
+            Peeking => load(UPPERMOST, TOP, FIRST, Testing),
+            Testing => if_null(UPPERMOST, Ended(Done::Empty), Following),
+            Following => load(BELOW, UPPERMOST, LINK, Taking),
+            Taking => exchange(TOP, FIRST, UPPERMOST, BELOW, Freeing, Peeking),
+            Freeing => free(UPPERMOST, Reading),
+            Reading => load_number(UPPERMOST, NUMBER, Ended(Done::Popped(0))),
+            Ended(done) => Step::End(done),
         }
     }
 

@@ -24,8 +24,8 @@ pub record LeavesWords (w v : World) : Type 0 where
   pub words : but_phase v.now.words ≡ but_phase w.now.words
   pub allocations : v.allocations ≡ w.allocations
 
--- What was seen up to and after each part of the cycle, by a pass with this beginning. After the sweep it may have looked
--- at words, while all was still.
+-- What was seen up to and after each part of the cycle, by a pass with this beginning. After the sweep it may have
+-- looked at words, while all was still.
 pub record SweepParts (p : PassState) (looks : ℕ) (es : List Event) : Type 0 where
   pub front : List Event
   pub holding : List Event

@@ -4,7 +4,8 @@ use Rattle.mk_sweep.proofs.{BesideTurn.joined_markers, CycleParts.only_looks, Sw
 use Rattle.mk_sweep.proofs.SweepParts.{NoneOfMarkers, SweepParts, SweepsThenLooks, parts}
 use Rattle.mk_cycle.proofs.Below.Laws.Vocabulary.{List, ℕ, ap, append-nil, append_assoc, arith, refl, subst, sym, true}
 use Rattle.mk_cycle.proofs.Below.Laws.Vocabulary.{[]}
-use Rattle.mk_cycle.proofs.{Below.Laws.Vocabulary.{◌++◌, ◌∙◌, ◌∷◌, ◌≡◌}, Below.Words.Doing.{does_nothing, others_are_so}}
+use Rattle.mk_cycle.proofs.Below.Laws.Vocabulary.{◌++◌, ◌∙◌, ◌∷◌, ◌≡◌}
+use Rattle.mk_cycle.proofs.Below.Words.Doing.{does_nothing, others_are_so}
 use Rattle.mk_cycle.specs.{Begun.{DoesNothing, IsBegunLast}, Closing.IsClosedBy, EngineLaw.IsAtPhase}
 use Rattle.mk_core.specs.Cycles.{IsInSnapshot, before_close}
 use Rattle.mk_core.specs.History.{left}

@@ -2,7 +2,7 @@
 use Rattle.std.proofs.{lemmas.List.Sums.{count_by-le-length, sum_by-cons, sum_by-set}, Common.count_by}
 use Rattle.mk_sweep.proofs.Below.Laws.Vocabulary.{List, None, Option, Some, ℕ, ap, arith, cond, eqb-true, false}
 use Rattle.mk_sweep.proofs.Below.Laws.Vocabulary.{is_some, length, length-set, refl, slice_index_or, slice_set, suc}
-use Rattle.mk_sweep.proofs.Below.Laws.Vocabulary.{zero, [], ◌*◌, ◌+◌, ◌<◌, ◌∷◌, ◌≡◌, ◌≤◌}
+use Rattle.mk_sweep.proofs.Below.Laws.Vocabulary.{[], ◌*◌, ◌+◌, ◌<◌, ◌∷◌, ◌≡◌, ◌≤◌}
 use Rattle.mk_why.specs.{Sizes.pages_for, States.WhyState}
 
 -- How many entries of a table there are, with one more, and with none.
@@ -29,25 +29,6 @@ none_counted {A} (y ∷ ys) none =
     let first : cond {A = ℕ} (is_some y) 1 0 ≡ 0 = ap (λ (z : Option A). cond {A = ℕ} (is_some z) 1 0) (none 0) in
     let rest : count_by is_some ys ≡ 0 = none_counted ys (λ i. none (suc i)) in
     omega arith
-
-counted_parts : {A : Type 0} → (y : Option A) (ys : List (Option A)) → count_by is_some (y ∷ ys) ≡ 0
-    → (cond {A = ℕ} (is_some y) 1 0 ≡ 0) × (count_by is_some ys ≡ 0)
-counted_parts {A} y ys none =
-    let all : count_by is_some (y ∷ ys) ≡ cond {A = ℕ} (is_some y) 1 0 + count_by is_some ys =
-    sum_by-cons (λ (z : Option A). cond (is_some z) 1 0) y ys in (
-      omega arith,
-      omega arith,
-    )
-
-nothing : {A : Type 0} → (z : Option A) → cond {A = ℕ} (is_some z) 1 0 ≡ 0 → z ≡ None
-nothing {A} None e = refl
-nothing {A} (Some x) e = absurd (omega (arith, e))
-
-pub counted_none : {A : Type 0} → (xs : List (Option A)) → count_by is_some xs ≡ 0 → (i : ℕ)
-    → slice_index_or xs i None ≡ None
-counted_none {A} [] none i = refl
-counted_none {A} (y ∷ ys) none zero = nothing y (counted_parts y ys none).0
-counted_none {A} (y ∷ ys) none (suc k) = counted_none ys (counted_parts y ys none).1 k
 
 -- Tables that fit the inner engine.
 

@@ -3,6 +3,7 @@ pub mod Vocabulary
 mod Counts
 mod EvaluatedChains
 mod Explored
+mod LazyTables
 mod Lists
 mod Looks
 mod MadeEntries

@@ -1,5 +1,5 @@
 -- Chains followed back, and the entries of the kept allocations.
-use Rattle.std.proofs.lemmas.List.{get_or_read_under, length-reverse, reverse-append}
+use Rattle.std.proofs.lemmas.List.{length-reverse, reverse-append}
 use Rattle.std.proofs.lemmas.List.Elements.{Contains-append_left, Contains-push, Contains-push_cases}
 use Rattle.std.proofs.{Common.length-append, Common.reverse, Math.ListN.get_or-append, Math.Seq.get_or-append_seam}
 use Rattle.std.specs.List.Sorted.{IsStrictlyIncreasing}
@@ -8,15 +8,10 @@ use Rattle.mk_why.proofs.Vocabulary.{IsWhy, Link, LinksLead, Root, Start, Storag
 use Rattle.mk_why.proofs.Vocabulary.{placed_at, world_in}
 use Rattle.mk_sweep.proofs.Below.Laws.Vocabulary.{List, None, Option, Some, ℕ, and_parts, ap, arith, cases_lt, false}
 use Rattle.mk_sweep.proofs.Below.Laws.Vocabulary.{inl, inr, length, length-map, lt-ltb, map, map-append, not-true, refl}
-use Rattle.mk_sweep.proofs.Below.Laws.Vocabulary.{slice_index, slice_index_or, subst, sym, true, [], ◌*◌, ◌++◌, ◌+◌}
-use Rattle.mk_sweep.proofs.{Below.Laws.Vocabulary.{◌<◌, ◌∙◌, ◌∷◌, ◌≡◌}, Below.Laws.MappedWords.mapped_stays}
+use Rattle.mk_sweep.proofs.Below.Laws.Vocabulary.{slice_index, subst, sym, true, [], ◌*◌, ◌++◌, ◌+◌}
+use Rattle.mk_sweep.proofs.{Below.Laws.Vocabulary.{◌<◌, ◌∙◌, ◌∷◌, ◌≡◌, ◌≤◌}, Below.Laws.MappedWords.mapped_stays}
 use Rattle.mk_why.specs.Entries.{IsLed, IsMadeOf, IsOneMore, IsToldWhy, IsWayOf, back_to, root_of, step_back}
 use Rattle.mk_why.specs.{Chains.IsEntryOf, Listing.IsKeptAt, declared.found.Way.Way, declared.kept.Kept.Kept}
-
--- what is read of a table
-pub read_at : {A : Type 0} → (xs : List (Option A)) (i : ℕ) (o : Option A) → o ≡ slice_index_or xs i o → i < length xs
-    → o ≡ entry_at xs i
-read_at {A} xs i o is lt = get_or_read_under xs i (length xs) o None is lt refl
 
 -- One step back.
 
@@ -215,6 +210,23 @@ module _ {c : Config} {v : View} {found : List (Option Found)} {kept : List (Opt
 
       mapped : map address (es ++ more.entry ∷ []) ≡ map address es ++ more.entry.address ∷ []
       mapped = map-append address es (more.entry ∷ [])
+
+  -- The table has nothing from the heap word on.
+  pub entries_end : {base : ℕ} {es : List Kept} → base ≤ length kept
+      → ((place : ℕ) → base ≤ place → entry_at kept place ≡ None) → AreEntriesBelow c v base es
+      → AreEntriesBelow c v (length kept) es
+  entries_end {base} few none x = record {
+    ascending = x.ascending;
+    below = λ i lt. let low = x.below i lt in omega arith;
+    of_one = x.of_one;
+    each = λ b kept_here lt. elim (cases_lt (base_at v b) base) [
+      | inl low ↦ x.each b kept_here low
+      | inr high ↦
+          let y = told.each b kept_here in
+          let both : Some y.storage ≡ None = sym y.there ∙ none (base_at v b) (omega arith) in
+          absurd cc
+    ];
+  }
 
 pub no_entries : (c : Config) (v : View) → AreEntriesBelow c v 0 []
 no_entries c v = grind arith

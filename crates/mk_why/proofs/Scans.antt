@@ -1,5 +1,4 @@
 -- What scans find, and that what is said of a view is said of its world.
-use Rattle.std.proofs.{lemmas.List.get_or_read_under, lemmas.List.Sums.count_by-le-length}
 use Rattle.mk_why.proofs.Vocabulary.{AreEntriesBelow, Config, Found, IsFirstWord, IsFoundThrough, IsNoted, IsSearch}
 use Rattle.mk_why.proofs.Vocabulary.{IsSearched, IsTold, IsWhy, LinksLead, Root, Storage, Tables, View, Words, World}
 use Rattle.mk_why.proofs.Vocabulary.{base_at, entry_at, is_scanned_allocation, links_in, links_of, placed_at}
@@ -31,9 +30,6 @@ done_from c v {found} {base} size {links} through whole noted a n begins scanned
 
 module _ {c : Config} {v : View} {r : Tables} (place : ℕ) {limit : ℕ} (search : IsSearch c v r limit)
     (known : place < r.count) where
-  pub queued_within : slice_index r.queue.items place < length r.found.items
-  queued_within = grind (arith, within_table)
-
   pub queued_base : IsFirstWord v (slice_index r.queue.items place)
   queued_base =
       let x = search.entries place known in
@@ -47,15 +43,6 @@ module _ {c : Config} {v : View} {r : Tables} (place : ℕ) {limit : ℕ} (searc
 
     pub one_more_fits : f.links + 1 ≤ r.count
     one_more_fits = let few = search.shallow place known in let same = links_there in omega arith
-
--- what is read there
-pub queue_read : (r : Tables) (place x : ℕ) → x ≡ slice_index_or r.queue.items place x → place < r.count
-    → x ≡ slice_index r.queue.items place
-queue_read r place x is known = grind (arith, get_or_read_under, count_by-le-length)
-
-pub entry_read : (r : Tables) (base : ℕ) (o : Option Found) (f : Found) → o ≡ slice_index_or r.found.items base o
-    → base < length r.found.items → o ≡ Some f → entry_at r.found.items base ≡ Some f
-entry_read r base o f is lt some = grind (arith, get_or_read_under)
 
 -- What is said of a view is said of its world.
 

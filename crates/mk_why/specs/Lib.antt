@@ -1,6 +1,7 @@
 pub mod Below
 pub mod Chains
 pub mod Entries
+pub mod LazyTables
 pub mod Listing
 pub mod Searching
 pub mod Sizes

@@ -27,10 +27,10 @@ fn step_back(tables: &Tables, found: Found) -> Option<(u64, Found)>
         return None;
     };
     let place = from as usize;
-    if place >= tables.found.len() {
+    if place >= tables.found.end() {
         return None;
     }
-    let Some(before) = tables.found[place] else {
+    let Some(before) = tables.found.get(place) else {
         return None;
     };
     if before.links < found.links {
@@ -107,10 +107,10 @@ fn push_entry(
         → IsOneMore tables.now.found.items s
         (entry_at tables.now.found.items base) entries.old.items entries.new.items) }
 {
-    let Some(storage) = tables.kept[base] else {
+    let Some(storage) = tables.kept.get(base) else {
         return Ok(());
     };
-    let kept = entry(tables, alloc, storage, tables.found[base])?;
+    let kept = entry(tables, alloc, storage, tables.found.get(base))?;
     append(entries, kept)?;
     Ok(())
 }
@@ -124,7 +124,7 @@ pub(crate) fn list_entries(tables: &Tables, alloc: Global) -> Result<Vec<Kept>, 
         → IfOk result (λ entries. entries.items ≡ []) }
 {
     let mut entries = Vec::new(alloc);
-    for base in 0..tables.kept.len() {
+    for base in 0..tables.kept.end() {
         push_entry(tables, alloc, base, &mut entries)?;
     }
     Ok(entries)

@@ -7,6 +7,7 @@ mod entries;
 mod found;
 mod kept;
 mod laws;
+mod lazy_table;
 mod listing;
 pub mod lower;
 mod searching;

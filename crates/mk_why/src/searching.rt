@@ -141,8 +141,8 @@ fn search_from(words: &Words, stop: &mut Stopped, tables: &mut Tables, place: us
     ensures done { IsSearched words.now.config (view_by stop.old.pass) tables.new.found.items
         (slice_index tables.old.queue.items place) }
 {
-    let base = tables.queue[place];
-    let Some(found) = tables.found[base as usize] else {
+    let base = tables.queue.get(place);
+    let Some(found) = tables.found.get(base as usize) else {
         return;
     };
     let size = scanned_size(words, stop, base);

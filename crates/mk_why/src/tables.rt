@@ -1,29 +1,30 @@
 //! The tables of a search, and of what a cycle kept.
-ghost use Rattle.std.specs.Prelude.{◌≡◌, ℕ, None, count_by, false, is_some, length, slice_index_or, vec_len};
+ghost use Rattle.std.specs.Prelude.{◌≡◌, ◌≤◌, ℕ, None, count_by, is_some, length};
 
 use crate::found::{Found, Storage};
+use crate::lazy_table::LazyTable;
 use mk_never::NoMemory;
 use std::alloc::Global;
 
 /// Tables over the heap words, which have each allocation at its first word: how it was found, and its storage if it
-/// was kept. The queue has the first words of the allocations that were found, in the order in which they were. A table
-/// that has nothing isn't emptied again.
+/// was kept. The queue has the first words of the allocations that were found, in the order in which they were.
 #[derive(Drop)]
 pub(crate) struct Tables {
-    pub(crate) found: Vec<Option<Found>>,
-    pub(crate) queue: Vec<u64>,
+    pub(crate) found: LazyTable<Option<Found>>,
+    pub(crate) queue: LazyTable<u64>,
     pub(crate) count: usize,
-    pub(crate) kept: Vec<Option<Storage>>,
-    // Whether something may have been kept.
-    pub(crate) keeps_some: bool,
-    ghost queues: { vec_len queue ≡ vec_len found },
-    ghost keeps: { vec_len kept ≡ vec_len found },
+    pub(crate) kept: LazyTable<Option<Storage>>,
+    ghost queues: { length queue.items ≡ length found.items },
+    ghost keeps: { length kept.items ≡ length found.items },
     ghost full: { count_by is_some found.items ≡ count },
-    ghost kept_some: { keeps_some ≡ false → count_by is_some kept.items ≡ 0 },
+    ghost none_found: { found.rest ≡ None },
+    ghost none_queued: { queue.rest ≡ 0 },
+    ghost none_kept: { kept.rest ≡ None },
+    ghost small: { length found.items ≤ 262144 },
 }
 
 impl Tables {
-    ghost use Rattle.std.specs.Prelude.{◌<◌, ◌≤◌, ◌*◌, ◌+◌, true, Some, IfOk, slice_set};
+    ghost use Rattle.std.specs.Prelude.{◌<◌, ◌*◌, ◌+◌, true, false, Some, IfOk, slice_set};
     ghost use Rattle.mk_why.specs.Searching.{entry_at};
 
     /// Empty tables for a heap of this many pages.
@@ -33,15 +34,14 @@ impl Tables {
         ensures none { IfOk result (λ made. (base : ℕ) → entry_at made.kept.items base ≡ None) }
     {
         let words = 64 * pages as usize;
-        let found = vec![in alloc; None; words]?;
-        let queue = vec![in alloc; 0; words]?;
-        let kept = vec![in alloc; None; words]?;
+        let found = LazyTable::new(alloc, None, words)?;
+        let queue = LazyTable::new(alloc, 0, words)?;
+        let kept = LazyTable::new(alloc, None, words)?;
         Ok(Tables {
             found,
             queue,
             count: 0,
             kept,
-            keeps_some: false,
         })
     }
 
@@ -58,11 +58,11 @@ impl Tables {
         ensures room { self.new.count ≤ length self.new.queue.items }
     {
         let place = base as usize;
-        if self.found[place].is_some() {
+        if self.found.get(place).is_some() {
             return;
         }
-        self.found[place] = Some(found);
-        self.queue[self.count] = base;
+        self.found.set(place, Some(found));
+        self.queue.set(self.count, base);
         self.count += 1;
     }
 
@@ -72,8 +72,7 @@ impl Tables {
         ensures kept { self.new.kept.items ≡ slice_set self.old.kept.items base (Some storage) }
         ensures found { self.new.found ≡ self.old.found }
     {
-        self.keeps_some = true;
-        self.kept[base as usize] = Some(storage);
+        self.kept.set(base as usize, Some(storage));
     }
 
     /// Forgets what was found.
@@ -82,10 +81,7 @@ impl Tables {
         ensures none { (base : ℕ) → entry_at self.new.found.items base ≡ None }
         ensures empty { self.new.count ≡ 0 }
     {
-        if self.count == 0 {
-            return;
-        }
-        forget(&mut self.found);
+        self.found.clear(None);
         self.count = 0;
     }
 
@@ -95,20 +91,6 @@ impl Tables {
         ensures none { (base : ℕ) → entry_at self.new.kept.items base ≡ None }
         ensures found { self.new.found ≡ self.old.found }
     {
-        if !self.keeps_some {
-            return;
-        }
-        forget(&mut self.kept);
-        self.keeps_some = false;
-    }
-}
-
-/// Empties a table.
-fn forget<T: Copy>(table: &mut [Option<T>])
-    ensures size { length table.new ≡ length table.old }
-    ensures none { (place : ℕ) → slice_index_or table.new place None ≡ None }
-{
-    for place in 0..table.len() {
-        table[place] = None;
+        self.kept.clear(None);
     }
 }

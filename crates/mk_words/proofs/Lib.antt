@@ -17,6 +17,8 @@ pub mod CallSteps
 pub mod FoundTurns
 pub mod TurnSteps
 pub mod MapSteps
+pub mod StoredHeads
+pub mod RunMaps
 pub mod Closing
 pub mod Markers
 pub mod Opening

@@ -19,3 +19,4 @@ pub mod Sweeping
 pub mod Sleeps
 pub mod Taking
 pub mod Unswept
+pub mod RunSteps

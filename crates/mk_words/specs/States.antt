@@ -1,7 +1,6 @@
 -- What contracts see of the shared words, of a pass and of a turn.
-use Rattle.std.specs.Prelude.{List, Option}
+use Rattle.std.specs.Prelude.{List}
 use Rattle.atomic_table.specs.Seated.{TableId}
-use Rattle.mk_never.specs.declared.operations.Op.{Op}
 use Rattle.mk_core.specs.{declared.config.Config.Config, declared.events.Seat.Seat, declared.events.Step.Step}
 use Rattle.mk_core.specs.{declared.events.Event.Event, declared.seats.Flight.Flight, Moments.{Moment, flight_of}}
 use Rattle.mk_core.specs.{History.{World, left, IsHistory}, Readings.Holds}

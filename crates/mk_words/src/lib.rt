@@ -19,6 +19,7 @@ mod patience;
 mod performing;
 mod pointing;
 mod rule;
+mod run_steps;
 mod sleeping;
 mod stop_steps;
 mod stopped;

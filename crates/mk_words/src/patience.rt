@@ -68,11 +68,19 @@ impl Patience {
         Some(sleep)
     }
 
-    /// Pauses once, where another has the turn.
+    /// Pauses once, if another has the turn. Who has waited long is late while it sleeps. When it wakes it pauses as at
+    /// first, since others may let it have the turn then.
     pub fn pause_for_turn<R: Wait>(&mut self, rt: &R, words: &Words)
         ensures { PausesOnce self.old self.new }
     {
-        if let Some(sleep) = self.pause() {
+        let is_late = self.micros == LONGEST;
+        let Some(sleep) = self.pause() else {
+            return;
+        };
+        if is_late {
+            words.sleep_late(rt, sleep);
+            self.backoff.reset();
+        } else {
             words.sleep_on_turn(rt, sleep);
         }
     }

@@ -5,12 +5,17 @@ ghost use Rattle.mk_core.specs.Layout.{IsOfTable};
 
 use crate::indexes::index_of;
 use crate::words::Words;
+use crossbeam_utils::Backoff;
 use mk_core::{Gate, TableWord, Word, phase_bits};
 use std::sync::Wait;
+use std::sync::atomic::Ordering;
 use std::time::Duration;
 
 /// How many values there are of the half of a word that a sleep compares. What is slept on is always less.
 const HALF: u64 = 1 << 32;
+
+/// How often one who lets others have the turn first pauses for them, at most.
+const PAUSES: u64 = 100;
 
 impl Words {
     /// The index of a word in the table.
@@ -43,6 +48,38 @@ impl Words {
         let found = self.peek(TableWord::Turn);
         if found != 0 {
             self.sleep_on(rt, TableWord::Turn, found, at_most);
+        }
+    }
+
+    /// Sleeps as `sleep_on_turn` does, and is counted as late meanwhile.
+    pub(crate) fn sleep_late<R: Wait>(&self, rt: &R, at_most: Duration) {
+        self.late.fetch_add(1, Ordering::SeqCst);
+        self.sleep_on_turn(rt, at_most);
+        self.late.fetch_sub(1, Ordering::SeqCst);
+    }
+
+    /// Wakes those who are late for the turn, and pauses until one of them has taken it, or for as long as a thread
+    /// mostly takes to wake.
+    #[cold]
+    #[inline(never)]
+    fn wake_late(&self) {
+        self.table
+            .shared
+            .wake_all(self.index_in_table(TableWord::Turn));
+        let backoff = Backoff::new();
+        for _ in 0..PAUSES {
+            if self.peek(TableWord::Turn) != 0 {
+                return;
+            }
+            backoff.snooze();
+        }
+    }
+
+    /// Lets one of those who are late for the turn have it first. It is called after a turn with a cycle: who sleeps
+    /// would hardly find the turn free between one cycle and the next. If nobody is late it does nothing.
+    pub fn let_late_first(&self) {
+        if self.late.load(Ordering::SeqCst) > 0 {
+            self.wake_late();
         }
     }
 

@@ -20,12 +20,15 @@ use mk_core::{Config, Seat, Word};
 use mk_never::{NoMemory, TypeTable};
 use std::alloc::Global;
 use std::marker::{Brand, Model, PhantomData};
+use std::sync::atomic::AtomicU64;
 
 /// The words of a heap, which threads share. Who has a pass may access them.
 #[derive(Drop)]
 pub struct Words {
     pub(crate) table: Table<MapHome, View, Config, OneHistory, Global>,
     pub(crate) config: Config,
+    /// How many sleep who have waited long for the turn. No promise rests on it.
+    pub(crate) late: AtomicU64,
 }
 
 impl Model for Words {
@@ -123,6 +126,7 @@ impl Words {
                 Words {
                     table,
                     config: copy,
+                    late: AtomicU64::new(0),
                 },
                 Pass {
                     own: TokenWith {

@@ -1,26 +1,27 @@
-use Rattle.mk_caller.proofs.Below.Laws.Vocabulary.{arith, ◌≡◌}
+use Rattle.mk_caller.proofs.Below.Laws.Vocabulary.{Header, arith, false, subst, sym, word_of, ℕ}
+use Rattle.mk_caller.specs.Below.Words.RunSteps.{MayStoreHeads, StoresHeads}
+use Rattle.mk_books.specs.Runs.{run_word}
+use Rattle.mk_alloc.proofs.WipedRuns.{may_unmap_all, unmapped_all, unmaps_to}
 use Rattle.mk_alloc.proofs.unmapping.unmap_run.Goals as goal
-use Rattle.mk_alloc.proofs.WipedRuns.{unmap_may, unmapped_all, unmapped_none, unmaps_on}
 
-pub loop-distance-init : goal.loop-distance-init
-loop-distance-init c = record {
-  unmapped = unmapped_none c.args.turn.now.in_order c.requires.may;
-}
-
-pub head-requires-clause-enabled : goal.head-requires-clause-enabled
-head-requires-clause-enabled c =
-    rw c.unmapped_header.ensures (unmap_may c.args.turn.now.in_order c.requires.may c.loop-distance.invariant.unmapped
-    c.requires.stopped c.loop-distance-test.true)
-
-pub loop-distance-preserved : goal.loop-distance-preserved
-loop-distance-preserved c =
-    let a = rw c.unmapped_header.ensures at c.head.ensures in
-    record {
-      unmapped = unmaps_on c.args.turn.now.in_order c.requires.may c.loop-distance.invariant.unmapped
-          c.loop-distance-test.true a;
-    }
+pub unmap_run-requires-clause-may : goal.unmap_run-requires-clause-may
+unmap_run-requires-clause-may c =
+    let p = c.args.turn.now.pass in
+    let run = c.args.run in
+    subst (λ (h : ℕ). MayStoreHeads p run.page run.count (run_word h c.encode-next.result))
+    (sym c.encode-head.ensures.exact)
+    (subst (λ (n : ℕ). MayStoreHeads p run.page run.count (run_word (word_of (Header.Run run.count false)) n))
+    (sym c.encode-next.ensures.exact)
+    (may_unmap_all c.args.turn.now.in_order c.requires.may c.requires.stopped))
 
 pub returns : goal.returns
 returns c =
-    let all : c.loop-distance.distance ≡ c.args.run.count = grind arith in
-    unmapped_all c.args.turn.now.in_order c.requires.may (rw all at c.loop-distance.invariant.unmapped)
+    let p = c.args.turn.now.pass in
+    let q = c.unmap_run.new.self.pass in
+    let run = c.args.run in
+    let stores = subst (λ (n : ℕ). StoresHeads p run.page run.count
+    (run_word (word_of (Header.Run run.count false)) n) q) c.encode-next.ensures.exact
+    (subst (λ (h : ℕ). StoresHeads p run.page run.count (run_word h c.encode-next.result) q)
+    c.encode-head.ensures.exact c.unmap_run.ensures) in
+    unmapped_all c.args.turn.now.in_order c.requires.may
+    (unmaps_to c.args.turn.now.in_order c.requires.may run.count q (omega arith) stores)

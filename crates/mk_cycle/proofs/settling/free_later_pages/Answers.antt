@@ -1,34 +1,35 @@
-use Rattle.mk_words.proofs.Below.Laws.Vocabulary.{arith}
-use Rattle.mk_cycle.proofs.FreeingSteps.{freed_turn}
-use Rattle.mk_cycle.proofs.RestOfRuns.{is_on_table, rest_may, rest_none, rest_on}
+use Rattle.mk_words.proofs.Below.Laws.Vocabulary.{arith, subst, ℕ, ◌+◌, ◌-◌, ◌≡◌, ◌≤◌}
+use Rattle.mk_cycle.proofs.RestOfRuns.{rest_allowed, rest_none, rest_stands, rest_stored}
 use Rattle.mk_cycle.proofs.settling.free_later_pages.Goals as goal
+use Rattle.mk_cycle.specs.Freeing.{FreesRest}
 
-pub loop-page-init : goal.loop-page-init
-loop-page-init c = record {
-  begun = omega arith;
-  within = c.requires.some;
-  freed = rest_none c.args.from c.args.turn.now.pass;
-}
+pub free_pages-requires-clause-unmapped : goal.free_pages-requires-clause-unmapped
+free_pages-requires-clause-unmapped c =
+    rest_stands c.args.turn.now.pass c.args.head c.args.from _
+    (λ r low less. c.later_end-end.ensures.later r low (omega (arith, less, c.if-from-end.true)))
 
-pub is_later_page-requires-clause-within : goal.is_later_page-requires-clause-within
-is_later_page-requires-clause-within c =
-    is_on_table c.requires.turn c.loop-page.invariant.freed (omega (arith, c.loop-page-test.true, c.requires.within))
+pub free_pages-requires-clause-may : goal.free_pages-requires-clause-may
+free_pages-requires-clause-may c =
+    rest_allowed c.args.turn.now.in_order c.requires.turn c.requires.rest c.requires.within
+    (omega (arith, c.later_end-end.ensures.ends, c.if-from-end.true))
+    (λ r low less. c.later_end-end.ensures.later r low (omega (arith, less, c.if-from-end.true)))
 
-pub head-requires-clause-one_table : goal.head-requires-clause-one_table
-head-requires-clause-one_table c = (freed_turn c.loop-page.invariant.freed.frees c.requires.turn).one_table
+pub returns-then-from-end-clause-frees : goal.returns-then-from-end-clause-frees
+returns-then-from-end-clause-frees c =
+    let count : ℕ = c.later_end-end.result - c.args.from in
+    let all : c.args.from + count ≡ c.later_end-end.result = omega (arith, c.if-from-end.true) in
+    let near : c.args.from + count ≤ c.args.to = omega (arith, all, c.later_end-end.ensures.ends) in
+    subst (λ (n : ℕ). FreesRest c.args.from n c.args.turn.now.pass c.free_pages.new.self.pass) all
+    (rest_stored c.args.turn.now.in_order c.requires.turn c.requires.rest c.requires.within near
+    (λ r low less. c.later_end-end.ensures.later r low (omega (arith, less, all))) count c.free_pages.new.self.pass
+    (omega arith) c.free_pages.ensures)
 
-pub head-requires-clause-enabled : goal.head-requires-clause-enabled
-head-requires-clause-enabled c =
-    rest_may c.loop-page.turn.in_order c.requires.turn c.requires.rest c.loop-page.invariant.freed
-    c.loop-page.invariant.begun c.loop-page-test.true (omega (arith, c.loop-page-test.true, c.requires.within))
-    (c.is_later_page.ensures c.if-not-is_later_page.false)
-
-pub loop-page-preserved : goal.loop-page-preserved
-loop-page-preserved c = record {
-  begun = omega (arith, c.loop-page.invariant.begun);
-  within = omega (arith, c.loop-page-test.true);
-  freed = rest_on c.loop-page.turn.in_order c.requires.turn c.requires.rest c.loop-page.invariant.freed
-      c.loop-page.invariant.begun c.loop-page-test.true (omega (arith, c.loop-page-test.true, c.requires.within))
-      (c.is_later_page.ensures c.if-not-is_later_page.false)
-      c.head.ensures;
-}
+pub returns-else-from-end-clause-frees : goal.returns-else-from-end-clause-frees
+returns-else-from-end-clause-frees c =
+    let none : c.args.from ≡ c.later_end-end.result = omega (
+      arith,
+      c.later_end-end.ensures.begun,
+      c.if-from-end.false,
+    ) in
+    subst (λ (n : ℕ). FreesRest c.args.from n c.args.turn.now.pass c.args.turn.now.pass) none
+    (rest_none c.args.from c.args.turn.now.pass)

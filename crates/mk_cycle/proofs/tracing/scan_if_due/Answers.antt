@@ -3,8 +3,8 @@ use Rattle.mk_words.proofs.Below.Laws.Vocabulary.{header_in, if◌then◌else◌
 use Rattle.mk_words.proofs.Below.Laws.Vocabulary.{◌≡◌, ◌⊎◌}
 use Rattle.mk_cycle.proofs.tracing.scan_if_due.Goals as goal
 use Rattle.mk_cycle.proofs.{Blackened.{gray_turns, scan_done}, MoreMarks.more_same, Notes.last_added}
-use Rattle.mk_cycle.specs.{Grays.words_scanned, Stops.still_words}
-use Rattle.mk_core.specs.Cells.{words_point_well}
+use Rattle.mk_cycle.specs.Stops.{still_words}
+use Rattle.mk_core.specs.Cells.{words_point_well, words_scanned}
 
 -- Where no word of a cell is scanned, it has no pointers, or no words.
 none_scanned : (pages : ℕ) (w : Words) (cell : Cell) → words_scanned (header_in w cell.page) ≡ 0

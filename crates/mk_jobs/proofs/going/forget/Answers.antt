@@ -10,8 +10,8 @@ loop-register-init g c = record {
   exact = λ before. before;
 }
 
-pub answer_when_open-requires-clause-admitted : goal.answer_when_open-requires-clause-admitted
-answer_when_open-requires-clause-admitted g c =
+pub answer_beside-requires-clause-admitted : goal.answer_beside-requires-clause-admitted
+answer_beside-requires-clause-admitted g c =
     let ready = c.loop-register.invariant.ready in
     clear_stays_admitted g.O.Object.plan c.loop-register.register
     (omega (arith, c.loop-register-test.true, c.registers-register-end.ensures, g.met.O.Object.typed.few)) ready.may
@@ -20,9 +20,9 @@ answer_when_open-requires-clause-admitted g c =
 pub loop-register-preserved : goal.loop-register-preserved
 loop-register-preserved g c =
     let before = c.loop-register.invariant in
-    let answers = c.answer_when_open.ensures.answers g.E.Engine.on in
+    let answers = c.answer_beside.ensures.answers g.E.Engine.on in
     record {
-      ready = ready_on g.O.Object.plan c.args.engine.now before.ready c.answer_when_open.ensures.home answers.is refl;
+      ready = ready_on g.O.Object.plan c.args.engine.now before.ready c.answer_beside.ensures.home answers.is refl;
       clears =
           one_cleared c.loop-register.register
           (omega (arith, c.loop-register-test.true, c.registers-register-end.ensures, g.met.O.Object.typed.few))

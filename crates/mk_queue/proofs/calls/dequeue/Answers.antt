@@ -1,6 +1,10 @@
-use Rattle.mk_queue.proofs.Fitting.{empty_unless_dequeued}
+use Rattle.mk_jobs.proofs.JobKinds.{ends_as_its_kind}
+use Rattle.mk_queue.specs.{Points.queue_plan, declared.jobs.Job.{Job}}
+use Rattle.mk_queue.proofs.Fitting.{Fits, ends_fit, enqueues, enqueues_on}
 use Rattle.mk_queue.proofs.calls.dequeue.Goals as goal
 
-pub returns-in_default-clause-does : goal.returns-in_default-clause-does
-returns-in_default-clause-does g c =
-    rw (empty_unless_dequeued c.do_job.result c.do_job.ensures.does c.in_default.not-Dequeued) at c.do_job.ensures.does
+pub returns-in_default : goal.returns-in_default
+returns-in_default g c =
+    let done = c.do_job.ensures in
+    let fits = ends_as_its_kind queue_plan enqueues enqueues_on Fits ends_fit Job.Dequeue _ done.does in
+    rw (fits c.in_default.not-Dequeued) at done

@@ -1,6 +1,10 @@
-use Rattle.mk_queue.proofs.Fitting.{full_unless_enqueued}
+use Rattle.mk_jobs.proofs.JobKinds.{ends_as_its_kind}
+use Rattle.mk_queue.specs.{Points.queue_plan, declared.jobs.Job.{Job}}
+use Rattle.mk_queue.proofs.Fitting.{Fits, ends_fit, enqueues, enqueues_on}
 use Rattle.mk_queue.proofs.calls.enqueue.Goals as goal
 
-pub returns-in_default-clause-full : goal.returns-in_default-clause-full
-returns-in_default-clause-full g c =
-    rw (full_unless_enqueued c.do_job.result c.do_job.ensures.does c.in_default.not-Enqueued) at c.do_job.ensures.does
+pub returns-in_default : goal.returns-in_default
+returns-in_default g c =
+    let done = c.do_job.ensures in
+    let fits = ends_as_its_kind queue_plan enqueues enqueues_on Fits ends_fit (Job.Enqueue c.args.n) _ done.does in
+    rw (fits c.in_default.not-Enqueued) at done

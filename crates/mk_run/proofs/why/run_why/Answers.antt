@@ -6,7 +6,8 @@ use Rattle.mk_why.specs.States.{WhyState}
 use Rattle.mk_run.proofs.why.run_why.Goals as goal
 
 pub returns-clause-said : goal.returns-clause-said
-returns-clause-said g c = said_by_inner (λ (why : WhyState _). why.inner) (λ why w told. told.0) c.in_ok-ran.ensures.said
+returns-clause-said g c =
+    said_by_inner (λ (why : WhyState _). why.inner) (λ why w told. told.0) c.in_ok-ran.ensures.said
 
 pub returns-clause-finished : goal.returns-clause-finished
 returns-clause-finished g c off =

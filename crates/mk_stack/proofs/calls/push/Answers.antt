@@ -1,7 +1,10 @@
-use Rattle.mk_stack.proofs.Fitting.{full_unless_pushed}
+use Rattle.mk_jobs.proofs.JobKinds.{ends_as_its_kind}
+use Rattle.mk_stack.specs.{Points.stack_plan, declared.jobs.Job.{Job}}
+use Rattle.mk_stack.proofs.Fitting.{Fits, ends_fit, pushes, pushes_on}
 use Rattle.mk_stack.proofs.calls.push.Goals as goal
 
-pub returns-in_default-clause-full : goal.returns-in_default-clause-full
-returns-in_default-clause-full g c =
-    let does = c.do_job.ensures.does in
-    rw (full_unless_pushed c.args.n c.do_job.result does c.in_default.not-Pushed) at does
+pub returns-in_default : goal.returns-in_default
+returns-in_default g c =
+    let done = c.do_job.ensures in
+    let fits = ends_as_its_kind stack_plan pushes pushes_on Fits ends_fit (Job.Push c.args.n) _ done.does in
+    rw (fits c.in_default.not-Pushed) at done

@@ -16,5 +16,5 @@ returns-clause-unswept g c =
     let begin = c.begin_cycle in
     let finish = c.finish_cycle-turn in
     releases_unswept c.args.turn.pass begin.new.turn.pass finish.result.0.pass _ begin.ensures.law.pass
-    begin.ensures.last (ap (λ (x : Steady). x.phase) begin.ensures.law.steady) finish.ensures.closed c.args.turn.in_order.own c.requires.markers finish.ensures.law.pass
-    finish.result.0.in_order.history
+    begin.ensures.last (ap (λ (x : Steady). x.phase) begin.ensures.law.steady) finish.ensures.closed
+    c.args.turn.in_order.own c.requires.markers finish.ensures.law.pass finish.result.0.in_order.history

@@ -1,5 +1,5 @@
-use Rattle.mk_why.proofs.{Vocabulary.AreEntriesBelow, MadeEntries.{entries_more, no_entries}}
-use Rattle.mk_sweep.proofs.Below.Laws.Vocabulary.{ap, arith, length, subst, ◌∙◌, ◌≡◌}
+use Rattle.mk_why.proofs.{Vocabulary.{AreEntriesBelow, Storage}, MadeEntries.{entries_end, entries_more, no_entries}}
+use Rattle.mk_sweep.proofs.Below.Laws.Vocabulary.{Option, ap, arith, slice_index_or, subst, ◌∙◌, ◌≡◌}
 use Rattle.mk_why.proofs.entries.list_entries.Goals as goal
 
 pub loop-base-init : goal.loop-base-init
@@ -16,6 +16,10 @@ loop-base-preserved c = record {
 
 pub returns-clause-kept : goal.returns-clause-kept
 returns-clause-kept c k v told =
-    let end = c.loop-base-test.false in
-    let at_end : c.loop-base.base ≡ length c.args.tables.now.kept.items = omega arith in
-    subst (λ n. AreEntriesBelow k v n c.loop-base.entries.items) at_end (c.loop-base.invariant.below k v told)
+    let past = c.loop-base-test.false in
+    let at_end : c.loop-base.base ≡ c.end-base-end.result = omega arith in
+    let kept = c.args.tables.now.kept in
+    entries_end told c.end-base-end.ensures.within
+    (λ place high. subst (λ (d : Option Storage). slice_index_or kept.items place d ≡ d) c.args.tables.now.none_kept
+    (c.end-base-end.ensures.rest place high))
+    (subst (λ n. AreEntriesBelow k v n c.loop-base.entries.items) at_end (c.loop-base.invariant.below k v told))

@@ -8,7 +8,8 @@ use Rattle.mk_heap.proofs.MovedHosts.{finish_moves, idle_moves, moved_is_host, m
 use Rattle.mk_heap.proofs.Overs.{cycle_idle, give_allowed, given_no_turn, given_phase, idle_may_give}
 use Rattle.mk_heap.proofs.{BegunHosts.{cycle_begun, idle_then_sweeps}, HostsKept.{home_is, home_view, is_home}}
 use Rattle.mk_heap.{proofs.hosts.Host.cycle.Goals.{After-finish_cycle-turn}, specs.Hosts.{HostState}}
-use Rattle.mk_alloc.{proofs.SaidCloses.{begin_says_none, finish_says, said_then}, specs.Closes.{EachIsFinished, EachIsSaid}}
+use Rattle.mk_alloc.proofs.SaidCloses.{begin_says_none, finish_says, said_then}
+use Rattle.mk_alloc.specs.Closes.{EachIsFinished, EachIsSaid}
 use Rattle.mk_heap.proofs.{FinishedHosts.cycle_finished, SaidHosts.{idle_then_says, step_says_none}}
 use Rattle.mk_heap.proofs.hosts.Host.cycle.Goals as goal
 
