@@ -2,7 +2,7 @@
 use Rattle.mk_laws.proofs.Vocabulary.{List, None, Null, Option, Ptr, Some, Value, get_or, global_at, number_of}
 use Rattle.mk_laws.proofs.Vocabulary.{register_at, suc, word_at, zero, ℕ, [], ◌∷◌, ◌≡◌, ◌≢◌, ◌⊎◌}
 use Rattle.mk_jobs.specs.Keeping.{Public, World}
-use Rattle.mk_jobs.proofs.Having.{HasOwn, HasRoot, HasWord, IsFounder, IsPassed, IsShownOf, PointsTo, Relies}
+use Rattle.mk_jobs.proofs.Having.{HasOwn, HasRoot, IsFounder, IsPassed, IsShownOf, PointsTo, Relies}
 use Rattle.mk_jobs.proofs.{Roots.{IsChecked, IsShared}, Rows.HasRow}
 use Rattle.mk_queue.specs.declared.{jobs.Done.{Done}, jobs.Job.{Job}, points.Point.{Point}}
 
@@ -12,25 +12,29 @@ Final zero v = Unit {0}
 Final (suc i) v = v ≢ Null
 
 -- A node that head has left is linked to a node.
-abbrev pub PassedAreLinked : World → Type 0
-PassedAreLinked w = (a : ℕ) → IsShownOf w 0 a → w.role a ≢ Public → PointsTo w 0 (word_at w.n a 1)
+abbrev pub IsLinkedIfPassed : World → ℕ → Type 0
+IsLinkedIfPassed w a = (w.role a ≡ Public) ⊎ PointsTo w 0 (word_at w.n a 1)
 
 -- From head of the ends e on, a dummy and the nodes with these numbers are linked. Tail points to a node.
 pub record IsQueue (w : World) (e : ℕ) (xs : List ℕ) : Type 0 where
-  pub nodes : List ℕ
+  pub dummy : ℕ
   pub of_dummy : ℕ
-  pub row : HasRow w 1 0 0 1 0 e nodes (of_dummy ∷ xs)
+  pub nodes : List ℕ
+  pub row : HasRow w 1 0 0 1 0 e (dummy ∷ nodes) (of_dummy ∷ xs)
   pub tail : PointsTo w 0 (word_at w.n e 1)
-  pub passed : PassedAreLinked w
+  pub passed : (a : ℕ) → IsShownOf w 0 a → IsLinkedIfPassed w a
 
 abbrev pub Shared : World → List ℕ → Type 0
 Shared = IsShared 1 0 [] IsQueue
 
--- What an operation of caller j leaves to the others: head goes on only from what is passed then.
+-- Head of the ends e goes on only from what is passed then.
+abbrev pub GoesOn : World → World → ℕ → Type 0
+GoesOn w w' e = (a : ℕ) → word_at w.n e 0 ≡ Ptr a 0 0 → (word_at w'.n e 0 ≡ Ptr a 0 0) ⊎ IsPassed (w'.role a)
+
+-- What an operation of caller j leaves to the others
 pub record Rely (j : ℕ) (w w' : World) : Type 0 where
   pub stays : Relies Final 0 j w w'
-  pub head : (e a : ℕ) → global_at w.n 0 ≡ Ptr e 1 0 → word_at w.n e 0 ≡ Ptr a 0 0
-      → (word_at w'.n e 0 ≡ Ptr a 0 0) ⊎ IsPassed (w'.role a)
+  pub head : (e : ℕ) → global_at w.n 0 ≡ Ptr e 1 0 → GoesOn w w' e
 
 -- A node that is linked to none, and one with this number as well
 abbrev pub IsLast : List Value → Type 0
@@ -51,6 +55,10 @@ HasEnds w k u = (u ≡ None) × HasRoot w k 0 1
 abbrev pub IsEnqueuing : World → ℕ → (List Value → Type 0) → Option Done → Type 0
 IsEnqueuing w k Also u = HasEnds w k u × HasOwn w k 1 0 Also
 
+-- and with one in register 2 that was the tail when it was loaded,
+abbrev pub HasTail : World → ℕ → ℕ → Option Done → Type 0
+HasTail w k m u = IsEnqueuing w k (IsNumbered m) u × PointsTo w 0 (register_at w.n k 2)
+
 -- or with a node in register 2 that was the dummy when it was loaded,
 pub record HasHead (w : World) (k : ℕ) (u : Option Done) : Type 0 where
   pub ends : HasEnds w k u
@@ -65,9 +73,8 @@ pub record HasNext (w : World) (k : ℕ) (u : Option Done) : Type 0 where
 
 -- The number of the node in register 3 is what became of its dequeue.
 pub record HasTaken (w : World) (k : ℕ) (u : Option Done) : Type 0 where
-  pub number : Value
-  pub word : HasWord Final w 0 0 (register_at w.n k 3) number
-  pub owes : u ≡ Some (Done.Dequeued (number_of number))
+  pub node : PointsTo w 0 (register_at w.n k 3)
+  pub owes : u ≡ Some (Done.Dequeued (number_of (word_at w.n node.a 0)))
 
 -- what a job ends with where there are no ends
 abbrev pub done_without : Job → Done
@@ -88,14 +95,10 @@ Local w k (Point.Checking j) u = IsChecked 1 w k (done_without j) u
 Local w k (Point.Making m) u = HasEnds w k u
 Local w k (Point.Filling m) u = IsEnqueuing w k IsLast u
 Local w k (Point.Loading m) u = IsEnqueuing w k (IsNumbered m) u
-Local w k (Point.Following m) u = IsEnqueuing w k (IsNumbered m) u × PointsTo w 0 (register_at w.n k 2)
-Local w k (Point.Testing m) u =
-    IsEnqueuing w k (IsNumbered m) u × PointsTo w 0 (register_at w.n k 2)
-    × ((register_at w.n k 3 ≡ Null) ⊎ PointsTo w 0 (register_at w.n k 3))
-Local w k (Point.Linking m) u =
-    IsEnqueuing w k (IsNumbered m) u × PointsTo w 0 (register_at w.n k 2) × (register_at w.n k 3 ≡ Null)
-Local w k Point.Swinging u =
-    (u ≡ Some Done.Enqueued) × HasRoot w k 0 1 × PointsTo w 0 (register_at w.n k 1)
+Local w k (Point.Following m) u = HasTail w k m u
+Local w k (Point.Testing m) u = HasTail w k m u × ((register_at w.n k 3 ≡ Null) ⊎ PointsTo w 0 (register_at w.n k 3))
+Local w k (Point.Linking m) u = HasTail w k m u × (register_at w.n k 3 ≡ Null)
+Local w k Point.Swinging u = (u ≡ Some Done.Enqueued) × HasRoot w k 0 1 × PointsTo w 0 (register_at w.n k 1)
 Local w k (Point.Helping m) u = IsEnqueuing w k (IsNumbered m) u × PointsTo w 0 (register_at w.n k 3)
 Local w k Point.Heading u = HasEnds w k u
 Local w k Point.Peeking u = HasHead w k u

@@ -2,12 +2,11 @@
 use Rattle.mk_laws.proofs.Vocabulary.{List, None, Option, Some, inl, inr, refl, word_at, ℕ, [], ◌∙◌, ◌∷◌, ◌≡◌}
 use Rattle.mk_jobs.specs.{Keeping.{Keeps, Public, World}, Laws.{IsAlwaysExplained, IsOneOf}}
 use Rattle.mk_jobs.specs.declared.steps.Step.{Step}
-use Rattle.mk_jobs.proofs.{Chains.linked, Explained.explained, Roots.unshared, Rows.{HasRow, part_role}}
-use Rattle.mk_queue.specs.{Points.{queue_is_typed, queue_plan, step_of}, Queue.{HasNodes, HasNumbers, left_by}}
+use Rattle.mk_jobs.proofs.{Chains.linked, Explained.explained, Roots.unshared, Rows.part_role}
+use Rattle.mk_queue.specs.{Points.{queue_is_typed, queue_plan, step_of}, Queue.{HasNumbers, left_by}}
 use Rattle.mk_queue.specs.declared.{jobs.Done.{Done}, jobs.Job.{Job}, points.Point.{Point}}
 use Rattle.mk_queue.proofs.Invariant.{Local, Rely, Shared, job_at}
 use Rattle.mk_queue.proofs.{Changing.covered, Moving.moves, Staying.stays}
-use Rattle.mk_never.specs.{declared.values.Value.TheVariants.Ptr, NeverHeap.global_at}
 
 ends : (w : World) (k : ℕ) (s : Point) (u : Option Done) (d : Done) (j : Job) → Local w k s u → step_of s ≡ Step.End d
     → (u ≡ None → job_at s ≡ Some j) → u ≡ Some d
@@ -17,25 +16,24 @@ ends w k (Point.Checking (Job.Enqueue m)) u d j local is at = absurd (cc is)
 ends w k (Point.Checking Job.Dequeue) u d j local is at = absurd (cc is)
 ends w k _ u d j local is at = absurd (cc is)
 
-has_nodes : {w : World} {e m : ℕ} {nodes x : List ℕ} → global_at w.n 0 ≡ Ptr e 1 0
-    → HasRow w 1 0 0 1 0 e nodes (m ∷ x) → HasNodes w.n (e ∷ nodes) x
-has_nodes {nodes = []} global row = absurd (cc row.numbers)
-has_nodes {w} {e} {nodes = a ∷ nodes} global row = record {
-  ends = e;
-  dummy = a;
-  nodes = nodes;
-  global = global;
-  linked = linked w 0 1 (word_at w.n e 0) (a ∷ nodes) row.chain;
-  are_parts = refl;
-  numbers = (let y = row.numbers in cc y);
-}
-
 contains : (w : World) (x : List ℕ) → Shared w x → (parts : List ℕ) × HasNumbers w.n parts x
     × ((a : ℕ) → w.role a ≡ Public → IsOneOf a parts) × ((a : ℕ) → IsOneOf a parts → w.role a ≡ Public)
 contains w x (inl none) =
     ([], inl (none.global, refl, none.none_left), (λ a e. absurd (none.none_shared a e)), (λ a one. absurd one))
-contains w x (inr q) =
-    (q.t ∷ q.is.nodes, inr (has_nodes q.global q.is.row), q.is.row.all, part_role q.is.row)
+contains w x (inr q) = (
+  q.t ∷ q.is.dummy ∷ q.is.nodes,
+  inr (record {
+    ends = q.t;
+    dummy = q.is.dummy;
+    nodes = q.is.nodes;
+    global = q.global;
+    linked = linked w 0 1 (word_at w.n q.t 0) (q.is.dummy ∷ q.is.nodes) q.is.row.chain;
+    are_parts = refl;
+    numbers = (let y = q.is.row.numbers in cc y);
+  }),
+  q.is.row.all,
+  part_role q.is.row,
+)
 
 pub queue_keeps : Keeps queue_plan left_by [] HasNumbers Shared Local Rely job_at
 queue_keeps = record {
