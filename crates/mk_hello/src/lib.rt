@@ -1,3 +1,4 @@
+#![tactic(auto)]
 //! A first program on a heap: an object of one number.
 //! What it loads is the number that it stored, or null if the heap was full.
 //! Start with `hello`, which is all of it.
@@ -13,7 +14,6 @@ use std::sync::Wait;
 use std::thread::Threads;
 
 /// Makes an object, stores 42 in it, loads it, frees the object and closes the heap.
-#[tactic(auto)]
 pub fn hello<R: Threads + Wait + Sync>(rt: &R, alloc: Global) -> Result<Answer, NoMemory>
     ensures { IfOk result (λ loaded. (loaded ≡ answer.Num 42) ⊎ (loaded ≡ answer.Null)) }
 {
