@@ -7,7 +7,7 @@ use Rattle.mk_core.specs.{Frames.Steady, Moments.is_held, StopConditions.has_set
 use Rattle.mk_core.specs.Words.{header_at, quarantine_word, used_at}
 use Rattle.mk_books.specs.Members.{has_freed_cells}
 use Rattle.mk_words.specs.{Below.Laws.{RunCounts.run_count, FreeWords.IsWordOfMapped}, Doing.Does}
-use Rattle.mk_words.specs.States.{PassState, WordsState, world_of, now_of}
+use Rattle.mk_words.specs.States.{IsTurn, PassState, WordsState, world_of, now_of}
 use Rattle.mk_cycle.specs.{EngineLaw.IsTurnAmong, Kinds.is_giving_back, TurnKeeps.LeavesTurn}
 
 -- without what is given back, and the count of fresh words
@@ -95,6 +95,15 @@ pub record GivesBack (page : ℕ) (p q : PassState) : Type 0 where
   pub header : header_at (now_of q).words page ≡ header_at (now_of p).words page
   pub none_left : left_unmarked (now_of q).words page ≡ 0
 
+-- On such a turn this was done on the page, and on the pages before it: no released cell is left on it, or at the head
+-- of its run.
+pub record HasGivenBackOn (w : WordsState) (p : PassState) (pages page header : ℕ) : Type 0 where
+  pub turn : IsTurnAmong 4 w p pages
+  pub within : page < w.config.pages
+  pub is_header : header ≡ header_at (now_of p).words page
+  pub none_left : left_unmarked (now_of p).words page ≡ 0
+  pub none_at_head : left_unmarked (now_of p).words (head_page (now_of p).words page) ≡ 0
+
 -- No cell of the page is released, and its run has a used cell, if it has a header.
 abbrev pub IsSettledPage : PassState → ℕ → Type 0
 IsSettledPage p page = has_settled_page (now_of p).words page ≡ true
@@ -111,18 +120,19 @@ IsOccupied p page = is_occupied_page (now_of p).words page ≡ true
 abbrev pub may_be_unsettled : Words → ℕ → ℕ → Bool
 may_be_unsettled w end page = nat_lt page end || has_freed_cells w.freed page
 
--- The later pages of a run, from one on and below another, may be freed: no cell is used at its head or released there,
--- and none of them has freed cells.
-pub record MayFreeRest (head from to : ℕ) (p : PassState) : Type 0 where
-  pub after : head < from
-  pub unused : used_at (now_of p).words head ≡ 0
-  pub none_left : left_unmarked (now_of p).words head ≡ 0
-  pub bare : (r : ℕ) → from ≤ r → r < to → has_freed_cells (now_of p).words.freed r ≡ false
-
--- They were freed: they are settled, had no freed cells and headed no run, and all other pages are as they were.
+-- The later pages of a run, from one on and below another, were freed: they are settled, had no freed cells and headed
+-- no run, and all other pages are as they were.
 pub record FreesRest (from to : ℕ) (p q : PassState) : Type 0 where
   pub frees : Frees p q
   pub others : (r : ℕ) → (from ≤ r → r < to → ⊥) → SamePage p q r
   pub settled : (r : ℕ) → from ≤ r → r < to → IsSettledPage q r
   pub bare : (r : ℕ) → from ≤ r → r < to → has_freed_cells (now_of p).words.freed r ≡ false
   pub later : (r : ℕ) → from ≤ r → r < to → run_count (header_in (now_of p).words r) ≡ 0
+
+-- A page was freed, or stays in use, and is settled since; then the rest of its run was freed, up to this end.
+pub record FreesRun (head end : ℕ) (p q : PassState) : Type 0 where
+  pub between : PassState
+  pub turn : IsTurn between
+  pub frees_head : FreesPage head p between
+  pub settled : IsSettledPage between head
+  pub frees_rest : FreesRest (head + 1) end between q

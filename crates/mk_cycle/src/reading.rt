@@ -4,6 +4,7 @@ ghost use Rattle.std.specs.Prelude.{◌≡◌, ◌+◌, ◌*◌, ◌≤◌};
 ghost use Rattle.mk_core.specs.{Cells.{is_unmapped_header, words_under}, Counts.in_a_word};
 ghost use Rattle.mk_geom.specs.{Addresses.head_page_under, Headers.header_of};
 ghost use Rattle.mk_words.specs.Below.Laws.RunCounts.{run_count};
+ghost use Rattle.mk_cycle.specs.ReadHeaders.{heads_unmapped_pages};
 
 use mk_geom::{Header, PAGE_WORDS, class_words, decode};
 use std::marker::Model;
@@ -101,6 +102,14 @@ impl ReadHeader {
         ensures { result ≡ is_unmapped_header (header_of self.now) }
     {
         self.unmapped
+    }
+
+    /// Whether an unmapped run of several pages has its head at the page.
+    #[inline(always)]
+    pub(crate) fn heads_unmapped_pages(&self) -> bool
+        ensures { result ≡ heads_unmapped_pages (header_of self.now) }
+    {
+        self.unmapped && self.pages > 1
     }
 
     /// The head page of the run that the page is of; another page is its own.

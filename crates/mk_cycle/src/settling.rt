@@ -1,14 +1,13 @@
 //! Page by page, what was released is counted and given back, and pages on which nothing is left are freed: in one
 //! pass, which looks at the pages that have freed cells, and at the later pages of their runs.
 ghost use Rattle.std.specs.Prelude.{◌≡◌, ◌<◌, ◌≤◌, ◌+◌, ◌-◌, ℕ, Some, true, false};
-ghost use Rattle.mk_core.specs.Cells.{head_page, header_in, left_unmarked};
+ghost use Rattle.mk_core.specs.{Cells.{head_page, header_in, left_unmarked}, Words.used_at};
 ghost use Rattle.mk_geom.specs.declared.headers.Header.TheVariants.{Later};
 ghost use Rattle.mk_books.specs.Members.{IsNext};
 ghost use Rattle.mk_words.specs.States.{now_of};
-ghost use Rattle.mk_cycle.specs.{EngineLaw.{IsTurnAmong, IsTurnAt}, Freeing.{Frees, FreesPage, FreesRest}};
-ghost use Rattle.mk_cycle.specs.Freeing.{HasFreeCells, IsOccupied, MayFreeRest};
-ghost use Rattle.mk_cycle.specs.Freeing.{IsSettledPage, MayGiveBackOn, may_be_unsettled};
-ghost use Rattle.mk_cycle.specs.ReleasedPages.{WasReleasedOn, held_below, released_below};
+ghost use Rattle.mk_cycle.specs.{EngineLaw.{IsTurnAmong, IsTurnAt}, Freeing.{Frees, FreesPage, FreesRun}};
+ghost use Rattle.mk_cycle.specs.Freeing.{HasFreeCells, HasGivenBackOn, IsOccupied, IsSettledPage, may_be_unsettled};
+ghost use Rattle.mk_cycle.specs.{ReadHeaders.heads_unmapped_pages, ReleasedPages.{held_below, released_below}};
 
 use crate::finishing::Released;
 use crate::freeing::release_cells;
@@ -37,26 +36,6 @@ fn free_unused(turn: &mut Turn, words: &Words, page: u64, head: u64)
     if turn.page(head).used == 0 {
         turn.head(words, page, 0);
     }
-}
-
-/// Gives back the released cells of a page with this header word, and frees it if nothing is left on it.
-#[inline(always)]
-fn settle_taken(
-    turn: &mut Turn,
-    words: &Words,
-    pages: u64,
-    page: u64,
-    header: &ReadHeader,
-) -> Settled
-    requires may { MayGiveBackOn words.now turn.old.pass pages page header.now }
-    requires settled { (r : ℕ) → r < page → IsSettledPage turn.old.pass r }
-    ensures frees { FreesPage page turn.old.pass turn.new.pass }
-    ensures settled { IsSettledPage turn.new.pass page }
-    ensures told { WasReleasedOn (now_of turn.old.pass).words page result.released result.held }
-{
-    let here = release_cells(turn, words, pages, page, header);
-    free_unused(turn, words, page, header.head_page(page));
-    here
 }
 
 /// Whether a page is one of the unmapped run that is headed so far before it.
@@ -94,44 +73,44 @@ fn later_end(turn: &Turn, head: u64, from: u64, to: u64) -> u64
     to
 }
 
-/// Frees later pages of an unmapped run, from one on and below another, as far as they are its pages. Returns where it
-/// has ended. No cell is used at the head, and no page has freed cells.
+/// Frees an unmapped run of several pages on which no cell is used, up to this end: its head, and then its later pages
+/// up to the first that has freed cells. Returns the first page that it left. Nothing was released on a page without
+/// freed cells, so it isn't looked at.
 #[inline(always)]
-fn free_later_pages(turn: &mut Turn, words: &Words, head: u64, from: u64, to: u64) -> u64
-    requires turn { IsTurnAt 4 words.now turn.old.pass }
-    requires within { to ≤ words.now.config.pages }
-    requires near { to ≤ head + 64 }
-    requires some { from ≤ to }
-    requires rest { MayFreeRest head from to turn.old.pass }
-    ensures begun { from ≤ result }
-    ensures ends { result ≤ words.now.config.pages }
-    ensures frees { FreesRest from result turn.old.pass turn.new.pass }
-{
-    let end = later_end(turn, head, from, to);
-    if from < end {
-        turn.free_pages(words, from, end - from);
-    }
-    end
-}
-
-/// Frees the later pages of the run of a page that is settled, up to this end, if no cell of it is used. Returns the
-/// first that it left. Nothing was released on a page without freed cells, so it isn't looked at.
-#[inline(always)]
-fn free_rest(turn: &mut Turn, words: &Words, pages: u64, head: u64, end: u64) -> u64
+fn free_run(turn: &mut Turn, words: &Words, pages: u64, head: u64, end: u64) -> u64
     requires turn { IsTurnAmong 4 words.now turn.old.pass pages }
     requires within { head < words.now.config.pages }
+    requires some { head < end }
+    requires heads { heads_unmapped_pages (header_in (now_of turn.old.pass).words head) ≡ true }
+    requires unused { used_at (now_of turn.old.pass).words head ≡ 0 }
     requires none_left { left_unmarked (now_of turn.old.pass).words head ≡ 0 }
     ensures begun { head < result }
     ensures ends { result ≤ words.now.config.pages }
-    ensures frees { FreesRest (head + 1) result turn.old.pass turn.new.pass }
+    ensures frees { FreesRun head result turn.old.pass turn.new.pass }
 {
     words.is_within_limits();
     let from = head + 1;
-    if end <= from || turn.page(head).used != 0 {
-        return from;
-    }
     let next = turn.next_quarantined(from).unwrap_or(pages);
-    free_later_pages(turn, words, head, from, end.min(next).min(head + 64))
+    let last = later_end(turn, head, from, end.min(next).min(head + 64));
+    turn.free_pages(words, head, last - head);
+    last
+}
+
+/// Frees a page whose released cells were given back, if no cell is used at the head of its run. If it heads an
+/// unmapped run of several pages, later pages of it are freed too. Returns the first page that it left.
+#[inline(always)]
+fn free_emptied(turn: &mut Turn, words: &Words, pages: u64, page: u64, header: &ReadHeader) -> u64
+    requires gave { HasGivenBackOn words.now turn.old.pass pages page header.now }
+    ensures begun { page < result }
+    ensures ends { result ≤ words.now.config.pages }
+    ensures frees { FreesRun page result turn.old.pass turn.new.pass }
+{
+    words.is_within_limits();
+    if header.heads_unmapped_pages() && turn.page(page).used == 0 {
+        return free_run(turn, words, pages, page, header.run_end(page));
+    }
+    free_unused(turn, words, page, header.head_page(page));
+    page + 1
 }
 
 /// The next page, from this one on, that may be unsettled: up to the end of a run each may be, and after it those that
@@ -175,13 +154,13 @@ pub(crate) fn settle_pages(turn: &mut Turn, words: &Words) -> Settled
     while let Some(page) = next_to_settle(turn, pages, from, end) {
         let word = turn.page(page).header;
         let header = ReadHeader::of(word);
-        let here = settle_taken(turn, words, pages, page, &header);
+        let here = release_cells(turn, words, pages, page, &header);
         all.count += here.released.count;
         all.words += here.released.words;
         all.kept += here.released.kept;
         held += here.held;
         end = end.max(header.run_end(page));
-        from = free_rest(turn, words, pages, page, end);
+        from = free_emptied(turn, words, pages, page, &header);
     }
     Settled {
         released: all,

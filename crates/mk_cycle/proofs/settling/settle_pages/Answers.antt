@@ -1,9 +1,10 @@
 use Rattle.mk_words.proofs.Below.Laws.Vocabulary.{Page, ℕ, ap, arith, header_in, in_a_word, run_count, ◌+◌, ◌<◌, ◌∙◌}
-use Rattle.mk_words.proofs.Below.Laws.Vocabulary.{◌≡◌}
+use Rattle.mk_words.proofs.Below.Laws.Vocabulary.{sym, ◌≡◌}
 use Rattle.mk_cycle.proofs.{Vocabulary.{PassState, now_of}, PageByPage.{AreSettledBelow, settled_more, settled_none}}
 use Rattle.mk_cycle.proofs.PageByPage.{settled_rest, settled_to}
 use Rattle.mk_cycle.proofs.settling.settle_pages.Goals.{After-page-word, In_default}
-use Rattle.mk_cycle.proofs.FreeingSteps.{freed_table}
+use Rattle.mk_cycle.proofs.{FreeingSteps.{freed_table, freed_turn}, PageSteps.page_then}
+use Rattle.mk_cycle.proofs.SettledPages.{head_before, none_at}
 use Rattle.mk_cycle.proofs.settling.settle_pages.Goals as goal
 
 pub loop-page-init : goal.loop-page-init
@@ -28,13 +29,31 @@ to_next c =
     settled_to _ c.loop-page.turn.in_order c.loop-page.from c.in-Some.page c.loop-page.end _ next.0
     (omega (arith, within, same_pages)) next.3 i.settled
 
-pub settle_taken-here-requires-clause-settled : goal.settle_taken-here-requires-clause-settled
-settle_taken-here-requires-clause-settled c = grind (arith, to_next)
+pub free_emptied-from-requires : goal.free_emptied-from-requires
+free_emptied-from-requires c =
+    let before = to_next (goal.at.free_emptied-from-requires c).After-page-word in
+    let gives = c.release_cells-here.ensures.gives in
+    let same_pages : c.loop-page.turn.pass.table.config.pages ≡ c.args.words.now.config.pages =
+    grind (arith, freed_table) in
+    let within = c.in-Some.ensures.1 in
+    let h = c.of-header.ensures ∙ ap (λ (y : Page). y.header) c.page-word.ensures in
+    record {
+      gave = record {
+        turn = record {
+          is_turn = freed_turn gives.frees.frees (freed_turn before.frees c.requires.turn);
+          count = c.pages-pages.ensures;
+        };
+        within = omega (arith, within, same_pages);
+        is_header = h ∙ sym gives.header;
+        none_left = gives.none_left;
+        none_at_head = none_at _ gives (head_before _ _) before.settled;
+      };
+    }
 
 pub loop-page-preserved : goal.loop-page-preserved
 loop-page-preserved c =
     let i = c.loop-page.invariant in
-    let x = c.settle_taken-here.ensures in
+    let x = c.release_cells-here.ensures in
     let p : PassState = c.args.turn.now.pass in
     let q : PassState = c.loop-page.turn.pass in
     let n : ℕ = c.in-Some.page in
@@ -47,14 +66,16 @@ loop-page-preserved c =
     let end : c.run_end.result ≡ in_a_word (n + run_count (header_in (now_of q).words n)) = grind arith in
     let furthest = c.max-end.ensures in
     let limits = c.is_within_limits.ensures in
-    let rest = c.free_rest-from.ensures in
-    let past = rest.begun in
+    let emptied = c.free_emptied-from.ensures in
+    let past = emptied.begun in
+    let run = emptied.frees in
     record {
-      begun = rest.ends;
-      settled = settled_rest p c.settle_taken-here.new.turn.in_order (n + 1) c.free_rest-from.result
-          (omega (arith, past)) rest.frees (settled_more p pages x.frees c.loop-page.turn.in_order c.max-end.result
+      begun = emptied.ends;
+      settled = settled_rest p run.turn (n + 1) c.free_emptied-from.result
+          (omega (arith, past)) run.frees_rest (settled_more p pages (page_then x.gives.frees run.frees_head)
+          c.loop-page.turn.in_order c.max-end.result
           (omega (arith, furthest)) (λ s far lt few. omega (arith, end, furthest, far, few, limits))
-          c.settle_taken-here.result.released c.settle_taken-here.result.held before x.settled x.told.released
+          c.release_cells-here.result.released c.release_cells-here.result.held before run.settled x.told.released
           x.told.held);
       count = omega (arith, i.count, x.told.few.count, after, past);
       words = omega (arith, i.words, x.told.few.words, after, past);
