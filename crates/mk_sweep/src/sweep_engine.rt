@@ -32,15 +32,13 @@ impl SweepEngine {
 }
 
 impl Engine for SweepEngine {
-    ghost ways = {
-        record {
-            on = false;
-            sweeps = true;
-            begins = DoesNothing;
-            tells = λ engine c w. SweptAreMarked c w;
-            closes = λ engine p q. Sweeps p q engine.looks;
-        }
-    };
+    ghost ways = { record {
+      on = false;
+      sweeps = true;
+      begins = DoesNothing;
+      tells = λ engine c w. SweptAreMarked c w;
+      closes = λ engine p q. Sweeps p q engine.looks;
+    } };
 
     ghost made_for = { λ engine. engine.pages };
 

@@ -41,7 +41,7 @@ impl<E: Engine> Model for Why<E> {
 impl<E: Engine> Why<E> {
     /// What the last `close_marks` found kept, and why. Before the first the list is empty.
     pub fn kept(&self, alloc: Global) -> Result<Vec<Kept>, NoMemory>
-        ensures kept { (c : Config) (w : World) → ⟦<Why<E> as Engine>⟧.tells self.now c w
+        ensures kept { (c : Config) (w : World) → ⟦<Why<E> as Engine>⟧.ways.tells self.now c w
             → IfOk result (λ entries. AreKept c w entries.items) }
         ensures none { HasKeptNothing self.now → IfOk result (λ entries. entries.items ≡ []) }
     {
@@ -50,15 +50,13 @@ impl<E: Engine> Why<E> {
 }
 
 impl<E: Engine> Engine for Why<E> {
-    ghost ways = {
-        record {
-            on = E.ways.on;
-            sweeps = E.ways.sweeps;
-            begins = E.ways.begins;
-            tells = λ why c w. IsToldBefore (E.ways.tells why.inner) c w × IsTold c why.found why.kept (view_of w);
-            closes = λ why p q. IsClosedBefore (E.ways.closes why.inner) p q;
-        }
-    };
+    ghost ways = { record {
+      on = E.ways.on;
+      sweeps = E.ways.sweeps;
+      begins = E.ways.begins;
+      tells = λ why c w. IsToldBefore (E.ways.tells why.inner) c w × IsTold c why.found why.kept (view_of w);
+      closes = λ why p q. IsClosedBefore (E.ways.closes why.inner) p q;
+    } };
 
     ghost made_for = { λ why. pages_for (E.made_for why.inner) (length why.found) };
 
