@@ -14,7 +14,6 @@ use Rattle.mk_alloc.proofs.DueParts.{RunIn, at_behind, end_at, ends_before, run_
 use Rattle.mk_alloc.proofs.{Going.{IsCallers, callers_then, same_phase, then_on}, ListParts.{InFirst, InSecond, IsAt}}
 use Rattle.mk_alloc.proofs.ListParts.{Lacks, SomeKind, cycle_in, lacks_append, lacks_at, lacks_first, none_at, only_at}
 use Rattle.mk_alloc.proofs.{ListParts.stands, Parts.{Part, part_lacks, seen_by, seen_then}}
-use Rattle.mk_alloc.proofs.Vocabulary.{World}
 use Rattle.mk_alloc.proofs.UnsweptTurns.{kinds_keep, kinds_yet, turn_keeps, turn_keeps_yet}
 use Rattle.mk_alloc.proofs.CycleParts.{EndsIn, begins_held}
 use Rattle.mk_alloc.{proofs.Stretches.{SomeKinds, Within}, specs.TurnCycles.{CycleIsOn}, specs.Underway.KeepsYet}
@@ -22,6 +21,7 @@ use Rattle.mk_caller.proofs.Below.Laws.Vocabulary.{register_at}
 use Rattle.mk_alloc.specs.{Retired.{DecidesFree, FindsFreed, Retires}, Retiring.{IsUnloaded, is_freeing, is_loading}}
 use Rattle.mk_never.specs.Admitted.{IsBase}
 use Rattle.mk_core.specs.Cycles.{BeginsAndEndsIn, BeginsIn}
+use Rattle.mk_cycle.specs.Ways.{Ways}
 use Rattle.mk_caller.specs.States as caller
 
 -- What the turn of a Free does with cycles, by the events after its `take`.
@@ -278,9 +278,7 @@ module _ {flag due : Bool} {r : ℕ} {p taken retired done : PassState} (f : Fre
     abbrev given : GivenBack (Op.Free r) Answer.Done p taken done q
     given = record { took = f.took; fresh = f.begins.fresh; on = freed; gives = gives; rests = rests }
 
-    pub freed_keeps : {V : Type 0} {sweeps : Bool} {begins : Config → Seat → List Event → List Event → Type 0}
-        {on : Bool} {tells : V → Config → World → Type 0} {closes : V → PassState → PassState → Type 0}
-        → KeepsYet on sweeps begins tells closes retired done → PassKeeps on sweeps begins tells closes p q
+    pub freed_keeps : {V : Type 0} {ways : Ways V} → KeepsYet ways retired done → PassKeeps ways p q
     freed_keeps run = turn_keeps_yet given (kinds_yet (λ x h. grind arith) f.retires.decides.does run)
 
     told : IsDueIn (turn_of given) → due ≡ true
@@ -320,9 +318,7 @@ module _ {r : ℕ} {p taken done : PassState} (f : Refuses r p taken done) where
     abbrev given_double : GivenBack (Op.Free r) Answer.Double p taken done q
     given_double = record { took = f.took; fresh = f.begins.fresh; on = refused; gives = gives; rests = rests }
 
-    pub refused_keeps : {V : Type 0} {sweeps : Bool} {begins : Config → Seat → List Event → List Event → Type 0}
-        {on : Bool} {tells : V → Config → World → Type 0} {closes : V → PassState → PassState → Type 0}
-        → PassKeeps on sweeps begins tells closes p q
+    pub refused_keeps : {V : Type 0} {ways : Ways V} → PassKeeps ways p q
     refused_keeps = turn_keeps given_double (kinds_keep (λ x h. grind arith) f.finds.decides.does)
 
     loading : Part is_loading taken done

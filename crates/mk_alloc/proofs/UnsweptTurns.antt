@@ -1,11 +1,11 @@
 -- Calls sweep nothing, and what engines keep to in turns.
-use Rattle.mk_alloc.proofs.Vocabulary.{Acts, Answer, BeginsNone, Bool, Config, Does, EndsOlder, Event, FinishesCycle}
-use Rattle.mk_alloc.proofs.Vocabulary.{Has, IsOutOfStop, List, Op, PassKeeps, PassState, Seat, Some, Stage, Step, ap}
+use Rattle.mk_alloc.proofs.Vocabulary.{Acts, Answer, BeginsNone, Bool, Does, EndsOlder, FinishesCycle}
+use Rattle.mk_alloc.proofs.Vocabulary.{IsOutOfStop, Op, PassKeeps, PassState, Some, Stage, Step, ap}
 use Rattle.mk_alloc.proofs.Vocabulary.{arith, false, is_begin, is_take, not, not-true, now_of, only_seen, or_parts}
 use Rattle.mk_alloc.proofs.{Vocabulary.{refl, step_at, true, world_of, ◌||◌, ◌≡◌}, Stretches.{SomeKinds, does_once}}
 use Rattle.mk_alloc.proofs.{CalledTurns.GivenBack, ListParts.none_at, OwnGives.steps_are}
 use Rattle.mk_alloc.proofs.SaidCloses.{does_say_none, finish_says, nothing_said, said_then, unclosed_says_none}
-use Rattle.mk_alloc.proofs.Vocabulary.{IsHistory, IsTurn, World, is_close}
+use Rattle.mk_alloc.proofs.Vocabulary.{IsHistory, IsTurn, is_close}
 use Rattle.mk_alloc.proofs.FinishedCycles.{Never, finished_then, never_by_none, unbegun_finished}
 use Rattle.mk_alloc.specs.{Closes.{EachIsFinished, EachIsSaid}, Rooms.ClosesNone}
 use Rattle.mk_cycle.specs.Telling.{IsToldAtClose}
@@ -13,7 +13,7 @@ use Rattle.mk_core.specs.Cycles.{is_give}
 use Rattle.mk_alloc.specs.{Laws.{CallsSweepNothing, SweepNothingWhereHeld}, Underway.KeepsYet}
 use Rattle.mk_cycle.proofs.Begun.{begun_then, does_begin_none, finish_begins_none, left_then, nothing_begun}
 use Rattle.mk_caller.proofs.Below.Words.Made.{own_before}
-use Rattle.mk_cycle.{proofs.HeldFirst.step_holds, specs.Begun.{EachIsBegunYet, HoldsFirst}}
+use Rattle.mk_cycle.{proofs.HeldFirst.step_holds, specs.{Begun.{EachIsBegunYet, HoldsFirst}, Ways.Ways}}
 use Rattle.mk_caller.proofs.Below.Words.Sweeping.{does_sweep, kinds_sweep, nothing_sweeps, other_step_sweeps}
 use Rattle.mk_caller.proofs.{Below.Words.Sweeping.{step_then_sweeps, sweeps_then}, Below.Words.TakesAlone.taking_does}
 use Rattle.mk_caller.specs.Below.Words.Sweeping.{HaveNoMark, SweepsNothing, is_mark}
@@ -67,27 +67,26 @@ no_closes : {kinds : SomeKinds} → HaveNone kinds → (x : Step) → kinds x �
 no_closes apart x h =
     (or_parts (is_begin x) (is_close x) (or_parts (is_mark x) (is_begin x || is_close x) (apart x h)).1).1
 
-module _ {V : Type 0} {on sweeps : Bool} {begins : Config → Seat → List Event → List Event → Type 0}
-    {tells : V → Config → World → Type 0} {closes : V → PassState → PassState → Type 0} where
-  pub keeps_still : {p : PassState} → PassKeeps on sweeps begins tells closes p p
+module _ {V : Type 0} {ways : Ways V} where
+  pub keeps_still : {p : PassState} → PassKeeps ways p p
   keeps_still {p} = record {
     reached = λ none. nothing_sweeps p;
-    begun = nothing_begun begins p;
-    said = nothing_said tells p;
-    finished = λ off. unbegun_finished closes (nothing_begun Never {yet = false} p);
+    begun = nothing_begun ways.begins p;
+    said = nothing_said ways.tells p;
+    finished = λ off. unbegun_finished ways.closes (nothing_begun Never {yet = false} p);
   }
 
   pub kinds_keep : {kinds : SomeKinds} {p q : PassState} → HaveNone kinds → Does kinds p q
-      → PassKeeps on sweeps begins tells closes p q
+      → PassKeeps ways p q
   kinds_keep {kinds} {p} {q} apart d = record {
     reached = λ none. does_sweep kinds p q (no_marks apart) d;
-    begun = does_begin_none begins kinds p q (no_begins apart) d;
-    said = does_say_none tells kinds p q (no_closes apart) d;
-    finished = λ off. unbegun_finished closes (does_begin_none Never {yet = false} kinds p q (no_begins apart) d);
+    begun = does_begin_none ways.begins kinds p q (no_begins apart) d;
+    said = does_say_none ways.tells kinds p q (no_closes apart) d;
+    finished = λ off. unbegun_finished ways.closes (does_begin_none Never {yet = false} kinds p q (no_begins apart) d);
   }
 
   pub unbegun_keeps : {p q : PassState} → BeginsNone p q → ClosesNone p q → SweepsNothing p q
-      → PassKeeps on sweeps begins tells closes p q
+      → PassKeeps ways p q
   unbegun_keeps none unclosed unswept = record {
     reached = λ off. unswept;
     begun = record {
@@ -95,93 +94,94 @@ module _ {V : Type 0} {on sweeps : Bool} {begins : Config → Seat → List Even
       is = none.is;
       each = λ b own. absurd (none_at is_begin none.more none.none b);
     };
-    said = unclosed_says_none tells unclosed;
-    finished = λ off. unbegun_finished closes (never_by_none none);
+    said = unclosed_says_none ways.tells unclosed;
+    finished = λ off. unbegun_finished ways.closes (never_by_none none);
   }
 
   pub finish_keeps : (engine : V) {p q : PassState} → IsTurn p → FinishesCycle p q
-      → IsHistory q.table.config q.seen → (sweeps ≡ false → SweepsNothing p q) → IsToldAtClose (tells engine) p q
-      → PassKeeps on sweeps begins tells closes p q
+      → IsHistory q.table.config q.seen → (ways.sweeps ≡ false → SweepsNothing p q)
+      → IsToldAtClose (ways.tells engine) p q
+      → PassKeeps ways p q
   finish_keeps engine {p} {q} t law history reached told = record {
     reached = reached;
-    begun = finish_begins_none begins p q t.own law;
-    said = finish_says tells engine t law history told;
-    finished = λ off. unbegun_finished closes (finish_begins_none Never p q t.own law);
+    begun = finish_begins_none ways.begins p q t.own law;
+    said = finish_says ways.tells engine t law history told;
+    finished = λ off. unbegun_finished ways.closes (finish_begins_none Never p q t.own law);
   }
 
   -- one part after another
 
-  pub keeps_then : {p q r : PassState} → q ≡ record p { seen = q.seen } → PassKeeps on sweeps begins tells closes p q
-      → PassKeeps on sweeps begins tells closes q r → PassKeeps on sweeps begins tells closes p r
+  pub keeps_then : {p q r : PassState} → q ≡ record p { seen = q.seen } → PassKeeps ways p q
+      → PassKeeps ways q r → PassKeeps ways p r
   keeps_then {p} {q} {r} same one two = record {
     reached = λ none. sweeps_then p q r same (one.reached none) (two.reached none);
-    begun = begun_then begins p q r same one.begun two.begun;
-    said = said_then tells p q r same one.said two.said;
-    finished = λ off. finished_then closes p q r same (one.finished off) (two.finished off);
+    begun = begun_then ways.begins p q r same one.begun two.begun;
+    said = said_then ways.tells p q r same one.said two.said;
+    finished = λ off. finished_then ways.closes p q r same (one.finished off) (two.finished off);
   }
 
-  pub part_then : {kinds : SomeKinds} {p q r : PassState} → Does kinds p q → PassKeeps on sweeps begins tells closes p q
-      → PassKeeps on sweeps begins tells closes q r → PassKeeps on sweeps begins tells closes p r
+  pub part_then : {kinds : SomeKinds} {p q r : PassState} → Does kinds p q → PassKeeps ways p q
+      → PassKeeps ways q r → PassKeeps ways p r
   part_then {p = p} {q = q} d one two = keeps_then (only_seen p q d.more d.is) one two
 
   pub kinds_then : {kinds : SomeKinds} {p q r : PassState} → HaveNone kinds → Does kinds p q
-      → PassKeeps on sweeps begins tells closes q r → PassKeeps on sweeps begins tells closes p r
+      → PassKeeps ways q r → PassKeeps ways p r
   kinds_then apart d rest = part_then d (kinds_keep apart d) rest
 
   -- A cycle that was begun may still be on,
 
-  pub still_yet : {p : PassState} → KeepsYet on sweeps begins tells closes p p
+  pub still_yet : {p : PassState} → KeepsYet ways p p
   still_yet {p} = record {
     reached = λ none. nothing_sweeps p;
-    begun = nothing_begun begins p;
-    said = nothing_said tells p;
-    finished = λ off. unbegun_finished closes (nothing_begun Never {yet = false} p);
+    begun = nothing_begun ways.begins p;
+    said = nothing_said ways.tells p;
+    finished = λ off. unbegun_finished ways.closes (nothing_begun Never {yet = false} p);
   }
 
-  pub yet_then : {p q r : PassState} → q ≡ record p { seen = q.seen } → PassKeeps on sweeps begins tells closes p q
-      → KeepsYet on sweeps begins tells closes q r → KeepsYet on sweeps begins tells closes p r
+  pub yet_then : {p q r : PassState} → q ≡ record p { seen = q.seen } → PassKeeps ways p q
+      → KeepsYet ways q r → KeepsYet ways p r
   yet_then {p} {q} {r} same one two = record {
     reached = λ none. sweeps_then p q r same (one.reached none) (two.reached none);
-    begun = begun_then begins p q r same one.begun two.begun;
-    said = said_then tells p q r same one.said two.said;
-    finished = λ off. finished_then closes p q r same (one.finished off) (two.finished off);
+    begun = begun_then ways.begins p q r same one.begun two.begun;
+    said = said_then ways.tells p q r same one.said two.said;
+    finished = λ off. finished_then ways.closes p q r same (one.finished off) (two.finished off);
   }
 
-  pub keeps_yet : {p q : PassState} → q ≡ record p { seen = q.seen } → PassKeeps on sweeps begins tells closes p q
-      → KeepsYet on sweeps begins tells closes p q
+  pub keeps_yet : {p q : PassState} → q ≡ record p { seen = q.seen } → PassKeeps ways p q
+      → KeepsYet ways p q
   keeps_yet same keeps = yet_then same keeps still_yet
 
   pub kinds_yet : {kinds : SomeKinds} {p q r : PassState} → HaveNone kinds → Does kinds p q
-      → KeepsYet on sweeps begins tells closes q r → KeepsYet on sweeps begins tells closes p r
+      → KeepsYet ways q r → KeepsYet ways p r
   kinds_yet {p = p} {q = q} apart d rest = yet_then (only_seen p q d.more d.is) (kinds_keep apart d) rest
 
   -- and then the close is wanted or the turn given back.
-  pub left_keeps : {p q r : PassState} → q ≡ record p { seen = q.seen } → (sweeps ≡ false → SweepsNothing p q)
-      → EachIsBegunYet begins p q → EachIsSaid tells p q → PassKeeps on sweeps begins tells closes q r → HoldsFirst q r
-      → (on ≡ false → EachIsFinished closes p r) → PassKeeps on sweeps begins tells closes p r
+  pub left_keeps : {p q r : PassState} → q ≡ record p { seen = q.seen } → (ways.sweeps ≡ false → SweepsNothing p q)
+      → EachIsBegunYet ways.begins p q → EachIsSaid ways.tells p q → PassKeeps ways q r → HoldsFirst q r
+      → (ways.on ≡ false → EachIsFinished ways.closes p r) → PassKeeps ways p r
   left_keeps {p} {q} {r} same reached begun said two holds finished = record {
     reached = λ none. sweeps_then p q r same (reached none) (two.reached none);
-    begun = left_then begins same begun two.begun holds;
-    said = said_then tells p q r same said two.said;
+    begun = left_then ways.begins same begun two.begun holds;
+    said = said_then ways.tells p q r same said two.said;
     finished = finished;
   }
 
-  pub then_leaves : {p q r : PassState} → q ≡ record p { seen = q.seen } → KeepsYet on sweeps begins tells closes p q
-      → PassKeeps on sweeps begins tells closes q r → HoldsFirst q r → PassKeeps on sweeps begins tells closes p r
+  pub then_leaves : {p q r : PassState} → q ≡ record p { seen = q.seen } → KeepsYet ways p q
+      → PassKeeps ways q r → HoldsFirst q r → PassKeeps ways p r
   then_leaves {p} {q} {r} same one two holds =
       left_keeps same one.reached one.begun one.said two holds
-      (λ off. finished_then closes p q r same (one.finished off) (two.finished off))
+      (λ off. finished_then ways.closes p q r same (one.finished off) (two.finished off))
 
   -- A turn from the wait for it to its `give`.
   pub turn_keeps : {o : Op} {a : Answer} {p taken done q : PassState} → GivenBack o a p taken done q
-      → PassKeeps on sweeps begins tells closes taken done → PassKeeps on sweeps begins tells closes p q
+      → PassKeeps ways taken done → PassKeeps ways p q
   turn_keeps {o} {p = p} {taken} g inside =
       kinds_then {kinds = is_take} (λ x h. grind arith) (taking_does p (Some o) taken g.took.own g.took.takes)
       (part_then g.on.does inside (kinds_keep {kinds = is_give} (λ x h. grind arith) (does_once g.gives refl)))
 
   -- also where a cycle that it began is left on
   pub turn_keeps_yet : {o : Op} {a : Answer} {p taken done q : PassState} → GivenBack o a p taken done q
-      → KeepsYet on sweeps begins tells closes taken done → PassKeeps on sweeps begins tells closes p q
+      → KeepsYet ways taken done → PassKeeps ways p q
   turn_keeps_yet {o} {p = p} {taken} {done} g inside =
       kinds_then {kinds = is_take} (λ x h. grind arith) (taking_does p (Some o) taken g.took.own g.took.takes)
       (then_leaves (only_seen taken done g.on.does.more g.on.does.is) inside

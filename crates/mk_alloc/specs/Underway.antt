@@ -1,16 +1,15 @@
 -- A turn on its way, from one part of its call to the next.
-use Rattle.std.specs.Prelude.{◌≡◌, ℕ, Bool, true, false, List, ◌++◌, Option, Some, None, is_some}
+use Rattle.std.specs.Prelude.{◌≡◌, ℕ, true, false, ◌++◌, Option, Some, None, is_some}
 use Rattle.mk_never.specs.declared.operations.Op.{Op}
-use Rattle.mk_core.specs.{declared.config.Config.Config, declared.events.Answer.Answer, declared.events.Event.Event}
-use Rattle.mk_core.specs.{declared.events.Seat.Seat, Counts.{TalliesAreExact, TalliesAreTidy}, Decided.entry_of}
-use Rattle.mk_core.specs.{History.World, Moments.none_is_held}
+use Rattle.mk_core.specs.{declared.events.Answer.Answer, Counts.{TalliesAreExact, TalliesAreTidy}, Decided.entry_of}
+use Rattle.mk_core.specs.{Moments.none_is_held}
 use Rattle.mk_caller.specs.Below.Words.States.{PassState, WordsState, call_of, now_of}
 use Rattle.mk_caller.specs.{Below.Words.TurnSteps.{IsFresh, turn_stays}, Below.Words.Doing.Does}
 use Rattle.mk_caller.specs.Below.Words.Sweeping.{SweepsNothing}
 use Rattle.mk_alloc.specs.{Closes.{EachIsFinished, EachIsSaid}, Placing.{IsOutOfStop, is_look}}
 use Rattle.mk_caller.specs.{States.caller_of_pass, Called.own_calls}
 use Rattle.mk_cycle.specs.{Begun.{EachIsBegun, EachIsBegunYet}, EngineLaw.IsFreeForCycle}
-use Rattle.mk_cycle.specs.TurnKeeps.{KeepsGates, LeavesTurn, unchanged}
+use Rattle.mk_cycle.specs.{TurnKeeps.{KeepsGates, LeavesTurn, unchanged}, Ways.Ways}
 use Rattle.mk_core.specs.declared.seats.Stage.TheVariants as stage
 
 -- Nothing is under way that a cycle or a `give` waits for, and the tallies are what they count.
@@ -53,19 +52,15 @@ pub record MayRunCycle (w : WordsState) (pages : ℕ) (p : PassState) : Type 0 w
 -- does its part, and then nothing but holding gates comes before the close is wanted or the turn given back. At each
 -- `close` it says of the world what engines of its type say. If it doesn't keep on, it finishes at once each cycle that
 -- it begins.
-pub record PassKeeps {V : Type 0} (on sweeps : Bool) (begins : Config → Seat → List Event → List Event → Type 0)
-    (tells : V → Config → World → Type 0) (closes : V → PassState → PassState → Type 0) (p q : PassState)
-    : Type 0 where
-  pub reached : sweeps ≡ false → SweepsNothing p q
-  pub begun : EachIsBegun begins p q
-  pub said : EachIsSaid tells p q
-  pub finished : on ≡ false → EachIsFinished closes p q
+pub record PassKeeps {V : Type 0} (ways : Ways V) (p q : PassState) : Type 0 where
+  pub reached : ways.sweeps ≡ false → SweepsNothing p q
+  pub begun : EachIsBegun ways.begins p q
+  pub said : EachIsSaid ways.tells p q
+  pub finished : ways.on ≡ false → EachIsFinished ways.closes p q
 
 -- So it keeps in a turn that goes on: a cycle that was begun may still be on.
-pub record KeepsYet {V : Type 0} (on sweeps : Bool) (begins : Config → Seat → List Event → List Event → Type 0)
-    (tells : V → Config → World → Type 0) (closes : V → PassState → PassState → Type 0) (p q : PassState)
-    : Type 0 where
-  pub reached : sweeps ≡ false → SweepsNothing p q
-  pub begun : EachIsBegunYet begins p q
-  pub said : EachIsSaid tells p q
-  pub finished : on ≡ false → EachIsFinished closes p q
+pub record KeepsYet {V : Type 0} (ways : Ways V) (p q : PassState) : Type 0 where
+  pub reached : ways.sweeps ≡ false → SweepsNothing p q
+  pub begun : EachIsBegunYet ways.begins p q
+  pub said : EachIsSaid ways.tells p q
+  pub finished : ways.on ≡ false → EachIsFinished ways.closes p q

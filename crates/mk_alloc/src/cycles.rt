@@ -19,7 +19,7 @@ fn finish_older<E: Engine, R: Threads + Wait + Sync>(
     requires may_run { MayRunCycle words.now (E.made_for engine.old) turn.pass }
     ensures made_for { E.made_for engine.new ≡ E.made_for engine.old }
     ensures ends { EndsOlder turn.pass result.pass }
-    ensures keeps { PassKeeps E.on E.sweeps E.begins E.tells E.closes turn.pass result.pass }
+    ensures keeps { PassKeeps E.ways turn.pass result.pass }
 {
     let mut turn = turn;
     if is_cycle_on(words, &mut turn) {
@@ -40,8 +40,8 @@ fn run_cycle<E: Engine, R: Threads + Wait + Sync>(
 ) -> Turn
     requires may_run { MayRunCycle words.now (E.made_for engine.old) turn.pass }
     ensures made_for { E.made_for engine.new ≡ E.made_for engine.old }
-    ensures runs { RunsCycle E.on turn.pass result.pass }
-    ensures keeps { KeepsYet E.on E.sweeps E.begins E.tells E.closes turn.pass result.pass }
+    ensures runs { RunsCycle E.ways.on turn.pass result.pass }
+    ensures keeps { KeepsYet E.ways turn.pass result.pass }
 {
     let mut turn = finish_older(rt, words, turn, engine);
     begin_cycle(rt, words, &mut turn, engine);
@@ -63,8 +63,8 @@ fn run_apart<E: Engine, R: Threads + Wait + Sync>(
 ) -> Turn
     requires may_run { MayRunCycle words.now (E.made_for engine.old) turn.pass }
     ensures made_for { E.made_for engine.new ≡ E.made_for engine.old }
-    ensures runs { RunsCycle E.on turn.pass result.pass }
-    ensures keeps { KeepsYet E.on E.sweeps E.begins E.tells E.closes turn.pass result.pass }
+    ensures runs { RunsCycle E.ways.on turn.pass result.pass }
+    ensures keeps { KeepsYet E.ways turn.pass result.pass }
 {
     run_cycle(rt, words, turn, engine)
 }
@@ -79,8 +79,8 @@ pub(crate) fn run_if_due<E: Engine, R: Threads + Wait + Sync>(
 ) -> Turn
     requires may_run { MayRunCycle words.now (E.made_for engine.old) turn.pass }
     ensures made_for { E.made_for engine.new ≡ E.made_for engine.old }
-    ensures runs { RunsIfDue E.on due turn.pass result.pass }
-    ensures keeps { KeepsYet E.on E.sweeps E.begins E.tells E.closes turn.pass result.pass }
+    ensures runs { RunsIfDue E.ways.on due turn.pass result.pass }
+    ensures keeps { KeepsYet E.ways turn.pass result.pass }
 {
     if due {
         run_apart(rt, words, turn, engine)

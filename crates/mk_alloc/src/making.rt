@@ -40,7 +40,7 @@ fn make_room_or_count<E: Engine, R: Threads + Wait + Sync>(
     ensures seeks { Seeks (Some (answer_with result.1)) turn.pass result.0.pass }
     ensures full { IfSome result.1 (CountsFull turn.pass result.0.pass) }
     ensures one { RunsOne turn.pass result.0.pass }
-    ensures keeps { PassKeeps E.on E.sweeps E.begins E.tells E.closes turn.pass result.0.pass }
+    ensures keeps { PassKeeps E.ways turn.pass result.0.pass }
 {
     let (mut turn, placed) = make_room(rt, words, turn, request, engine);
     if placed {
@@ -65,10 +65,11 @@ pub fn new_object<E: Engine, R: Threads + Wait + Sync>(
     requires ty { ty < length caller.old.pass.table.config.types }
     ensures home { caller.new.home ≡ true }
     ensures made_for { E.made_for engine.new ≡ E.made_for engine.old }
-    ensures made { OnOk result (CalledInTurn E.on caller.old.pass (op.New d ty false) answer.Done caller.new.pass) }
+    ensures made { OnOk result (CalledInTurn E.ways.on caller.old.pass (op.New d ty false)
+        answer.Done caller.new.pass) }
     ensures full { IfErr result (λ full.
-        IsAnsweredFull E.on caller.old.pass (op.New d ty false) full.census caller.new.pass) }
-    ensures keeps { PassKeeps E.on E.sweeps E.begins E.tells E.closes caller.old.pass caller.new.pass }
+        IsAnsweredFull E.ways.on caller.old.pass (op.New d ty false) full.census caller.new.pass) }
+    ensures keeps { PassKeeps E.ways caller.old.pass caller.new.pass }
 {
     let words = caller.words();
     let home = caller.lend();

@@ -47,8 +47,8 @@ fn finish_and_place<E: Engine, R: Threads + Wait + Sync>(
         ≡ cycle_ended (now_of turn.pass).seats.holding.cycle }
     ensures ends { EndsOnly turn.pass result.0.pass }
     ensures holds { HoldsFirst turn.pass result.0.pass }
-    ensures closed { IsClosedBy (E.closes engine.new) turn.pass result.0.pass }
-    ensures keeps { PassKeeps E.on E.sweeps E.begins E.tells E.closes turn.pass result.0.pass }
+    ensures closed { IsClosedBy (E.ways.closes engine.new) turn.pass result.0.pass }
+    ensures keeps { PassKeeps E.ways turn.pass result.0.pass }
 {
     let (mut turn, _) = finish_cycle(rt, words, turn, engine);
     let placed = try_place(words, &mut turn, request);
@@ -67,7 +67,7 @@ fn place_behind_older<E: Engine, R: Threads + Wait + Sync>(
     ensures made_for { E.made_for engine.new ≡ E.made_for engine.old }
     ensures tried { IsPlacedOr MisfitsIdly result.1 turn.pass result.0.pass }
     ensures begins { BeginsNone turn.pass result.0.pass }
-    ensures keeps { PassKeeps E.on E.sweeps E.begins E.tells E.closes turn.pass result.0.pass }
+    ensures keeps { PassKeeps E.ways turn.pass result.0.pass }
 {
     let mut turn = turn;
     let is_on = is_cycle_on(words, &mut turn);
@@ -92,7 +92,7 @@ fn place_behind_cycle<E: Engine, R: Threads + Wait + Sync>(
     ensures made_for { E.made_for engine.new ≡ E.made_for engine.old }
     ensures tried { IsPlacedOr MisfitsAtLast result.1 turn.pass result.0.pass }
     ensures one { RunsOne turn.pass result.0.pass }
-    ensures keeps { PassKeeps E.on E.sweeps E.begins E.tells E.closes turn.pass result.0.pass }
+    ensures keeps { PassKeeps E.ways turn.pass result.0.pass }
 {
     let mut turn = turn;
     begin_cycle(rt, words, &mut turn, engine);
@@ -113,7 +113,7 @@ pub(crate) fn make_room<E: Engine, R: Threads + Wait + Sync>(
     ensures made_for { E.made_for engine.new ≡ E.made_for engine.old }
     ensures tried { IsPlacedOr MisfitsAtLast result.1 turn.pass result.0.pass }
     ensures one { RunsOne turn.pass result.0.pass }
-    ensures keeps { PassKeeps E.on E.sweeps E.begins E.tells E.closes turn.pass result.0.pass }
+    ensures keeps { PassKeeps E.ways turn.pass result.0.pass }
 {
     let (turn, placed) = place_behind_older(rt, words, turn, request, engine);
     if placed {

@@ -25,10 +25,11 @@ pub fn make_number<E: Engine, R: Threads + Wait + Sync>(
     requires made_for { E.made_for engine.old ≡ caller.old.pass.table.config.pages }
     ensures home { caller.new.home ≡ true }
     ensures made_for { E.made_for engine.new ≡ E.made_for engine.old }
-    ensures made { OnOk result (CalledInTurn E.on caller.old.pass (op.New d ty false) answer.Done caller.new.pass) }
+    ensures made { OnOk result (CalledInTurn E.ways.on caller.old.pass (op.New d ty false)
+        answer.Done caller.new.pass) }
     ensures owned { OnOk result (HasNumber caller.new.pass d 0) }
     ensures full { IfErr result (λ full.
-        IsAnsweredFull E.on caller.old.pass (op.New d ty false) full.census caller.new.pass) }
+        IsAnsweredFull E.ways.on caller.old.pass (op.New d ty false) full.census caller.new.pass) }
 {
     new_object(rt, caller, engine, d, ty)
 }

@@ -91,7 +91,7 @@ pub fn number_in_new_object<E: Engine, R: Threads + Wait + Sync>(
     ensures loaded { IfOk result (λ loaded. loaded ≡ n) }
     ensures did { OnOk result (own_calls caller.new.pass caller.new.pass.seen
         ≡ own_calls caller.old.pass caller.old.pass.seen ++ new_store_load (caller_of_pass caller.old.pass) d ty n) }
-    ensures early { IfErr result (λ e. EndsEarly E.on caller.old.pass d ty e caller.new.pass) }
+    ensures early { IfErr result (λ e. EndsEarly E.ways.on caller.old.pass d ty e caller.new.pass) }
 {
     match make_number(rt, caller, engine, d, ty) {
         Err(full) => Err(Unfinished::NoRoom(full)),

@@ -1,6 +1,7 @@
 pub mod Below
 pub mod Kinds
 pub mod TurnKeeps
+pub mod Ways
 pub mod EngineLaw
 pub mod BeginCycle
 pub mod Cleaning

@@ -24,9 +24,9 @@ pub fn begin_cycle<E: Engine, R: Threads + Wait + Sync>(
     requires free { IsFreeForCycle turn.old.pass }
     ensures made_for { E.made_for engine.new ≡ E.made_for engine.old }
     ensures law { BeginsCycle turn.old.pass turn.new.pass }
-    ensures reached { E.sweeps ≡ false → SweepsNothing turn.old.pass turn.new.pass }
-    ensures begun { EachIsBegunYet E.begins turn.old.pass turn.new.pass }
-    ensures last { IsBegunLast E.begins turn.old.pass turn.new.pass }
+    ensures reached { E.ways.sweeps ≡ false → SweepsNothing turn.old.pass turn.new.pass }
+    ensures begun { EachIsBegunYet E.ways.begins turn.old.pass turn.new.pass }
+    ensures last { IsBegunLast E.ways.begins turn.old.pass turn.new.pass }
 {
     clean_pages(turn, words);
     turn.tally(words, Tally::Fresh, 0);

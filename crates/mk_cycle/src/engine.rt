@@ -1,11 +1,8 @@
 //! Engines: how the marks of a cycle are made.
-ghost use Rattle.std.specs.Prelude.{◌≡◌, ℕ, Bool, false, IfOk, List};
-ghost use Rattle.mk_core.specs.{declared.config.Config.Config, declared.events.Event.Event, declared.events.Seat.Seat};
-ghost use Rattle.mk_core.specs.History.{World};
+ghost use Rattle.std.specs.Prelude.{◌≡◌, ℕ, false, IfOk};
 ghost use Rattle.mk_words.specs.Sweeping.{SweepsNothing};
-ghost use Rattle.mk_words.specs.States.{PassState};
 ghost use Rattle.mk_cycle.specs.{Begun.IsBegun, EngineLaw.{IsFreeForCycle, IsAtPhase, BeginsMarking, ClosesMarks}};
-ghost use Rattle.mk_cycle.specs.Telling.{IsToldOf};
+ghost use Rattle.mk_cycle.specs.{Telling.IsToldOf, Ways.Ways};
 
 use mk_never::NoMemory;
 use mk_words::{Stopped, Turn, Words};
@@ -14,21 +11,13 @@ use std::sync::Wait;
 use std::thread::Threads;
 
 /// What makes the marks of a cycle, for a heap of this many pages (`made_for`). All values of its type are alike in
-/// what `keeps_on` returns (`on`), in whether they make sweeping marks (`sweeps`), and in what they do as a cycle
-/// begins (`begins`). `tells` is what a value promises of the world in which it closed marks last, and `closes` what it
-/// did in that stop.
+/// their `ways`: in what `keeps_on` returns (`on`), in whether they make sweeping marks (`sweeps`), and in what they do
+/// as a cycle begins (`begins`). `tells` is what a value promises of the world in which it closed marks last, and
+/// `closes` what it did in that stop.
 pub trait Engine: Drop {
-    ghost on: { Bool };
-
-    ghost sweeps: { Bool };
+    ghost ways: { Ways Self };
 
     ghost made_for: { Self → ℕ };
-
-    ghost tells: { Self → Config → World → Type 0 };
-
-    ghost begins: { Config → Seat → List Event → List Event → Type 0 };
-
-    ghost closes: { Self → PassState → PassState → Type 0 };
 
     /// An engine for this many pages. It takes all its memory here.
     fn make(alloc: Global, pages: u64) -> Result<Self, NoMemory>
@@ -36,7 +25,7 @@ pub trait Engine: Drop {
 
     /// Whether a cycle that a free begins goes on after the call.
     fn keeps_on(&self) -> bool
-        ensures { result ≡ on };
+        ensures { result ≡ ways.on };
 
     /// What comes directly after a cycle's `begin`.
     fn begin<R: Threads + Wait + Sync>(&mut self, rt: &R, words: &Words, turn: &mut Turn)
@@ -46,8 +35,8 @@ pub trait Engine: Drop {
         requires free { IsFreeForCycle turn.old.pass }
         ensures made_for { made_for self.new ≡ made_for self.old }
         ensures law { BeginsMarking turn.old.pass turn.new.pass }
-        ensures reached { sweeps ≡ false → SweepsNothing turn.old.pass turn.new.pass }
-        ensures begun { IsBegun begins turn.old.pass turn.new.pass };
+        ensures reached { ways.sweeps ≡ false → SweepsNothing turn.old.pass turn.new.pass }
+        ensures begun { IsBegun ways.begins turn.old.pass turn.new.pass };
 
     /// Wants the close, and makes the marks that are left to make, so that the phase may be closed.
     fn close_marks<R: Threads + Wait + Sync>(&mut self, rt: &R, words: &Words, stop: &mut Stopped)
@@ -57,7 +46,7 @@ pub trait Engine: Drop {
         requires free { IsFreeForCycle stop.old.pass }
         ensures made_for { made_for self.new ≡ made_for self.old }
         ensures law { ClosesMarks stop.old.pass stop.new.pass }
-        ensures reached { sweeps ≡ false → SweepsNothing stop.old.pass stop.new.pass }
-        ensures told { IsToldOf (tells self.new) stop.new.pass }
-        ensures closed { closes self.new stop.old.pass stop.new.pass };
+        ensures reached { ways.sweeps ≡ false → SweepsNothing stop.old.pass stop.new.pass }
+        ensures told { IsToldOf (ways.tells self.new) stop.new.pass }
+        ensures closed { ways.closes self.new stop.old.pass stop.new.pass };
 }

@@ -35,9 +35,9 @@ pub fn finish_cycle<E: Engine, R: Threads + Wait + Sync>(
     ensures made_for { E.made_for engine.new ≡ E.made_for engine.old }
     ensures law { FinishesCycle turn.pass result.0.pass }
     ensures released { HasReleased turn.pass result.0.pass result.1 }
-    ensures reached { E.sweeps ≡ false → SweepsNothing turn.pass result.0.pass }
-    ensures told { IsToldAtClose (E.tells engine.new) turn.pass result.0.pass }
-    ensures closed { IsClosedBy (E.closes engine.new) turn.pass result.0.pass }
+    ensures reached { E.ways.sweeps ≡ false → SweepsNothing turn.pass result.0.pass }
+    ensures told { IsToldAtClose (E.ways.tells engine.new) turn.pass result.0.pass }
+    ensures closed { IsClosedBy (E.ways.closes engine.new) turn.pass result.0.pass }
 {
     let (mut turn, settled) = give_all_back(rt, words, turn, engine);
     let Settled { released, held } = settled;

@@ -44,7 +44,8 @@ pub(crate) fn give_all_back<E: Engine, R: Threads + Wait + Sync>(
     ensures gives { GivesAllBack turn.pass result.0.pass }
     ensures told { HasReleased turn.pass result.0.pass result.1.released }
     ensures held { HoldsFewer turn.pass result.0.pass result.1.held }
-    ensures promised { ClosesAsPromised E.sweeps (E.tells engine.new) (E.closes engine.new) turn.pass result.0.pass }
+    ensures promised { ClosesAsPromised E.ways.sweeps (E.ways.tells engine.new)
+        (E.ways.closes engine.new) turn.pass result.0.pass }
 {
     hold_gates(rt, words, &mut turn);
     let mut stop = turn.stopped();

@@ -23,17 +23,15 @@ pub struct MostlyEngine {
 }
 
 impl Engine for MostlyEngine {
-    ghost on = { true };
-
-    ghost sweeps = { false };
+    ghost ways = { record {
+      on = true;
+      sweeps = false;
+      begins = λ c s es more. MarksRoots c s es more;
+      tells = λ engine c w. ⊤;
+      closes = λ engine p q. Traces is_tracing TracesReached p q;
+    } };
 
     ghost made_for = { λ engine. engine.pages };
-
-    ghost tells = { λ engine c w. ⊤ };
-
-    ghost begins = { λ c s es more. MarksRoots c s es more };
-
-    ghost closes = { λ engine p q. Traces is_tracing TracesReached p q };
 
     fn make(alloc: Global, pages: u64) -> Result<MostlyEngine, NoMemory> {
         let work = Worklist::new(alloc, pages.min(MOST_PAGES))?;

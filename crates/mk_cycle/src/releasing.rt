@@ -29,8 +29,8 @@ pub(crate) fn release_unmarked<E: Engine, R: Threads + Wait + Sync>(
         (released_below (now_of stop.new.pass).words words.now.config.pages) }
     ensures held { HoldsFewer stop.old.pass stop.new.pass
         (held_below (now_of stop.new.pass).words words.now.config.pages) }
-    ensures promised { ClosesAsPromised E.sweeps (E.tells engine.new)
-        (E.closes engine.new) stop.old.pass stop.new.pass }
+    ensures promised { ClosesAsPromised E.ways.sweeps (E.ways.tells engine.new)
+        (E.ways.closes engine.new) stop.old.pass stop.new.pass }
 {
     engine.close_marks(rt, words, stop);
     stop.close_phase(words);

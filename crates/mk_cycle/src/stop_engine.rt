@@ -22,17 +22,15 @@ pub struct StopEngine {
 }
 
 impl Engine for StopEngine {
-    ghost on = { false };
-
-    ghost sweeps = { false };
+    ghost ways = { record {
+      on = false;
+      sweeps = false;
+      begins = DoesNothing;
+      tells = λ engine c w. ⊤;
+      closes = λ engine p q. Traces is_tracing TracesReached p q;
+    } };
 
     ghost made_for = { λ engine. engine.pages };
-
-    ghost tells = { λ engine c w. ⊤ };
-
-    ghost begins = { DoesNothing };
-
-    ghost closes = { λ engine p q. Traces is_tracing TracesReached p q };
 
     fn make(alloc: Global, pages: u64) -> Result<StopEngine, NoMemory> {
         let work = Worklist::new(alloc, pages.min(MOST_PAGES))?;

@@ -1,6 +1,6 @@
 -- A caller makes one call more, or finds its gate held, and what is known then.
 use Rattle.std.specs.List.{list_all}
-use Rattle.mk_alloc.proofs.Below.Laws.Vocabulary.{Answer, Bool, Config, Event, KeepsRegisters, List, Op, Seat, Stage}
+use Rattle.mk_alloc.proofs.Below.Laws.Vocabulary.{Answer, Bool, Event, KeepsRegisters, List, Op, Seat, Stage}
 use Rattle.mk_alloc.proofs.Below.Laws.Vocabulary.{Step, ℕ, and_from, ap, append-nil, arith, false, flagged}
 use Rattle.mk_alloc.proofs.Below.Laws.Vocabulary.{is_under_turn, length, map, refl, subst, sym, true, true≢false, []}
 use Rattle.mk_alloc.proofs.Below.Laws.Vocabulary.{◌&&◌, ◌++◌, ◌<◌, ◌∙◌, ◌∷◌, ◌≡◌}
@@ -8,12 +8,12 @@ use Rattle.mk_alloc.proofs.ExactTurns.{stay_exact_behind_calls, stay_exact_behin
 use Rattle.mk_alloc.proofs.{FinishedCycles.unbegun_finished, Parts.seen_then, SaidCloses.kinds_close_none}
 use Rattle.mk_alloc.proofs.UnsweptTurns.{keeps_then}
 use Rattle.mk_alloc.proofs.Below.Cycles.Begun.{kinds_begin_none}
-use Rattle.mk_core.specs.History.{World}
 use Rattle.mk_alloc.proofs.Below.Words.Doing.{does_step, done_in_parts, of_kinds_in_parts}
 use Rattle.mk_alloc.proofs.{Below.Words.Made.own_before, Below.Words.Seats.has_first, Below.Words.Sweeping.kinds_sweep}
 use Rattle.mk_alloc.specs.{Below.Callers.Called.{Called, own_calls, stages_made, step_at}, TurnCalls.CalledInTurn}
 use Rattle.mk_alloc.specs.{Below.Callers.Causes.FindsGateHeld, Below.Callers.States.{Admits, CallerState}}
 use Rattle.mk_alloc.specs.{Below.Callers.States.{caller_of_pass, never_of}, Below.Words.Doing.{are_of, done_in}}
+use Rattle.mk_alloc.specs.Below.Cycles.Ways.{Ways}
 use Rattle.mk_alloc.specs.{Below.Words.Seats.Has, Underway.PassKeeps, Below.Words.States.{PassState, world_of}}
 use Rattle.mk_never.proofs.Later.{calls_stay}
 use Rattle.mk_core.specs.Growing.{Finding, own_from}
@@ -63,10 +63,8 @@ held_beside {p} {o} {q} held =
     record { more = d.more; is = ap (λ (x : PassState). x.seen) d.is; steps = d.of_kinds }
 
 -- So they keep to what an engine does.
-pub beside_keeps : {V : Type 0} {on sweeps : Bool} {begins : Config → Seat → List Event → List Event → Type 0}
-    {tells : V → Config → World → Type 0} {closes : V → PassState → PassState → Type 0} {p q : PassState}
-    → StaysBeside p q → PassKeeps on sweeps begins tells closes p q
-beside_keeps {closes = closes} {p = p} h = record {
+pub beside_keeps : {V : Type 0} {ways : Ways V} {p q : PassState} → StaysBeside p q → PassKeeps ways p q
+beside_keeps {ways = ways} {p = p} h = record {
   reached = λ off. record {
     more = h.more;
     is = h.is;
@@ -84,7 +82,7 @@ beside_keeps {closes = closes} {p = p} h = record {
     each = λ k own. absurd (kinds_close_none is_beside_turns p.table.config p.seat (world_of p) h.more
         (λ x beside. grind arith) h.steps k own);
   };
-  finished = λ off. unbegun_finished closes {yet = false} (record {
+  finished = λ off. unbegun_finished ways.closes {yet = false} (record {
     more = h.more;
     is = h.is;
     each = λ b own. absurd (kinds_begin_none is_beside_turns p.table.config p.seat (world_of p) h.more
@@ -233,9 +231,8 @@ module _ {p : PassState} {o : Op} {q : PassState} (h : IsPutOff p o q) where
   pub put_off_waits : MakesNoCall p q
   put_off_waits = off_by_test (is_under_turn o) refl
 
-  pub put_off_keeps : {V : Type 0} {on sweeps : Bool} {begins : Config → Seat → List Event → List Event → Type 0}
-      {tells : V → Config → World → Type 0} {closes : V → PassState → PassState → Type 0} {r : PassState}
-      → PassKeeps on sweeps begins tells closes q r → PassKeeps on sweeps begins tells closes p r
+  pub put_off_keeps : {V : Type 0} {ways : Ways V} {r : PassState}
+      → PassKeeps ways q r → PassKeeps ways p r
   put_off_keeps more = keeps_then put_off_waits.is (beside_keeps put_off_waits.beside) more
 
   module _ {on : Bool} {told : Answer} {r : PassState} (later : Answers on q o told r) where

@@ -3,7 +3,7 @@ use Rattle.std.specs.Prelude.{◌≡◌, ℕ, Bool, false, List, [], ◌∷◌, 
 use Rattle.mk_core.specs.{declared.config.Config.Config, declared.events.Event.Event, declared.events.Seat.Seat}
 use Rattle.mk_core.specs.{declared.events.Seat.TheVariants.{Caller, Host}, Growing.Grows, History.World}
 use Rattle.mk_alloc.specs.{Below.Words.Seats.{Has, HasCallers, has_over}, Below.Words.States.{WordsState, PassState}}
-use Rattle.mk_alloc.specs.Underway.{PassKeeps}
+use Rattle.mk_alloc.specs.{Below.Cycles.Ways.Ways, Underway.PassKeeps}
 use Rattle.mk_heap.specs.HostTurns.{cycles_begun, cycles_asked}
 use Rattle.mk_heap.specs.{Ending.{CallersAreJoined, MakesToldCycle, SaysOver}, Hosts.{HostState, with_seen}}
 
@@ -21,12 +21,10 @@ abbrev pub CallersAreStill : PassState → List Event → Type 0
 CallersAreStill p es = (k : ℕ) → Has p.seats (Caller k) → Grows (Caller k ∷ []) p.seen es
 
 -- The host goes on, and no caller whose seat is home.
-pub record GoesOnAlone {V : Type 0} (on sweeps : Bool) (begins : Config → Seat → List Event → List Event → Type 0)
-    (tells : V → Config → World → Type 0) (closes : V → PassState → PassState → Type 0) (h g : HostState)
-    : Type 0 where
+pub record GoesOnAlone {V : Type 0} (ways : Ways V) (h g : HostState) : Type 0 where
   pub is : g ≡ with_seen h g.pass.seen
   pub still : CallersAreStill h.pass g.pass.seen
-  pub keeps : PassKeeps on sweeps begins tells closes h.pass g.pass
+  pub keeps : PassKeeps ways h.pass g.pass
 
 -- Since this was seen the host made its last turns, where asked with a last cycle: no other is begun there.
 pub record BeginsAsAsked (with_cycle : Bool) (seen es : List Event) : Type 0 where

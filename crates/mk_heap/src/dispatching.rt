@@ -146,8 +146,8 @@ pub fn answer_put_off<E: Engine, R: Threads + Wait + Sync>(
     requires admitted { StaysAdmitted caller.old.pass op }
     ensures home { caller.new.home ≡ true }
     ensures made_for { E.made_for engine.new ≡ E.made_for engine.old }
-    ensures answers { Answers E.on caller.old.pass op result caller.new.pass }
-    ensures keeps { PassKeeps E.on E.sweeps E.begins E.tells E.closes caller.old.pass caller.new.pass }
+    ensures answers { Answers E.ways.on caller.old.pass op result caller.new.pass }
+    ensures keeps { PassKeeps E.ways caller.old.pass caller.new.pass }
 {
     match op {
         Op::New { d, ty, .. } => {
@@ -179,8 +179,8 @@ pub fn answer_to<E: Engine, R: Threads + Wait + Sync>(
     requires admitted { StaysAdmitted caller.old.pass op }
     ensures home { caller.new.home ≡ true }
     ensures made_for { E.made_for engine.new ≡ E.made_for engine.old }
-    ensures answers { Answers E.on caller.old.pass op result caller.new.pass }
-    ensures keeps { PassKeeps E.on E.sweeps E.begins E.tells E.closes caller.old.pass caller.new.pass }
+    ensures answers { Answers E.ways.on caller.old.pass op result caller.new.pass }
+    ensures keeps { PassKeeps E.ways caller.old.pass caller.new.pass }
 {
     match answer_at_once(caller, op) {
         Some(answer) => answer,

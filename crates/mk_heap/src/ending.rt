@@ -28,8 +28,8 @@ impl Host {
         ensures engine { IsAtPhase self.old.pass 0 → engine.new ≡ engine.old }
         ensures host { self.new ≡ with_seen self.old self.new.pass.seen }
         ensures over { SaysOver self.old.pass self.new.pass }
-        ensures reached { E.sweeps ≡ false → SweepsNothing self.old.pass self.new.pass }
-        ensures said { EachIsSaid E.tells self.old.pass self.new.pass }
+        ensures reached { E.ways.sweeps ≡ false → SweepsNothing self.old.pass self.new.pass }
+        ensures said { EachIsSaid E.ways.tells self.old.pass self.new.pass }
     {
         let words = &heap.words;
         let home = take_home(&mut self.pass);
@@ -54,12 +54,12 @@ impl Host {
         ensures host { self.new ≡ with_seen self.old self.new.pass.seen }
         ensures own { Has self.new.pass.seats seat.Host }
         ensures idle { IsAtPhase self.new.pass 0 }
-        ensures cycle { MakesToldCycle (E.tells engine.new) self.old.pass self.new.pass }
+        ensures cycle { MakesToldCycle (E.ways.tells engine.new) self.old.pass self.new.pass }
         ensures overs { has_over self.new.pass.seen ≡ has_over self.old.pass.seen }
-        ensures reached { E.sweeps ≡ false → SweepsNothing self.old.pass self.new.pass }
-        ensures begun { EachIsBegun E.begins self.old.pass self.new.pass }
-        ensures said { EachIsSaid E.tells self.old.pass self.new.pass }
-        ensures finished { EachIsFinished E.closes self.old.pass self.new.pass }
+        ensures reached { E.ways.sweeps ≡ false → SweepsNothing self.old.pass self.new.pass }
+        ensures begun { EachIsBegun E.ways.begins self.old.pass self.new.pass }
+        ensures said { EachIsSaid E.ways.tells self.old.pass self.new.pass }
+        ensures finished { EachIsFinished E.ways.closes self.old.pass self.new.pass }
     {
         let words = &heap.words;
         let home = take_home(&mut self.pass);
@@ -87,8 +87,8 @@ fn take_idle_turn<E: Engine, R: Threads + Wait + Sync>(
     ensures engine { HasCallers home.table.config home.seats → IsAtPhase home 0 → engine.new ≡ engine.old }
     ensures takes { TakesIdleTurn home result.pass }
     ensures idle { IsIdleTurn result.pass }
-    ensures reached { E.sweeps ≡ false → SweepsNothing home result.pass }
-    ensures said { EachIsSaid E.tells home result.pass }
+    ensures reached { E.ways.sweeps ≡ false → SweepsNothing home result.pass }
+    ensures said { EachIsSaid E.ways.tells home result.pass }
 {
     let mut turn = take_turn(rt, words, home, None);
     let found = turn.look(words, Word::Phase);

@@ -18,8 +18,8 @@ fn cycle_and_over<E: Engine, R: Threads + Wait + Sync>(
 )
     requires all_home { HasAllHome heap.now host.old }
     requires made_for { E.made_for engine.old ≡ heap.now.config.pages }
-    ensures host { GoesOnAlone E.on E.sweeps E.begins E.tells E.closes host.old host.new }
-    ensures turns { TakesLastTurns (E.tells engine.new) heap.now host.new.pass }
+    ensures host { GoesOnAlone E.ways host.old host.new }
+    ensures turns { TakesLastTurns (E.ways.tells engine.new) heap.now host.new.pass }
     ensures cycles { BeginsAsAsked true host.old.pass.seen host.new.pass.seen }
     ensures over { has_over host.new.pass.seen ≡ true }
 {
@@ -37,8 +37,8 @@ pub fn take_last_turns<E: Engine, R: Threads + Wait + Sync>(
 )
     requires all_home { HasAllHome heap.now host.old }
     requires made_for { E.made_for engine.old ≡ heap.now.config.pages }
-    ensures host { GoesOnAlone E.on E.sweeps E.begins E.tells E.closes host.old host.new }
-    ensures turns { with_cycle ≡ true → TakesLastTurns (E.tells engine.new) heap.now host.new.pass }
+    ensures host { GoesOnAlone E.ways host.old host.new }
+    ensures turns { with_cycle ≡ true → TakesLastTurns (E.ways.tells engine.new) heap.now host.new.pass }
     ensures cycles { BeginsAsAsked with_cycle host.old.pass.seen host.new.pass.seen }
     ensures over { has_over host.new.pass.seen ≡ true }
 {

@@ -28,7 +28,7 @@ fn go<O: Object, E: Engine, R: Threads + Wait + Sync>(
     requires holds { HoldsAt O.plan (value_of caller.old.pass) from }
     ensures ready { IsReady O.plan E.made_for caller.new engine.new }
     ensures goes { GoesToEnd O.plan caller.old.pass from caller.new.pass result }
-    ensures exact { OwnAreExact E.on caller.old.pass → OwnAreExact E.on caller.new.pass }
+    ensures exact { OwnAreExact E.ways.on caller.old.pass → OwnAreExact E.ways.on caller.new.pass }
 {
     let mut point = from;
     'points: for _ in rt.forever() {
@@ -71,7 +71,7 @@ fn forget<O: Object, E: Engine, R: Threads + Wait + Sync>(rt: &R, caller: &mut C
     requires ready { IsReady O.plan E.made_for caller.old engine.now }
     ensures ready { IsReady O.plan E.made_for caller.new engine.now }
     ensures clears { Clears caller.old.pass O.plan.registers caller.new.pass }
-    ensures exact { OwnAreExact E.on caller.old.pass → OwnAreExact E.on caller.new.pass }
+    ensures exact { OwnAreExact E.ways.on caller.old.pass → OwnAreExact E.ways.on caller.new.pass }
 {
     for register in 0..O::registers() {
         answer_beside(rt, caller, Op::Clear { d: register });
@@ -87,7 +87,7 @@ pub(crate) fn found<O: Object, E: Engine, R: Threads + Wait + Sync>(
     requires ready { IsReady O.plan E.made_for caller.old engine.old }
     ensures ready { IsReady O.plan E.made_for caller.new engine.new }
     ensures founds { Founds O.plan caller.old.pass caller.new.pass }
-    ensures exact { OwnAreExact E.on caller.old.pass → OwnAreExact E.on caller.new.pass }
+    ensures exact { OwnAreExact E.ways.on caller.old.pass → OwnAreExact E.ways.on caller.new.pass }
 {
     let _done = go::<O, E, R>(rt, caller, engine, O::founding());
     forget::<O, E, R>(rt, caller, engine);
@@ -101,7 +101,7 @@ pub fn do_job<O: Object, E: Engine, R: Threads + Wait + Sync>(
     job: O::Job,
 ) -> O::Done
     requires ready { IsReady O.plan E.made_for caller.old engine.old }
-    ensures { HasDone O.plan E.made_for E.on caller.old job result caller.new engine.new }
+    ensures { HasDone O.plan E.made_for E.ways.on caller.old job result caller.new engine.new }
 {
     let done = go::<O, E, R>(rt, caller, engine, O::starting(job));
     forget::<O, E, R>(rt, caller, engine);

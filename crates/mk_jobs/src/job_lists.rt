@@ -39,7 +39,7 @@ pub fn run_jobs<O: Object, E: Engine, P: Pace, R: Threads + Wait + Sync>(
     ensures ready { IsReady O.plan E.made_for caller.new engine.new }
     ensures pass { caller.new.pass ≡ record caller.old.pass { seen = caller.new.pass.seen } }
     ensures does { IfOk result (λ dones. DoesJobs O.plan caller.old.pass jobs.now dones.list.items caller.new.pass) }
-    ensures exact { OwnAreExact E.on caller.old.pass → OwnAreExact E.on caller.new.pass }
+    ensures exact { OwnAreExact E.ways.on caller.old.pass → OwnAreExact E.ways.on caller.new.pass }
 {
     let number = caller.number();
     let mut list = Vec::new(alloc);

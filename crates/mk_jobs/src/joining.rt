@@ -50,10 +50,10 @@ fn work_alone<O: Object, E: Engine, P: Pace, R: Threads + Wait + Sync>(
 ) -> Worked<O::Done>
     requires exists { k < run.now.heap.now.config.callers }
     requires made { IsMadeFor O.plan run.now.heap.now.config }
-    requires pass { IsBetweenJobs E.on run.now.heap.now k pass }
+    requires pass { IsBetweenJobs E.ways.on run.now.heap.now k pass }
     requires engine { E.made_for engine ≡ run.now.heap.now.config.pages }
     ensures worked { IfSome (slice_get run.now.lists.now k) (λ jobs.
-        HasWorked O.plan E.on run.now.heap.now (replied_to pass) k jobs.list.items result) }
+        HasWorked O.plan E.ways.on run.now.heap.now (replied_to pass) k jobs.list.items result) }
 {
     let jobs = &run.lists[k as usize];
     let mut caller = Caller::new(run.heap.words(), pass);
@@ -75,9 +75,9 @@ fn join_worked<O: Object, E: Engine>(
     requires alone { worked.pass.seats ≡ worked.pass.seat ∷ [] }
     requires idle { IsIdleCaller worked.pass }
     ensures { (markers : ℕ) (first : List Replied) (k : ℕ) (jobs : Jobs O.Job) (others : List (Jobs O.Job))
-        → HasWorked O.plan E.on heap.now first k jobs.list.items worked
-        → HaveWorked O.plan E.on heap.now markers [] (k + 1) others joined
-        → HaveWorked O.plan E.on heap.now markers first k (jobs ∷ others) result }
+        → HasWorked O.plan E.ways.on heap.now first k jobs.list.items worked
+        → HaveWorked O.plan E.ways.on heap.now markers [] (k + 1) others joined
+        → HaveWorked O.plan E.ways.on heap.now markers first k (jobs ∷ others) result }
 {
     let Worked { pass, dones } = worked;
     let Joined {
@@ -108,9 +108,9 @@ pub(crate) fn run_from<
 ) -> Joined<O::Done>
     requires shared { IsSync R.row × IsSync P.row × IsSync O.row × IsSend E.row }
     requires made { IsMadeFor O.plan run.now.heap.now.config }
-    requires callers { AreCallersFrom E.on E.made_for run.now.heap.now k callers }
+    requires callers { AreCallersFrom E.ways.on E.made_for run.now.heap.now k callers }
     requires host { HasMade run.now.heap.now run.now.markers (k + 1) host }
-    ensures joined { HaveWorked O.plan E.on run.now.heap.now run.now.markers (replied_to callers.pass) k
+    ensures joined { HaveWorked O.plan E.ways.on run.now.heap.now run.now.markers (replied_to callers.pass) k
         (drop k run.now.lists.now) result }
 {
     let Callers { pass, engines } = callers;
@@ -137,17 +137,17 @@ pub(crate) fn run_from<
             requires shared { IsSync R.row × IsSync P.row × IsSend E.row }
             requires exists { k < run.now.heap.now.config.callers }
             requires made { IsMadeFor O.plan run.now.heap.now.config }
-            requires pass { IsBetweenJobs E.on run.now.heap.now k pass }
+            requires pass { IsBetweenJobs E.ways.on run.now.heap.now k pass }
             requires engine { E.made_for first ≡ run.now.heap.now.config.pages }
             ensures worked { IfSome (slice_get run.entry.now.lists.now k) (λ jobs.
-                HasWorked O.plan E.on run.entry.now.heap.now (replied_to pass) k jobs.list.items result) }
+                HasWorked O.plan E.ways.on run.entry.now.heap.now (replied_to pass) k jobs.list.items result) }
         { work_alone::<O, E, P, R>(rt, run, pace, k, pass, first) },
         move || -> Joined<O::Done>
             requires shared { IsSync R.row × IsSync P.row × IsSend E.row }
             requires made { IsMadeFor O.plan run.now.heap.now.config }
-            requires callers { AreCallersFrom E.on E.made_for run.now.heap.now (k + 1) next }
+            requires callers { AreCallersFrom E.ways.on E.made_for run.now.heap.now (k + 1) next }
             requires host { HasMade run.now.heap.now run.now.markers (k + 1 + 1) host }
-            ensures joined { HaveWorked O.plan E.on run.entry.now.heap.now run.entry.now.markers
+            ensures joined { HaveWorked O.plan E.ways.on run.entry.now.heap.now run.entry.now.markers
                 (replied_to next.pass) (k + 1) (drop (k + 1) run.entry.now.lists.now) result }
         { run_from::<O, E, P, R>(rt, run, pace, k + 1, host, next) },
     );

@@ -58,7 +58,7 @@ pub fn run_objects<O: Object + Sync, E: Engine + Send, P: Pace + Sync, R: Thread
 ) -> Result<Outcome<O::Done>, NoMemory>
     requires limits { IsWithinLimits (object_config O.plan pages resident (length lists.now) markers) }
     ensures { IfOk result
-        (IsRun O.plan E.on (object_config O.plan pages resident (length lists.now) markers) lists.now) }
+        (IsRun O.plan E.ways.on (object_config O.plan pages resident (length lists.now) markers) lists.now) }
 {
     let callers = lists.len() as u64;
     let config = object_config::<O>(alloc, pages, resident, callers, markers)?;
@@ -91,7 +91,7 @@ pub fn run<O: Linearizable + Sync, E: Engine + Send, P: Pace + Sync, R: Threads 
 ) -> Result<Outcome<O::Done>, NoMemory>
     requires limits { IsWithinLimits (object_config O.plan pages resident (length lists.now) markers) }
     ensures runs { IfOk result
-        (IsRun O.plan E.on (object_config O.plan pages resident (length lists.now) markers) lists.now) }
+        (IsRun O.plan E.ways.on (object_config O.plan pages resident (length lists.now) markers) lists.now) }
     ensures explained { IfOk result (λ outcome. AreExplainedJobs O.plan O.first O.left_by O.content
         (object_config O.plan pages resident (length lists.now) markers) (history_of outcome.report) lists.now
         outcome.done.items) }

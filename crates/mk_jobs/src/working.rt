@@ -35,7 +35,7 @@ fn found_and_work<O: Object + Sync, E: Engine + Send, P: Pace + Sync, R: Threads
     requires made { IsMadeFor O.plan run.now.heap.now.config }
     requires host { HasMade run.now.heap.now run.now.markers 0 host }
     requires engines { AreEnginesFrom E.made_for run.now.heap.now 0 engines }
-    ensures worked { HaveFoundedAndWorked O.plan E.on run.now.heap.now run.now.markers run.now.lists.now result }
+    ensures worked { HaveFoundedAndWorked O.plan E.ways.on run.now.heap.now run.now.markers run.now.lists.now result }
 {
     let mut first = host.caller(run.heap);
     found::<O, E, R>(rt, &mut first, &mut engines.first);
@@ -55,7 +55,7 @@ fn work<O: Object + Sync, E: Engine + Send, P: Pace + Sync, R: Threads + Wait + 
     requires made { IsMadeFor O.plan run.now.heap.now.config }
     requires host { HasMade run.now.heap.now run.now.markers 0 host }
     requires engines { AreEnginesOf E.made_for run.now.heap.now engines }
-    ensures ended { HaveEnded O.plan E.on run.now.heap.now run.now.markers run.now.lists.now result.0 result.1 }
+    ensures ended { HaveEnded O.plan E.ways.on run.now.heap.now run.now.markers run.now.lists.now result.0 result.1 }
 {
     let Engines {
         callers,
@@ -77,7 +77,7 @@ pub(crate) fn work_beside<
     requires made { IsMadeFor O.plan run.now.heap.now.config }
     requires host { HasMade run.now.heap.now 0 0 host }
     requires engines { AreEnginesOf E.made_for run.now.heap.now engines }
-    ensures ended { HaveEnded O.plan E.on run.now.heap.now run.now.markers run.now.lists.now result.0 result.1 }
+    ensures ended { HaveEnded O.plan E.ways.on run.now.heap.now run.now.markers run.now.lists.now result.0 result.1 }
     ensures joined { AllAreJoined result.0 }
 {
     let heap = run.heap;
@@ -94,7 +94,7 @@ pub(crate) fn work_beside<
             requires made { IsMadeFor O.plan run.now.heap.now.config }
             requires host { HasMade run.now.heap.now run.now.markers 0 host }
             requires engines { AreEnginesOf E.made_for run.now.heap.now engines }
-            ensures ended { HaveEnded O.plan E.on run.entry.now.heap.now run.entry.now.markers
+            ensures ended { HaveEnded O.plan E.ways.on run.entry.now.heap.now run.entry.now.markers
                 run.entry.now.lists.now result.0 result.1 }
         { work::<O, E, P, R>(rt, run, pace, host, engines) },
     )

@@ -40,16 +40,16 @@ fn run_by<E: Engine + Send, P: Pace + Sync, R: Threads + Wait + Sync>(
     pace: &P,
 ) -> Result<Ran, NoMemory>
     requires { markers ≤ 8 }
-    ensures runs { IfOk result (λ ran. IsRunOf E.on why program.now markers ran.0) }
+    ensures runs { IfOk result (λ ran. IsRunOf E.ways.on why program.now markers ran.0) }
     ensures begun { IfOk result (λ ran.
-        CyclesAreBegun E.begins (config_of program.now markers) (history_of ran.0.report)) }
+        CyclesAreBegun E.ways.begins (config_of program.now markers) (history_of ran.0.report)) }
     ensures markers { IfOk result (λ ran. MarkersAreBelow markers (history_of ran.0.report)) }
-    ensures reached { IfOk result (λ ran. E.sweeps ≡ false
+    ensures reached { IfOk result (λ ran. E.ways.sweeps ≡ false
         → IsUnswept (config_of program.now markers) (history_of ran.0.report)) }
     ensures said { IfOk result (λ ran.
-        CyclesAreSaid E.tells (config_of program.now markers) (history_of ran.0.report)) }
-    ensures finished { IfOk result (λ ran. E.on ≡ false
-        → CyclesAreFinished E.closes (config_of program.now markers) (history_of ran.0.report)) }
+        CyclesAreSaid E.ways.tells (config_of program.now markers) (history_of ran.0.report)) }
+    ensures finished { IfOk result (λ ran. E.ways.on ≡ false
+        → CyclesAreFinished E.ways.closes (config_of program.now markers) (history_of ran.0.report)) }
     ensures kept { IfOk result (λ ran. AreEntries why ran.1.items (config_of program.now markers)
         (history_of ran.0.report)) }
 {

@@ -24,7 +24,8 @@ pub fn enqueue<E: Engine, R: Threads + Wait + Sync>(
     n: u64,
 ) -> Result<(), Full>
     requires ready { IsReady queue_plan E.made_for caller.old engine.old }
-    ensures { HasDone queue_plan E.made_for E.on caller.old (Job.Enqueue n) (enqueued result) caller.new engine.new }
+    ensures { HasDone queue_plan E.made_for E.ways.on caller.old (Job.Enqueue n) (enqueued result)
+        caller.new engine.new }
 {
     match do_job::<Queue, E, R>(rt, caller, engine, Job::Enqueue(n)) {
         Done::Enqueued => Ok(()),
@@ -39,7 +40,7 @@ pub fn dequeue<E: Engine, R: Threads + Wait + Sync>(
     engine: &mut E,
 ) -> Option<u64>
     requires ready { IsReady queue_plan E.made_for caller.old engine.old }
-    ensures { HasDone queue_plan E.made_for E.on caller.old Job.Dequeue (dequeued result) caller.new engine.new }
+    ensures { HasDone queue_plan E.made_for E.ways.on caller.old Job.Dequeue (dequeued result) caller.new engine.new }
 {
     match do_job::<Queue, E, R>(rt, caller, engine, Job::Dequeue) {
         Done::Dequeued(n) => Some(n),
@@ -64,7 +65,7 @@ pub fn run_queue<E: Engine + Send, P: Pace + Sync, R: Threads + Wait + Sync>(
     requires markers { markers ≤ 8 }
     requires callers { IsBetween 1 16 (length lists.now) }
     ensures runs { IfOk result
-        (IsRun queue_plan E.on (object_config queue_plan pages resident (length lists.now) markers) lists.now) }
+        (IsRun queue_plan E.ways.on (object_config queue_plan pages resident (length lists.now) markers) lists.now) }
     ensures explained { IfOk result (λ outcome. AreExplainedJobs queue_plan [] left_by HasNumbers
         (object_config queue_plan pages resident (length lists.now) markers) (history_of outcome.report) lists.now
         outcome.done.items) }

@@ -1,17 +1,17 @@
 -- What an engine keeps to in the steps of the scripts' callers and of the host, up to the whole run.
 use Rattle.mk_laws.proofs.Vocabulary.{At, Bool, Caller, Config, Event, Host, IsHistory, List, Marker, Seat, ℕ, arith}
-use Rattle.mk_laws.proofs.Vocabulary.{enabled_in_parts, enabled_meets, false, group_of, is_begin, is_open_to, length}
+use Rattle.mk_laws.proofs.Vocabulary.{enabled_in_parts, enabled_meets, false, group_of, is_open_to, length}
 use Rattle.mk_laws.proofs.Vocabulary.{ltb-true, refl, seat_exists, subst, sym, through, true, true≢false, [], ◌++◌, ◌+◌}
 use Rattle.mk_laws.proofs.Vocabulary.{◌∙◌, ◌∷◌, ◌≡◌, ◌≤◌}
 use Rattle.mk_run.proofs.Vocabulary.{CallerState, Grows, Has, IsAtHome, IsFirstPass, IsScript, IsWhole, Item, PassKeeps}
 use Rattle.mk_run.proofs.Vocabulary.{PassState, WordsState, config_of, has_first, script_names, ⊎_elim}
 use Rattle.mk_core.specs.{Growing.AreOfOthers, History.AreEnabledFrom}
 use Rattle.mk_heap.proofs.Below.Cycles.Begun.{begun_append, others_begin_none}
-use Rattle.mk_heap.specs.Below.Cycles.Begun.{AreBegunFirst, CyclesAreBegun, IsBegunFirst}
+use Rattle.mk_heap.specs.Below.Cycles.{Begun.{AreBegunFirst, CyclesAreBegun, IsBegunFirst}, Ways.Ways}
 use Rattle.mk_heap.{proofs.UnsweptHistories.{markers_sweep, none_sweeps}, specs.Unswept.{IsUnswept}}
 use Rattle.mk_heap.proofs.UnsweptSeats.{first_sweeps, others_on as others_sweep_on, seat_on as seat_sweeps_on}
 use Rattle.mk_run.proofs.JoinedScripts.{same_or_later}
-use Rattle.mk_laws.proofs.Vocabulary.{Step, World, inl, inr, is_close, left, ◌⊎◌}
+use Rattle.mk_laws.proofs.Vocabulary.{Step, inl, inr, left, ◌⊎◌}
 use Rattle.mk_heap.proofs.Below.Objects.{FinishedCycles.finished_append, SaidCloses.said_append}
 use Rattle.mk_heap.specs.Below.Objects.Closes.{AreFinishedAtOnce, AreSaidAtCloses, IsFinishedAtOnce, IsSaid}
 use Rattle.mk_run.specs.{Keeping.{RunKeeps, ScriptsKeep, SeatKeeps, by_seat}, Said.{BeginsAreFinished, ClosesAreSaid}}
@@ -26,10 +26,9 @@ open_to_its_seat : {kind : Step → Bool} {c : Config} {es : List Event} (b : At
 unfolding AreEnabledFrom
 open_to_its_seat b history = grind (arith, enabled_in_parts, enabled_meets)
 
-module _ {V : Type 0} {on sweeps : Bool} {begins : Config → Seat → List Event → List Event → Type 0}
-    {tells : V → Config → World → Type 0} {closes : V → PassState → PassState → Type 0} where
+module _ {V : Type 0} {ways : Ways V} where
   -- before the first event
-  first_keeps : (c : Config) (s : Seat) (es : List Event) → es ≡ [] → SeatKeeps on sweeps begins tells closes c s es
+  first_keeps : (c : Config) (s : Seat) (es : List Event) → es ≡ [] → SeatKeeps ways c s es
   first_keeps c s es is = record {
     unswept = λ off. first_sweeps c s es is;
     begun = λ b own. absurd (nowhere b.before b.event b.behind (sym is ∙ b.is));
@@ -39,53 +38,49 @@ module _ {V : Type 0} {on sweeps : Bool} {begins : Config → Seat → List Even
 
   -- after more that its pass has seen, and after events of others
 
-  seat_on : (p q : PassState) → PassKeeps on sweeps begins tells closes p q
-      → SeatKeeps on sweeps begins tells closes p.table.config p.seat p.seen
-      → SeatKeeps on sweeps begins tells closes p.table.config p.seat q.seen
+  seat_on : (p q : PassState) → PassKeeps ways p q → SeatKeeps ways p.table.config p.seat p.seen
+      → SeatKeeps ways p.table.config p.seat q.seen
   seat_on p q more before = record {
     unswept = λ off. seat_sweeps_on p q (more.reached off) (before.unswept off);
-    begun = subst (λ (l : List Event). AreBegunFirst begins p.table.config p.seat [] l) (sym more.begun.is)
-        (begun_append begins p.table.config p.seat [] p.seen more.begun.more before.begun more.begun.each);
-    said = subst (λ (l : List Event). AreSaidAtCloses tells p.table.config p.seat [] l) (sym more.said.is)
-        (said_append tells p.table.config p.seat [] p.seen more.said.more before.said more.said.each);
+    begun = subst (λ (l : List Event). AreBegunFirst ways.begins p.table.config p.seat [] l) (sym more.begun.is)
+        (begun_append ways.begins p.table.config p.seat [] p.seen more.begun.more before.begun more.begun.each);
+    said = subst (λ (l : List Event). AreSaidAtCloses ways.tells p.table.config p.seat [] l) (sym more.said.is)
+        (said_append ways.tells p.table.config p.seat [] p.seen more.said.more before.said more.said.each);
     finished = λ off. let finished = more.finished off in
-        subst (λ (l : List Event). AreFinishedAtOnce closes p.table.config p.seat [] l) (sym finished.is)
-        (finished_append closes p.table.config p.seat [] p.seen finished.more (before.finished off) finished.each);
+        subst (λ (l : List Event). AreFinishedAtOnce ways.closes p.table.config p.seat [] l) (sym finished.is)
+        (finished_append ways.closes p.table.config p.seat [] p.seen finished.more (before.finished off) finished.each);
   }
 
   pub others_on : (c : Config) (s : Seat) (seats : List Seat) (es fs : List Event) → Has seats s → Grows seats es fs
-      → SeatKeeps on sweeps begins tells closes c s es → SeatKeeps on sweeps begins tells closes c s fs
+      → SeatKeeps ways c s es → SeatKeeps ways c s fs
   others_on c s seats es fs has g before = record {
     unswept = λ off. others_sweep_on c s seats es fs has g (before.unswept off);
-    begun = subst (λ (l : List Event). AreBegunFirst begins c s [] l) (sym g.is)
-        (begun_append begins c s [] es g.more before.begun
+    begun = subst (λ (l : List Event). AreBegunFirst ways.begins c s [] l) (sym g.is)
+        (begun_append ways.begins c s [] es g.more before.begun
         (λ b own. absurd (others_begin_none seats s g.more has g.of_others b.before b.event b.behind b.is own)));
-    said = subst (λ (l : List Event). AreSaidAtCloses tells c s [] l) (sym g.is)
-        (said_append tells c s [] es g.more before.said
+    said = subst (λ (l : List Event). AreSaidAtCloses ways.tells c s [] l) (sym g.is)
+        (said_append ways.tells c s [] es g.more before.said
         (λ k own. absurd (others_begin_none seats s g.more has g.of_others k.before k.event k.behind k.is own)));
-    finished = λ off. subst (λ (l : List Event). AreFinishedAtOnce closes c s [] l) (sym g.is)
-        (finished_append closes c s [] es g.more (before.finished off)
+    finished = λ off. subst (λ (l : List Event). AreFinishedAtOnce ways.closes c s [] l) (sym g.is)
+        (finished_append ways.closes c s [] es g.more (before.finished off)
         (λ b own. absurd (others_begin_none seats s g.more has g.of_others b.before b.event b.behind b.is own)));
   }
 
   -- the run of one script, from its first pass
   pub script_keeps : {w : WordsState} {k : ℕ} {first : PassState} (s : CallerState) (q r : PassState)
-      → IsFirstPass w k first → IsAtHome s first → PassKeeps on sweeps begins tells closes s.pass q → r ≡ q
-      → SeatKeeps on sweeps begins tells closes w.config (Caller k) r.seen
+      → IsFirstPass w k first → IsAtHome s first → PassKeeps ways s.pass q → r ≡ q
+      → SeatKeeps ways w.config (Caller k) r.seen
   script_keeps s q r at is more same = grind (arith, first_keeps, seat_on)
 
   -- The host goes on.
-  pub host_on : (w : WordsState) {p q : PassState} → p.table ≡ w → p.seat ≡ Host
-      → PassKeeps on sweeps begins tells closes p q
-      → SeatKeeps on sweeps begins tells closes w.config Host p.seen
-      → SeatKeeps on sweeps begins tells closes w.config Host q.seen
+  pub host_on : (w : WordsState) {p q : PassState} → p.table ≡ w → p.seat ≡ Host → PassKeeps ways p q
+      → SeatKeeps ways w.config Host p.seen → SeatKeeps ways w.config Host q.seen
   host_on w table seat more before = grind (arith, seat_on)
 
   -- The callers are still.
   pub scripts_on : {program : List Item} {k : ℕ} {c : Config} {es : List Event} (fs : List Event)
       → ((j : ℕ) → k ≤ j → IsScript program j → Grows (Caller j ∷ []) es fs)
-      → ScriptsKeep on sweeps begins tells closes program k c es
-      → ScriptsKeep on sweeps begins tells closes program k c fs
+      → ScriptsKeep ways program k c es → ScriptsKeep ways program k c fs
   scripts_on {c} {es} fs still before = record {
     callers = λ j le is. others_on c (Caller j) (Caller j ∷ []) es fs (has_first (Caller j) []) (still j le is)
         (before.callers j le is);
@@ -93,9 +88,8 @@ module _ {V : Type 0} {on sweeps : Bool} {begins : Config → Seat → List Even
 
   -- One more is joined.
   pub script_joined : {program : List Item} {k : ℕ} {c : Config} {seats : List Seat} {es fs : List Event}
-      → seats ≡ Caller k ∷ [] → Grows seats es fs → SeatKeeps on sweeps begins tells closes c (Caller k) es
-      → ScriptsKeep on sweeps begins tells closes program (k + 1) c fs
-      → ScriptsKeep on sweeps begins tells closes program k c fs
+      → seats ≡ Caller k ∷ [] → Grows seats es fs → SeatKeeps ways c (Caller k) es
+      → ScriptsKeep ways program (k + 1) c fs → ScriptsKeep ways program k c fs
   script_joined {k} {c} {es} {fs} alone came mine others = record {
     callers = λ j le is. ⊎_elim (λ (same : j ≡ k). rw same (others_on c (Caller k) (Caller k ∷ []) es fs
         (has_first (Caller k) []) (subst (λ (l : List Seat). Grows l es fs) alone came) mine))
@@ -104,12 +98,11 @@ module _ {V : Type 0} {on sweeps : Bool} {begins : Config → Seat → List Even
 
   -- before any is made
   pub none_joined : (program : List Item) (k : ℕ) (c : Config) (es : List Event) → es ≡ []
-      → k ≡ length (script_names program) → ScriptsKeep on sweeps begins tells closes program k c es
+      → k ≡ length (script_names program) → ScriptsKeep ways program k c es
   none_joined program k c es none all = record { callers = λ j le is. absurd (omega arith) }
 
   -- The host has taken no step.
-  pub unseen_keeps : (c : Config) (s : Seat) (es : List Event) → AreOfOthers (s ∷ []) es
-      → SeatKeeps on sweeps begins tells closes c s es
+  pub unseen_keeps : (c : Config) (s : Seat) (es : List Event) → AreOfOthers (s ∷ []) es → SeatKeeps ways c s es
   unseen_keeps c s es others =
       others_on c s (s ∷ []) [] es (has_first s []) (record { more = es; is = refl; of_others = others })
       (first_keeps c s [] refl)
@@ -133,30 +126,24 @@ same_by_seat {begins} {c} are b =
     same Host part = part
 
 -- All seats of the whole run are the scripts', the host's and markers'. No marker begins a cycle or sweeps.
-module _ {V : Type 0} {W : Type 0} {on sweeps : Bool} {begins : Config → Seat → List Event → List Event → Type 0}
-    {tells : V → Config → World → Type 0} {closes : V → PassState → PassState → Type 0} {host_on host_sweeps : Bool}
-    {host_begins : Config → Seat → List Event → List Event → Type 0} {host_tells : W → Config → World → Type 0}
-    {host_closes : W → PassState → PassState → Type 0} (program : List Item) (markers : ℕ)
+module _ {V : Type 0} {W : Type 0} {ways : Ways V} {host_ways : Ways W} (program : List Item) (markers : ℕ)
     {w d : Config} {es seen : List Event} (made : w ≡ config_of program markers) (same : d ≡ w) (is : es ≡ seen)
     (whole : IsWhole d es)
-    (keep : RunKeeps on sweeps begins tells closes host_on host_sweeps host_begins host_tells host_closes program w
-    seen) where
+    (keep : RunKeeps ways host_ways program w seen) where
   abbrev c : Config
   c = config_of program markers
 
   history : IsHistory c es
   history = (subst (λ (x : Config). IsWhole x es) (same ∙ made) whole).history
 
-  keeps : RunKeeps on sweeps begins tells closes host_on host_sweeps host_begins host_tells host_closes program c es
-  keeps =
-      rw is (subst (λ (x : Config). RunKeeps on sweeps begins tells closes host_on host_sweeps host_begins host_tells
-      host_closes program x seen) made keep)
+  keeps : RunKeeps ways host_ways program c es
+  keeps = rw is (subst (λ (x : Config). RunKeeps ways host_ways program x seen) made keep)
 
-  pub run_is_begun : CyclesAreBegun (by_seat begins host_begins) c es
+  pub run_is_begun : CyclesAreBegun (by_seat ways.begins host_ways.begins) c es
   run_is_begun b = let at = open_to_its_seat b history in by b.event.seat at.0 at.1 refl
     where
-      caller : (j : ℕ) → b.event.seat ≡ Caller j → IsBegunFirst begins c (Caller j) (through b) b.behind
-          → IsBegunFirst (by_seat begins host_begins) c (Caller j) (through b) b.behind
+      caller : (j : ℕ) → b.event.seat ≡ Caller j → IsBegunFirst ways.begins c (Caller j) (through b) b.behind
+          → IsBegunFirst (by_seat ways.begins host_ways.begins) c (Caller j) (through b) b.behind
       caller j of_seat one = record {
         first = one.first;
         rest = one.rest;
@@ -167,7 +154,7 @@ module _ {V : Type 0} {W : Type 0} {on sweeps : Bool} {begins : Config → Seat 
       }
 
       by : (s : Seat) → seat_exists c s ≡ true → is_open_to s (group_of b.event.step) ≡ true → b.event.seat ≡ s
-          → IsBegunFirst (by_seat begins host_begins) c s (through b) b.behind
+          → IsBegunFirst (by_seat ways.begins host_ways.begins) c s (through b) b.behind
       by (Caller j) exists may of_seat =
           caller j of_seat ((keeps.scripts.callers j (omega arith)
           (ltb-true j (length (script_names program)) exists)).begun b of_seat)
@@ -182,27 +169,28 @@ module _ {V : Type 0} {W : Type 0} {on sweeps : Bool} {begins : Config → Seat 
             holds = one.holds;
           }
 
-  pub run_is_said : ClosesAreSaid tells host_tells c es
+  pub run_is_said : ClosesAreSaid ways.tells host_ways.tells c es
   run_is_said k = let at = open_to_its_seat k history in by k.event.seat at.0 at.1 refl
     where
       by : (s : Seat) → seat_exists c s ≡ true → is_open_to s (group_of k.event.step) ≡ true → k.event.seat ≡ s
-          → IsSaid tells c (left c k.before) ⊎ IsSaid host_tells c (left c k.before)
+          → IsSaid ways.tells c (left c k.before) ⊎ IsSaid host_ways.tells c (left c k.before)
       by (Caller j) exists may of_seat =
           let script = keeps.scripts.callers j (omega arith) (ltb-true j (length (script_names program)) exists) in
           inl (script.said k of_seat)
       by (Marker j) exists may of_seat = absurd (true≢false (sym k.of_kind ∙ (grind arith)))
       by Host exists may of_seat = inr (keeps.host.said k of_seat)
 
-  pub run_is_finished : on ≡ false → host_on ≡ false → BeginsAreFinished closes host_closes c es
+  pub run_is_finished : ways.on ≡ false → host_ways.on ≡ false → BeginsAreFinished ways.closes host_ways.closes c es
   run_is_finished off host_off b = let at = open_to_its_seat b history in by b.event.seat at.0 at.1 refl
     where
       by : (s : Seat) → seat_exists c s ≡ true → is_open_to s (group_of b.event.step) ≡ true → b.event.seat ≡ s
-          → IsFinishedAtOnce closes c s (through b) b.behind ⊎ IsFinishedAtOnce host_closes c s (through b) b.behind
+          → IsFinishedAtOnce ways.closes c s (through b) b.behind
+          ⊎ IsFinishedAtOnce host_ways.closes c s (through b) b.behind
       by (Caller j) exists may of_seat =
           inl ((keeps.scripts.callers j (omega arith)
           (ltb-true j (length (script_names program)) exists)).finished off b of_seat)
       by (Marker j) exists may of_seat = absurd (true≢false (sym b.of_kind ∙ (grind arith)))
       by Host exists may of_seat = inr (keeps.host.finished host_off b of_seat)
 
-  pub run_is_unswept : sweeps ≡ false → host_sweeps ≡ false → IsUnswept c es
+  pub run_is_unswept : ways.sweeps ≡ false → host_ways.sweeps ≡ false → IsUnswept c es
   run_is_unswept off host_off = grind (arith, none_sweeps, history, keeps, ltb-true, markers_sweep)

@@ -47,8 +47,8 @@ fn run_alone<E: Engine, P: Pace, R: Threads + Wait + Sync>(
     requires script { IsScript run.now.program.now k }
     requires pass { IsFirstPass run.now.heap.now k pass }
     requires ready { IsReadyScript E.made_for run.now.program.now run.now.heap.now.config.pages k ready }
-    ensures ran { HasRun E.on run.now.program.now run.now.heap.now k result }
-    ensures keeps { SeatKeeps E.on E.sweeps E.begins E.tells E.closes run.now.heap.now.config (seat.Caller k)
+    ensures ran { HasRun E.ways.on run.now.program.now run.now.heap.now k result }
+    ensures keeps { SeatKeeps E.ways run.now.heap.now.config (seat.Caller k)
         result.pass.seen }
 {
     let mut caller = Caller::new(run.heap.words(), pass);
@@ -72,8 +72,8 @@ pub(crate) fn run_from<E: Engine + Send, P: Pace + Sync, R: Threads + Wait + Syn
     requires shared { IsSync R.row × IsSync P.row × IsSend E.row }
     requires host { HasMade run.now.heap.now run.now.markers k host }
     requires scripts { AreReadyFrom E.made_for run.now.program.now run.now.heap.now.config k scripts.items }
-    ensures joined { AreJoined E.on run.now.program.now run.now.heap.now k run.now.markers result }
-    ensures keep { ScriptsKeep E.on E.sweeps E.begins E.tells E.closes run.now.program.now k run.now.heap.now.config
+    ensures joined { AreJoined E.ways.on run.now.program.now run.now.heap.now k run.now.markers result }
+    ensures keep { ScriptsKeep E.ways run.now.program.now k run.now.heap.now.config
         result.host.pass.seen }
 {
     let Some(ready) = scripts.pop_front() else {
@@ -90,8 +90,8 @@ pub(crate) fn run_from<E: Engine + Send, P: Pace + Sync, R: Threads + Wait + Syn
             requires script { IsScript run.now.program.now k }
             requires pass { IsFirstPass run.now.heap.now k pass }
             requires ready { IsReadyScript E.made_for run.now.program.now run.now.heap.now.config.pages k ready }
-            ensures ran { HasRun E.on run.entry.now.program.now run.entry.now.heap.now k result }
-            ensures keeps { SeatKeeps E.on E.sweeps E.begins E.tells E.closes run.entry.now.heap.now.config
+            ensures ran { HasRun E.ways.on run.entry.now.program.now run.entry.now.heap.now k result }
+            ensures keeps { SeatKeeps E.ways run.entry.now.heap.now.config
                 (seat.Caller k) result.pass.seen }
         { run_alone(rt, run, pace, k, pass, ready) },
         move || -> Joined
@@ -99,9 +99,9 @@ pub(crate) fn run_from<E: Engine + Send, P: Pace + Sync, R: Threads + Wait + Syn
             requires host { HasMade run.now.heap.now run.now.markers (k + 1) host }
             requires scripts { AreReadyFrom E.made_for run.now.program.now run.now.heap.now.config (k + 1)
                 scripts.items }
-            ensures joined { AreJoined E.on run.entry.now.program.now run.entry.now.heap.now (k + 1)
+            ensures joined { AreJoined E.ways.on run.entry.now.program.now run.entry.now.heap.now (k + 1)
                 run.entry.now.markers result }
-            ensures keep { ScriptsKeep E.on E.sweeps E.begins E.tells E.closes run.entry.now.program.now (k + 1)
+            ensures keep { ScriptsKeep E.ways run.entry.now.program.now (k + 1)
                 run.entry.now.heap.now.config result.host.pass.seen }
         { run_from(rt, run, pace, k + 1, host, scripts) },
     );

@@ -33,11 +33,11 @@ fn run_scripts<E: Engine + Send, F: Engine + Send, P: Pace + Sync, R: Threads + 
     requires shared { IsSync R.row × IsSync P.row × IsSend E.row }
     requires host { HasMade run.now.heap.now run.now.markers 0 host }
     requires ready { IsReadyRun E.made_for F.made_for run.now.program.now run.now.heap.now.config ready }
-    ensures over { IsOver E.on run.now.with_cycle run.now.program.now run.now.heap.now run.now.markers result.0
+    ensures over { IsOver E.ways.on run.now.with_cycle run.now.program.now run.now.heap.now run.now.markers result.0
         result.1 }
     ensures turns { run.now.with_cycle ≡ true
-        → TakesLastTurns (F.tells result.1.engine) run.now.heap.now result.0.pass }
-    ensures keep { RunKeeps E.on E.sweeps E.begins E.tells E.closes F.on F.sweeps F.begins F.tells F.closes
+        → TakesLastTurns (F.ways.tells result.1.engine) run.now.heap.now result.0.pass }
+    ensures keep { RunKeeps E.ways F.ways
         run.now.program.now run.now.heap.now.config result.0.pass.seen }
 {
     let ReadyRun {
@@ -59,12 +59,12 @@ pub(crate) fn run_beside<
     requires shared { IsSync R.row × IsSync P.row × IsSend E.row }
     requires host { HasMade run.now.heap.now 0 0 host }
     requires ready { IsReadyRun E.made_for F.made_for run.now.program.now run.now.heap.now.config ready }
-    ensures over { IsOver E.on run.now.with_cycle run.now.program.now run.now.heap.now run.now.markers result.0
+    ensures over { IsOver E.ways.on run.now.with_cycle run.now.program.now run.now.heap.now run.now.markers result.0
         result.1 }
     ensures joined { AllAreJoined result.0 }
     ensures turns { run.now.with_cycle ≡ true
-        → TakesLastTurns (F.tells result.1.engine) run.now.heap.now result.0.pass }
-    ensures keep { RunKeeps E.on E.sweeps E.begins E.tells E.closes F.on F.sweeps F.begins F.tells F.closes
+        → TakesLastTurns (F.ways.tells result.1.engine) run.now.heap.now result.0.pass }
+    ensures keep { RunKeeps E.ways F.ways
         run.now.program.now run.now.heap.now.config result.0.pass.seen }
 {
     let heap = run.heap;
@@ -80,11 +80,11 @@ pub(crate) fn run_beside<
             requires shared { IsSync R.row × IsSync P.row × IsSend E.row }
             requires host { HasMade run.now.heap.now run.now.markers 0 host }
             requires ready { IsReadyRun E.made_for F.made_for run.now.program.now run.now.heap.now.config ready }
-            ensures over { IsOver E.on run.entry.now.with_cycle run.entry.now.program.now run.entry.now.heap.now
+            ensures over { IsOver E.ways.on run.entry.now.with_cycle run.entry.now.program.now run.entry.now.heap.now
                 run.entry.now.markers result.0 result.1 }
             ensures turns { run.entry.now.with_cycle ≡ true
-                → TakesLastTurns (F.tells result.1.engine) run.entry.now.heap.now result.0.pass }
-            ensures keep { RunKeeps E.on E.sweeps E.begins E.tells E.closes F.on F.sweeps F.begins F.tells F.closes
+                → TakesLastTurns (F.ways.tells result.1.engine) run.entry.now.heap.now result.0.pass }
+            ensures keep { RunKeeps E.ways F.ways
                 run.entry.now.program.now run.entry.now.heap.now.config result.0.pass.seen }
         { run_scripts(rt, run, pace, host, ready) },
     )

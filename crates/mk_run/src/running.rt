@@ -35,19 +35,20 @@ pub(crate) fn run_and_close<
     with_cycle: bool,
 ) -> Result<(Outcome, F), NoMemory>
     requires markers { markers ≤ 8 }
-    ensures runs { IfOk result (λ ran. IsRunOf E.on with_cycle program.now markers ran.0) }
+    ensures runs { IfOk result (λ ran. IsRunOf E.ways.on with_cycle program.now markers ran.0) }
     ensures cycle { with_cycle ≡ true
-        → IfOk result (λ ran. EndsWithCycle (F.tells ran.1) (config_of program.now markers)
+        → IfOk result (λ ran. EndsWithCycle (F.ways.tells ran.1) (config_of program.now markers)
         (history_of ran.0.report)) }
-    ensures reached { IfOk result (λ ran. E.sweeps ≡ false → F.sweeps ≡ false
+    ensures reached { IfOk result (λ ran. E.ways.sweeps ≡ false → F.ways.sweeps ≡ false
         → IsUnswept (config_of program.now markers) (history_of ran.0.report)) }
     ensures begun { IfOk result (λ ran.
-        CyclesAreBegun (by_seat E.begins F.begins) (config_of program.now markers) (history_of ran.0.report)) }
+        CyclesAreBegun (by_seat E.ways.begins F.ways.begins)
+        (config_of program.now markers) (history_of ran.0.report)) }
     ensures markers { IfOk result (λ ran. MarkersAreBelow markers (history_of ran.0.report)) }
     ensures said { IfOk result (λ ran.
-        ClosesAreSaid E.tells F.tells (config_of program.now markers) (history_of ran.0.report)) }
-    ensures finished { IfOk result (λ ran. E.on ≡ false → F.on ≡ false
-        → BeginsAreFinished E.closes F.closes (config_of program.now markers) (history_of ran.0.report)) }
+        ClosesAreSaid E.ways.tells F.ways.tells (config_of program.now markers) (history_of ran.0.report)) }
+    ensures finished { IfOk result (λ ran. E.ways.on ≡ false → F.ways.on ≡ false
+        → BeginsAreFinished E.ways.closes F.ways.closes (config_of program.now markers) (history_of ran.0.report)) }
 {
     // No thread is started before all is ready.
     let config = program.config(alloc, markers)?;
@@ -82,16 +83,16 @@ pub fn run_all<E: Engine + Send, P: Pace + Sync, R: Threads + Wait + Sync>(
 ) -> Result<Outcome, NoMemory>
     requires markers { markers ≤ 8 }
     ensures seen { IfOk result (λ outcome. ObservedRun program.now (printed outcome)) }
-    ensures runs { IfOk result (IsRunOf E.on false program.now markers) }
-    ensures reached { IfOk result (λ outcome. E.sweeps ≡ false
+    ensures runs { IfOk result (IsRunOf E.ways.on false program.now markers) }
+    ensures reached { IfOk result (λ outcome. E.ways.sweeps ≡ false
         → IsUnswept (config_of program.now markers) (history_of outcome.report)) }
     ensures begun { IfOk result (λ outcome.
-        CyclesAreBegun E.begins (config_of program.now markers) (history_of outcome.report)) }
+        CyclesAreBegun E.ways.begins (config_of program.now markers) (history_of outcome.report)) }
     ensures markers { IfOk result (λ outcome. MarkersAreBelow markers (history_of outcome.report)) }
     ensures said { IfOk result (λ outcome.
-        CyclesAreSaid E.tells (config_of program.now markers) (history_of outcome.report)) }
-    ensures finished { IfOk result (λ outcome. E.on ≡ false
-        → CyclesAreFinished E.closes (config_of program.now markers) (history_of outcome.report)) }
+        CyclesAreSaid E.ways.tells (config_of program.now markers) (history_of outcome.report)) }
+    ensures finished { IfOk result (λ outcome. E.ways.on ≡ false
+        → CyclesAreFinished E.ways.closes (config_of program.now markers) (history_of outcome.report)) }
 {
     let ran: (Outcome, E) = run_and_close::<E, E, P, R>(rt, alloc, program, markers, pace, false)?;
     Ok(ran.0)

@@ -93,15 +93,15 @@ pub fn run_script<E: Engine, P: Pace, R: Threads + Wait + Sync>(
     requires alone { caller.old.pass.seats ≡ caller.old.pass.seat ∷ [] }
     requires script { IsScript program.now k }
     requires config { caller.old.pass.table.config ≡ config_of program.now caller.old.pass.table.config.markers }
-    requires follows { FollowsScript E.on program.now k caller.old.pass.table.config caller.old.pass.seen }
+    requires follows { FollowsScript E.ways.on program.now k caller.old.pass.table.config caller.old.pass.seen }
     requires no_call { answers_in caller.old.pass.table.config k caller.old.pass.seen ≡ [] }
     requires ready { IsReadyScript E.made_for program.now caller.old.pass.table.config.pages k ready }
     ensures home { caller.new.home ≡ true }
     ensures pass { caller.new.pass ≡ record caller.old.pass { seen = caller.new.pass.seen } }
-    ensures follows { FollowsScript E.on program.now k caller.new.pass.table.config caller.new.pass.seen }
+    ensures follows { FollowsScript E.ways.on program.now k caller.new.pass.table.config caller.new.pass.seen }
     ensures ends { IfOk result (λ text. EndsScript program.now k caller.new.pass.table.config caller.new.pass.seen) }
     ensures text { IfOk result (IsTextOf program.now k caller.new.pass.table.config caller.new.pass.seen) }
-    ensures keeps { PassKeeps E.on E.sweeps E.begins E.tells E.closes caller.old.pass caller.new.pass }
+    ensures keeps { PassKeeps E.ways caller.old.pass caller.new.pass }
 {
     // The program is well typed, so its scripts ask for nothing that isn't admitted.
     let _well_typed = program.program();

@@ -28,18 +28,18 @@ pub fn run_why<E: Engine + Send, P: Pace + Sync, R: Threads + Wait + Sync>(
 ) -> Result<(Outcome, Vec<Kept>), NoMemory>
     requires markers { markers ≤ 8 }
     ensures seen { IfOk result (λ ran. ObservedRun program.now (printed ran.0)) }
-    ensures runs { IfOk result (λ ran. IsRunOf E.on true program.now markers ran.0) }
+    ensures runs { IfOk result (λ ran. IsRunOf E.ways.on true program.now markers ran.0) }
     ensures kept { IfOk result (λ ran. EndsWithCycle (λ c w. AreKept c w ran.1.items) (config_of program.now markers)
         (history_of ran.0.report)) }
-    ensures reached { IfOk result (λ ran. E.sweeps ≡ false
+    ensures reached { IfOk result (λ ran. E.ways.sweeps ≡ false
         → IsUnswept (config_of program.now markers) (history_of ran.0.report)) }
     ensures begun { IfOk result (λ ran.
-        CyclesAreBegun E.begins (config_of program.now markers) (history_of ran.0.report)) }
+        CyclesAreBegun E.ways.begins (config_of program.now markers) (history_of ran.0.report)) }
     ensures markers { IfOk result (λ ran. MarkersAreBelow markers (history_of ran.0.report)) }
     ensures said { IfOk result (λ ran.
-        CyclesAreSaid E.tells (config_of program.now markers) (history_of ran.0.report)) }
-    ensures finished { IfOk result (λ ran. E.on ≡ false
-        → CyclesAreFinished E.closes (config_of program.now markers) (history_of ran.0.report)) }
+        CyclesAreSaid E.ways.tells (config_of program.now markers) (history_of ran.0.report)) }
+    ensures finished { IfOk result (λ ran. E.ways.on ≡ false
+        → CyclesAreFinished E.ways.closes (config_of program.now markers) (history_of ran.0.report)) }
 {
     let ran: (Outcome, Why<E>) = run_and_close::<E, Why<E>, P, R>(
         rt, alloc, program, markers, pace, true,

@@ -24,7 +24,7 @@ pub fn push<E: Engine, R: Threads + Wait + Sync>(
     n: u64,
 ) -> Result<(), Full>
     requires ready { IsReady stack_plan E.made_for caller.old engine.old }
-    ensures { HasDone stack_plan E.made_for E.on caller.old (Job.Push n) (pushed result) caller.new engine.new }
+    ensures { HasDone stack_plan E.made_for E.ways.on caller.old (Job.Push n) (pushed result) caller.new engine.new }
 {
     match do_job::<Stack, E, R>(rt, caller, engine, Job::Push(n)) {
         Done::Pushed => Ok(()),
@@ -39,7 +39,7 @@ pub fn pop<E: Engine, R: Threads + Wait + Sync>(
     engine: &mut E,
 ) -> Option<u64>
     requires ready { IsReady stack_plan E.made_for caller.old engine.old }
-    ensures { HasDone stack_plan E.made_for E.on caller.old Job.Pop (popped result) caller.new engine.new }
+    ensures { HasDone stack_plan E.made_for E.ways.on caller.old Job.Pop (popped result) caller.new engine.new }
 {
     match do_job::<Stack, E, R>(rt, caller, engine, Job::Pop) {
         Done::Popped(n) => Some(n),
@@ -74,7 +74,7 @@ pub fn run_stack<E: Engine + Send, P: Pace + Sync, R: Threads + Wait + Sync>(
     requires markers { markers ≤ 8 }
     requires callers { IsBetween 1 16 (length lists.now) }
     ensures runs { IfOk result
-        (IsRun stack_plan E.on (stack_config pages resident (length lists.now) markers) lists.now) }
+        (IsRun stack_plan E.ways.on (stack_config pages resident (length lists.now) markers) lists.now) }
     ensures explained { IfOk result (λ outcome. AreExplainedJobs stack_plan [] left_by HasNumbers
         (stack_config pages resident (length lists.now) markers) (history_of outcome.report) lists.now
         outcome.done.items) }

@@ -32,17 +32,15 @@ impl SweepEngine {
 }
 
 impl Engine for SweepEngine {
-    ghost on = { false };
-
-    ghost sweeps = { true };
+    ghost ways = { record {
+      on = false;
+      sweeps = true;
+      begins = DoesNothing;
+      tells = λ engine c w. SweptAreMarked c w;
+      closes = λ engine p q. Sweeps p q engine.looks;
+    } };
 
     ghost made_for = { λ engine. engine.pages };
-
-    ghost tells = { λ engine c w. SweptAreMarked c w };
-
-    ghost begins = { DoesNothing };
-
-    ghost closes = { λ engine p q. Sweeps p q engine.looks };
 
     fn make(_alloc: Global, pages: u64) -> Result<SweepEngine, NoMemory>
         ensures made_for { IfOk result (λ engine. engine.pages ≡ pages) }

@@ -32,8 +32,8 @@ fn call<E: Engine, R: Threads + Wait + Sync>(
     requires made_for { E.made_for engine.old ≡ heap.now.config.pages }
     ensures home { CallerIsHome heap.now host.new }
     ensures made_for { E.made_for engine.new ≡ E.made_for engine.old }
-    ensures does { DoesCall E.on heap.now.config host.old.pass.seen op result host.new.pass.seen }
-    ensures exact { E.on ≡ false → E.sweeps ≡ false
+    ensures does { DoesCall E.ways.on heap.now.config host.old.pass.seen op result host.new.pass.seen }
+    ensures exact { E.ways.on ≡ false → E.ways.sweeps ≡ false
         → StayExact heap.now.config host.old.pass.seen host.new.pass.seen }
 {
     let mut caller = host.caller_again(heap, 0);
@@ -55,8 +55,8 @@ fn answer<E: Engine, R: Threads + Wait + Sync>(
 ) -> Result<Answer, NoMemory>
     requires slot { slot < 64 }
     requires points { FreesSlot (never_behind heap.now.config player.old.host.pass.seen) slot op }
-    requires off { E.on ≡ false }
-    requires unswept { E.sweeps ≡ false }
+    requires off { E.ways.on ≡ false }
+    requires unswept { E.ways.sweeps ≡ false }
     requires between { IsBetweenCalls E.made_for heap.now player.old }
     requires few { ends player.old.host.pass.seen < 18446744073709551615 }
     requires admitted { MayCome heap.now.config player.old.host.pass.seen op }
@@ -89,8 +89,8 @@ pub(crate) fn refuses<E: Engine, R: Threads + Wait + Sync>(
     event: TraceEvent,
 ) -> Result<bool, NoMemory>
     requires slot { slot_of event < 64 }
-    requires off { E.on ≡ false }
-    requires unswept { E.sweeps ≡ false }
+    requires off { E.ways.on ≡ false }
+    requires unswept { E.ways.sweeps ≡ false }
     requires between { IsBetweenCalls E.made_for heap.now player.old }
     requires few { ends player.old.host.pass.seen + 6 < 18446744073709551615 }
     requires admitted { MayBePlayed heap.now.config player.old.host.pass.seen event }

@@ -51,8 +51,8 @@ fn play_events<E: Engine, R: Threads + Wait + Sync>(
     player: &mut Player<E>,
 ) -> Result<u64, NoMemory>
     requires config { heap.now.config ≡ spec.config_of trace.now }
-    requires off { E.on ≡ false }
-    requires unswept { E.sweeps ≡ false }
+    requires off { E.ways.on ≡ false }
+    requires unswept { E.ways.sweeps ≡ false }
     requires between { IsBetweenCalls E.made_for heap.now player.old }
     requires none_ended { ends player.old.host.pass.seen ≡ 0 }
     requires no_call { SameCalls heap.now.config [] player.old.host.pass.seen }
@@ -76,8 +76,8 @@ fn play_by<E: Engine, R: Threads + Wait + Sync>(
     alloc: Global,
     trace: &Trace,
 ) -> Result<Peaks, NoMemory>
-    requires off { E.on ≡ false }
-    requires unswept { E.sweeps ≡ false }
+    requires off { E.ways.on ≡ false }
+    requires unswept { E.ways.sweeps ≡ false }
     ensures played { IfOk result (λ peaks. IsPlayed trace.now (history_of peaks)) }
     ensures peaks { IfOk result (λ peaks. ArePeaks trace.now (history_of peaks) peaks) }
 {

@@ -41,7 +41,7 @@ impl<E: Engine> Model for Why<E> {
 impl<E: Engine> Why<E> {
     /// What the last `close_marks` found kept, and why. Before the first the list is empty.
     pub fn kept(&self, alloc: Global) -> Result<Vec<Kept>, NoMemory>
-        ensures kept { (c : Config) (w : World) → ⟦<Why<E> as Engine>⟧.tells self.now c w
+        ensures kept { (c : Config) (w : World) → ⟦<Why<E> as Engine>⟧.ways.tells self.now c w
             → IfOk result (λ entries. AreKept c w entries.items) }
         ensures none { HasKeptNothing self.now → IfOk result (λ entries. entries.items ≡ []) }
     {
@@ -50,17 +50,15 @@ impl<E: Engine> Why<E> {
 }
 
 impl<E: Engine> Engine for Why<E> {
-    ghost on = { E.on };
-
-    ghost sweeps = { E.sweeps };
-
-    ghost begins = { E.begins };
-
-    ghost closes = { λ why p q. IsClosedBefore (E.closes why.inner) p q };
+    ghost ways = { record {
+      on = E.ways.on;
+      sweeps = E.ways.sweeps;
+      begins = E.ways.begins;
+      tells = λ why c w. IsToldBefore (E.ways.tells why.inner) c w × IsTold c why.found why.kept (view_of w);
+      closes = λ why p q. IsClosedBefore (E.ways.closes why.inner) p q;
+    } };
 
     ghost made_for = { λ why. pages_for (E.made_for why.inner) (length why.found) };
-
-    ghost tells = { λ why c w. IsToldBefore (E.tells why.inner) c w × IsTold c why.found why.kept (view_of w) };
 
     fn make(alloc: Global, pages: u64) -> Result<Why<E>, NoMemory>
         ensures made_for { IfOk result (λ why. ⟦<Why<E> as Engine>⟧.made_for why ≡ pages) }
@@ -84,8 +82,8 @@ impl<E: Engine> Engine for Why<E> {
         ensures found { self.new.found ≡ self.old.found }
         ensures kept { self.new.kept ≡ self.old.kept }
         ensures law { BeginsMarking turn.old.pass turn.new.pass }
-        ensures reached { E.sweeps ≡ false → SweepsNothing turn.old.pass turn.new.pass }
-        ensures begun { IsBegun E.begins turn.old.pass turn.new.pass }
+        ensures reached { E.ways.sweeps ≡ false → SweepsNothing turn.old.pass turn.new.pass }
+        ensures begun { IsBegun E.ways.begins turn.old.pass turn.new.pass }
     {
         words.is_within_limits();
         self.inner.begin(rt, words, turn);

@@ -12,7 +12,7 @@ returns-then-keeps_on-clause-keeps g c =
     yet_then (older_same c.requires.may_run.quiet.phase older.ends) older.keeps (record {
       reached = begins.reached;
       begun = begins.begun;
-      said = begin_says_none g.E.Engine.tells begins.law;
+      said = begin_says_none g.E.Engine.ways.tells begins.law;
       finished = λ off. absurd (true≢false (sym c.if-keeps_on.true ∙ c.keeps_on.ensures ∙ off));
     })
 
@@ -22,10 +22,10 @@ returns-else-keeps_on-clause-keeps g c =
     let finished = c.finish_cycle-turn.ensures in
     let begins = c.begin_cycle.ensures in
     let own = c.begin_cycle.new.turn.in_order.own in
-    let both = left_keeps begins.law.pass begins.reached begins.begun (begin_says_none g.E.Engine.tells begins.law)
+    let both = left_keeps begins.law.pass begins.reached begins.begun (begin_says_none g.E.Engine.ways.tells begins.law)
     (finish_keeps c.finish_cycle-turn.new.engine c.begin_cycle.new.turn.in_order finished.law
     c.finish_cycle-turn.result.0.in_order.history finished.reached finished.told) (finish_holds own finished.law)
-    (λ off. begun_and_finished g.E.Engine.closes c.finish_cycle-turn.new.engine
+    (λ off. begun_and_finished g.E.Engine.ways.closes c.finish_cycle-turn.new.engine
     c.finish_older-turn.result.in_order.own begins.law finished.closed
     (finish_begins_none Never c.begin_cycle.new.turn.pass c.finish_cycle-turn.result.0.pass own finished.law)) in
     yet_then (older_same c.requires.may_run.quiet.phase older.ends) older.keeps

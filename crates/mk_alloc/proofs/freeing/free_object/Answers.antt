@@ -16,7 +16,7 @@ retire_object-requires-clause-unloaded g c κs within =
 
 -- The object was freed: the turn goes on to the end of a cycle that is due.
 frees : (g : _) (c : After-run_if_due-turn g)
-    → Frees g.E.Engine.on c.in-Ok.freed.due c.args.p c.args.caller.now.pass c.take-turn.result.pass
+    → Frees g.E.Engine.ways.on c.in-Ok.freed.due c.args.p c.args.caller.now.pass c.take-turn.result.pass
     c.retire_object.new.turn.pass c.run_if_due-turn.result.pass
 frees g c = record {
   took = took_by c.lend-home.ensures.pass (c.args.caller.now.in_order c.requires.may.home) c.take-turn.ensures.takes;
@@ -70,7 +70,7 @@ refuses g c finds = record { took = took g c; begins = c.take-turn.ensures.begin
 pub returns-in-Err-clause-double : goal.returns-in-Err-clause-double
 returns-in-Err-clause-double g c =
     let x = goal.at.returns-in-Err-clause-double g c in
-    rw c.back-in-Err.ensures.pass (double_answered g.E.Engine.on
+    rw c.back-in-Err.ensures.pass (double_answered g.E.Engine.ways.on
     (refuses g x.After-take-turn c.in-Err.ensures.double) c.give-in-Err.ensures.gives c.give-in-Err.ensures.rests)
 
 pub returns-in-Err-clause-keeps : goal.returns-in-Err-clause-keeps

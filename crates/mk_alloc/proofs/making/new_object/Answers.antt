@@ -48,7 +48,7 @@ at_once g c = record {
 pub returns-then-try_place-clause-made : goal.returns-then-try_place-clause-made
 returns-then-try_place-clause-made g c =
     let x = goal.at.returns-then-try_place-clause-made g c in
-    rw c.back.ensures.pass (new_called (at_once g x.After-give) g.E.Engine.on)
+    rw c.back.ensures.pass (new_called (at_once g x.After-give) g.E.Engine.ways.on)
 
 pub returns-then-try_place-clause-keeps : goal.returns-then-try_place-clause-keeps
 returns-then-try_place-clause-keeps g c =
@@ -71,7 +71,7 @@ later g c = record {
 }
 
 later_keeps : (g : _) (c : After-give-2 g)
-    → PassKeeps g.E.Engine.on g.E.Engine.sweeps g.E.Engine.begins g.E.Engine.tells g.E.Engine.closes
+    → PassKeeps g.E.Engine.ways
     c.args.caller.now.pass c.give-2.result
 later_keeps g c =
     let tried = c.try_place.ensures in
@@ -81,7 +81,7 @@ later_keeps g c =
 pub returns-in-None-clause-made : goal.returns-in-None-clause-made
 returns-in-None-clause-made g c =
     let x = goal.at.returns-in-None-clause-made g c in
-    rw c.back-2.ensures.pass (rw c.in-None.is at (new_called (later g x.After-give-2) g.E.Engine.on))
+    rw c.back-2.ensures.pass (rw c.in-None.is at (new_called (later g x.After-give-2) g.E.Engine.ways.on))
 
 pub returns-in-None-clause-keeps : goal.returns-in-None-clause-keeps
 returns-in-None-clause-keeps g c =
@@ -110,5 +110,5 @@ returns-in-Some-clause-full g c =
     let q : PassState = c.give-2.result in
     let m = rw c.in-Some.is at (later g x.After-give-2) in
     let full = rw c.in-Some.is at c.make_room_or_count-turn.ensures.full in
-    rw c.back-2.ensures.pass (full_is {on = g.E.Engine.on} m (c.try_place.ensures.tried.misfits c.if-try_place.false)
-    full)
+    rw c.back-2.ensures.pass (full_is {on = g.E.Engine.ways.on} m
+    (c.try_place.ensures.tried.misfits c.if-try_place.false) full)

@@ -33,6 +33,6 @@ pub returns-clause-keeps : goal.returns-clause-keeps
 returns-clause-keeps g c =
     let begins = c.begin_cycle.ensures in
     let ends = c.finish_and_place.ensures in
-    left_keeps begins.law.pass begins.reached begins.begun (begin_says_none g.E.Engine.tells begins.law) ends.keeps
-    ends.holds (λ off. begun_and_finished g.E.Engine.closes c.finish_and_place.new.engine c.args.turn.in_order.own
+    left_keeps begins.law.pass begins.reached begins.begun (begin_says_none g.E.Engine.ways.tells begins.law) ends.keeps
+    ends.holds (λ off. begun_and_finished g.E.Engine.ways.closes c.finish_and_place.new.engine c.args.turn.in_order.own
     begins.law ends.closed (never_by_none (ends_none ends.ends)))

@@ -69,7 +69,7 @@ returns-clause-begun g c =
     let b = c.tally.new.self.pass in
     let q = c.begin-2.new.turn.pass in
     let all = (cleared g (goal.at.returns-clause-begun g c).After-tally).cleans in
-    let begins = g.E.Engine.begins in
+    let begins = g.E.Engine.ways.begins in
     begun_then begins p b q all.keeps.call.pass (does_begin_none begins clears p b (begins_none clears refl) all.does)
     (begin_begun begins b c.begin.new.self.pass q c.tally.new.self.in_order.own c.begin.ensures.makes
     c.begin-2.ensures.law.does c.begin-2.ensures.begun)

@@ -29,8 +29,8 @@ returns-clause-released g c =
     has_released give.gives c.requires.free c.end.ensures _ c.count_cycle.ensures give.told give.held
 
 promised : (g : _) (c : After-count_cycle g)
-    → ClosesAsPromised g.E.Engine.sweeps (g.E.Engine.tells c.give_all_back-turn.new.engine)
-    (g.E.Engine.closes c.give_all_back-turn.new.engine) c.args.turn.pass c.count_cycle.new.turn.pass
+    → ClosesAsPromised g.E.Engine.ways.sweeps (g.E.Engine.ways.tells c.give_all_back-turn.new.engine)
+    (g.E.Engine.ways.closes c.give_all_back-turn.new.engine) c.args.turn.pass c.count_cycle.new.turn.pass
 promised g c =
     let same = (gives_call c.give_all_back-turn.ensures.gives).pass in
     let end = c.end.ensures.makes in

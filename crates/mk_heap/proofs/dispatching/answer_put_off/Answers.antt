@@ -37,7 +37,7 @@ returns-in-Err-free_object-clause-answers g c =
 pub returns-in_default : goal.returns-in_default
 returns-in_default g c =
     let entered : is_under_turn c.args.op ≡ false = search rules in
-    let answers = c.answer_when_open.ensures.answers g.E.Engine.on in
+    let answers = c.answer_when_open.ensures.answers g.E.Engine.ways.on in
     record {
       home = c.answer_when_open.ensures.home;
       made_for = refl;

@@ -21,7 +21,7 @@ pub returns-in-Some : goal.returns-in-Some
 returns-in-Some g c = record {
   home = c.answer_at_once.ensures.home;
   made_for = refl;
-  answers = c.in-Some.ensures.answers g.E.Engine.on;
+  answers = c.in-Some.ensures.answers g.E.Engine.ways.on;
   keeps = beside_keeps c.answer_at_once.ensures.beside;
 }
 

@@ -63,13 +63,13 @@ returns-else-is_in-clause-reached g c none =
 
 pub returns-then-is_in-clause-said : goal.returns-then-is_in-clause-said
 returns-then-is_in-clause-said g c =
-    let tells = g.E.Engine.tells in
+    let tells = g.E.Engine.ways.tells in
     taken_then_says tells c.take_turn-turn.ensures.takes (step_then_says tells c.look-found.ensures.acts.makes refl
     (finish_says tells c.finish_cycle.new.engine c.look-found.new.self.in_order c.finish_cycle.ensures.law
     c.finish_cycle.result.0.in_order.history c.finish_cycle.ensures.told))
 
 pub returns-else-is_in-clause-said : goal.returns-else-is_in-clause-said
 returns-else-is_in-clause-said g c =
-    let tells = g.E.Engine.tells in
+    let tells = g.E.Engine.ways.tells in
     taken_then_says tells c.take_turn-turn.ensures.takes
     (step_says_none tells c.look-found.ensures.acts.makes refl)

@@ -31,7 +31,7 @@ returns g c =
               reached = c.over.ensures.reached;
               begun = over_begun _ _ _ c.over.ensures.over;
               said = c.over.ensures.said;
-              finished = λ off. unbegun_finished g.E.Engine.closes (over_begun Never _ _ c.over.ensures.over);
+              finished = λ off. unbegun_finished g.E.Engine.ways.closes (over_begun Never _ _ c.over.ensures.over);
             });
       };
       turns =

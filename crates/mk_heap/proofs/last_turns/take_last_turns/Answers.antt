@@ -16,9 +16,9 @@ returns-else-with_cycle-clause-host g c =
       still = still_behind_over at.seat c.over.ensures.over;
       keeps = record {
         reached = c.over.ensures.reached;
-        begun = over_begun g.E.Engine.begins p q c.over.ensures.over;
+        begun = over_begun g.E.Engine.ways.begins p q c.over.ensures.over;
         said = c.over.ensures.said;
-        finished = λ off. unbegun_finished g.E.Engine.closes (over_begun Never p q c.over.ensures.over);
+        finished = λ off. unbegun_finished g.E.Engine.ways.closes (over_begun Never p q c.over.ensures.over);
       };
     }
 

@@ -4,5 +4,5 @@ use Rattle.mk_heap_tests.proofs.objects.free.Goals as goal
 pub returns : goal.returns
 returns g c =
     let f = c.free_object in
-    freed_on f.new.caller c.requires.may f.ensures.made_for f.ensures.home g.E.Engine.on c.args.p f.result
+    freed_on f.new.caller c.requires.may f.ensures.made_for f.ensures.home g.E.Engine.ways.on c.args.p f.result
     f.ensures.freed f.ensures.double

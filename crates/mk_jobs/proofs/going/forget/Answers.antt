@@ -20,7 +20,7 @@ answer_beside-requires-clause-admitted g c =
 pub loop-register-preserved : goal.loop-register-preserved
 loop-register-preserved g c =
     let before = c.loop-register.invariant in
-    let answers = c.answer_beside.ensures.answers g.E.Engine.on in
+    let answers = c.answer_beside.ensures.answers g.E.Engine.ways.on in
     record {
       ready = ready_on g.O.Object.plan c.args.engine.now before.ready c.answer_beside.ensures.home answers.is refl;
       clears =

@@ -41,14 +41,14 @@ answer_put_off-told-requires-clause-may g c κs within =
     }
 
 -- the operation is answered, at once or later
-joined : (g : _) (c : Joined-answer_at_once g) → IsAnswered g.E.Engine.on c.points.caller.pass c.in-Some-op_of.op
+joined : (g : _) (c : Joined-answer_at_once g) → IsAnswered g.E.Engine.ways.on c.points.caller.pass c.in-Some-op_of.op
     c.match-answer_at_once.told c.match-answer_at_once.caller
 joined g c =
     let now = c.answer_at_once.ensures in
     elim c.match-answer_at_once.branch [
       | in-Some-answer_at_once w ↦
           rw (w.caller-is, w.told-is)
-          (record { home = now.home; answers = w.in-Some-answer_at_once.ensures.answers g.E.Engine.on })
+          (record { home = now.home; answers = w.in-Some-answer_at_once.ensures.answers g.E.Engine.ways.on })
       | in-None-answer_at_once w ↦
           let later = w.answer_put_off-told.ensures in
           rw (w.caller-is, w.told-is) (record {

@@ -6,5 +6,5 @@ invariant-points g l = record {
   ready : IsReady g.O.Object.plan g.E.Engine.made_for l.caller l.engine;
   goes : GoesToPoint g.O.Object.plan l.fn.caller.pass l.fn.from l.caller.pass l.point;
   holds : HoldsAt g.O.Object.plan (value_of l.caller.pass) l.point;
-  exact : OwnAreExact g.E.Engine.on l.fn.caller.pass → OwnAreExact g.E.Engine.on l.caller.pass;
+  exact : OwnAreExact g.E.Engine.ways.on l.fn.caller.pass → OwnAreExact g.E.Engine.ways.on l.caller.pass;
 }

@@ -6,5 +6,5 @@ abbrev pub invariant-loop-index : goal.invariant-loop-index
 invariant-loop-index g l = record {
   ready : IsReady g.O.Object.plan g.E.Engine.made_for l.caller l.engine;
   does : DoesJobs g.O.Object.plan l.fn.caller.pass (take l.index l.jobs) l.list.items l.caller.pass;
-  exact : OwnAreExact g.E.Engine.on l.fn.caller.pass → OwnAreExact g.E.Engine.on l.caller.pass;
+  exact : OwnAreExact g.E.Engine.ways.on l.fn.caller.pass → OwnAreExact g.E.Engine.ways.on l.caller.pass;
 }

@@ -8,7 +8,7 @@ use Rattle.mk_jobs.proofs.joining.+fn-run_from-join+arg3+run_from.Goals as goal
 
 pub join-worked-requires-after_bounds : goal.join-worked-requires-after_bounds
 join-worked-requires-after_bounds g t c κs within =
-    let on = g.E.Engine.on in
+    let on = g.E.Engine.ways.on in
     let w = c.args.run.now.heap.now in
     let k = c.args.k in
     let rest = c.pop.new.self.items in
@@ -39,7 +39,7 @@ join-worked-requires-after_bounds g t c κs within =
 pub returns : goal.returns
 returns g t c =
     let p = g.O.Object.plan in
-    let on = g.E.Engine.on in
+    let on = g.E.Engine.ways.on in
     let w = c.args.run.now.heap.now in
     let k = c.args.k in
     let lists = c.args.run.now.lists.now in
@@ -60,7 +60,7 @@ returns g t c =
 pub returns-in_default : goal.returns-in_default
 returns-in_default g t c =
     let p = g.O.Object.plan in
-    let on = g.E.Engine.on in
+    let on = g.E.Engine.ways.on in
     let w = c.args.run.now.heap.now in
     let k = c.args.k in
     let markers = c.args.run.now.markers in

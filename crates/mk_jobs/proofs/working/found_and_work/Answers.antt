@@ -9,7 +9,7 @@ found-requires-clause-ready g c κs within = grind (arith, ready_between, next_r
 
 pub run_from-requires-clause-callers : goal.run_from-requires-clause-callers
 run_from-requires-clause-callers g c κs within =
-    let on = g.E.Engine.on in
+    let on = g.E.Engine.ways.on in
     let before = next_ready on c.caller-first.result c.requires.host c.caller-first.ensures.caller in
     let founds = c.found.ensures.founds in
     record {

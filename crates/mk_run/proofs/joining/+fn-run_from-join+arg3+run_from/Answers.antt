@@ -79,7 +79,7 @@ join-ran-requires-after_bounds g t c κs within =
 
 pub returns : goal.returns
 returns g t c =
-    let on = g.E.Engine.on in
+    let on = g.E.Engine.ways.on in
     let program = c.args.run.now.program.now in
     let w = c.args.run.now.heap.now in
     let k = c.args.k in

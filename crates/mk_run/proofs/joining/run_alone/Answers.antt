@@ -8,7 +8,7 @@ new-caller-requires-clause-idle g c = c.requires.pass.idle
 pub run_script-text-requires-clause-follows : goal.run_script-text-requires-clause-follows
 run_script-text-requires-clause-follows g c κs within =
     let p = c.new-caller.result.pass in
-    follows_at_first g.E.Engine.on c.args.run.now.program.now c.args.k p.table.config p.seen
+    follows_at_first g.E.Engine.ways.on c.args.run.now.program.now c.args.k p.table.config p.seen
     (ap (λ (p : PassState). p.seen) c.new-caller.ensures.pass ∙ c.requires.pass.seen)
 
 pub run_script-text-requires-clause-no_call : goal.run_script-text-requires-clause-no_call

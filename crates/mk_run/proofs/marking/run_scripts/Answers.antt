@@ -20,7 +20,7 @@ take_last_turns-requires-clause-all_home g c κs within =
 
 pub returns : goal.returns
 returns g c =
-    let on = g.E.Engine.on in
+    let on = g.E.Engine.ways.on in
     let program = c.args.run.now.program.now in
     let w = c.args.run.now.heap.now in
     let joined = c.run_from-host.ensures.joined in

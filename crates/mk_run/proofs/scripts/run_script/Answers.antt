@@ -29,7 +29,7 @@ answer_at_once-requires-clause-admitted g c =
 
 -- the operation is answered, at once or later
 joined : (g : _) (c : Joined-answer_at_once g)
-    → IsAnsweredAs g.E.Engine.on g.E.Engine.sweeps g.E.Engine.begins g.E.Engine.tells g.E.Engine.closes
+    → IsAnsweredAs g.E.Engine.ways
     c.instructions.caller.pass
     c.in-Some.op c.match-answer_at_once.answer c.match-answer_at_once.caller
 joined g c =

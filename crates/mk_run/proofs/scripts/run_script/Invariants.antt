@@ -6,10 +6,10 @@ use Rattle.mk_run.proofs.scripts.run_script.Given as goal
 abbrev pub invariant-instructions : goal.invariant-instructions
 invariant-instructions g l = record {
   home : l.caller.home ≡ true;
-  running : IsRunning g.E.Engine.on l.fn.program l.fn.k l.fn.caller.pass l.caller.pass (script_of l.feed l.counts);
+  running : IsRunning g.E.Engine.ways.on l.fn.program l.fn.k l.fn.caller.pass l.caller.pass (script_of l.feed l.counts);
   made_for : g.E.Engine.made_for l.engine ≡ g.E.Engine.made_for l.fn.ready.engine;
   refused : l.counts.refused ≤ l.counts.ops;
-  keeps : PassKeeps g.E.Engine.on g.E.Engine.sweeps g.E.Engine.begins g.E.Engine.tells g.E.Engine.closes
+  keeps : PassKeeps g.E.Engine.ways
       l.fn.caller.pass l.caller.pass;
 }
 

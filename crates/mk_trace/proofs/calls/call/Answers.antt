@@ -26,8 +26,8 @@ returns-clause-home g c =
     c.join_caller.ensures.history
 
 -- The caller was made again, and is joined.
-joined : (g : _) (c : After-join_caller g) → Joined g.E.Engine.on c.args.host.now c.args.op c.answer_to-answer.result
-    c.answer_to-answer.new.caller.pass c.join_caller.new.self.pass.seen
+joined : (g : _) (c : After-join_caller g) → Joined g.E.Engine.ways.on c.args.host.now c.args.op
+    c.answer_to-answer.result c.answer_to-answer.new.caller.pass c.join_caller.new.self.pass.seen
 joined g c = record {
   answers =
       rw c.caller_again-caller.ensures.caller.pass at c.answer_to-answer.ensures.answers;

@@ -81,14 +81,14 @@ pub returns-clause-begun : goal.returns-clause-begun
 returns-clause-begun g c =
     let view = home_view c.take_home-home.ensures c.self.view_is in
     let q : PassState = c.give-back.result in
-    subst (λ (h : HostState). EachIsBegun g.E.Engine.begins h.pass q) view (cycle_begun g.E.Engine.begins
+    subst (λ (h : HostState). EachIsBegun g.E.Engine.ways.begins h.pass q) view (cycle_begun g.E.Engine.ways.begins
     c.take_idle_turn-turn.ensures.takes c.begin_cycle.ensures.law c.begin_cycle.ensures.begun
     c.finish_cycle-turn.ensures.law c.give-back.ensures.acts.makes)
 
 pub returns-clause-said : goal.returns-clause-said
 returns-clause-said g c =
     let view = home_view c.take_home-home.ensures c.self.view_is in
-    let tells = g.E.Engine.tells in
+    let tells = g.E.Engine.ways.tells in
     let begun = c.begin_cycle.ensures in
     let ended = c.finish_cycle-turn.ensures in
     let b : PassState = c.begin_cycle.new.turn.pass in
@@ -104,7 +104,7 @@ returns-clause-said g c =
 pub returns-clause-finished : goal.returns-clause-finished
 returns-clause-finished g c =
     let view = home_view c.take_home-home.ensures c.self.view_is in
-    let closes = g.E.Engine.closes in
+    let closes = g.E.Engine.ways.closes in
     let q : PassState = c.give-back.result in
     subst (λ (h : HostState). EachIsFinished closes h.pass q) view (cycle_finished closes
     c.finish_cycle-turn.new.engine c.take_idle_turn-turn.ensures.takes c.begin_cycle.ensures.law

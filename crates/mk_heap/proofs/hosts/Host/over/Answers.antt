@@ -60,7 +60,7 @@ returns-clause-reached g c =
 pub returns-clause-said : goal.returns-clause-said
 returns-clause-said g c =
     let view = home_view c.take_home-home.ensures c.self.view_is in
-    let tells = g.E.Engine.tells in
+    let tells = g.E.Engine.ways.tells in
     let r : PassState = c.give-back.result in
     subst (λ (h : HostState). EachIsSaid tells h.pass r) view
     (idle_then_says tells c.take_idle_turn-turn.ensures.takes c.take_idle_turn-turn.ensures.said
