@@ -3,36 +3,34 @@ ghost use Rattle.std.specs.Prelude.{◌≡◌, ◌≤◌, length, IfOk, IfErr, O
 ghost use Rattle.mk_core.specs.Config.{IsWithinLimits};
 ghost use Rattle.mk_script.specs.{Grammar.IsOfSomeText, Scopes.script_names};
 ghost use Rattle.mk_check.specs.Declarations.{pages_of, resident_of, config_of};
-ghost use Rattle.mk_check.specs.{Laws.IsScript, Numbering.elements_of_script};
 ghost use Rattle.mk_check.specs.Typing.{IsWellTyped, NamesFirstFault};
 
 use crate::TypeStop;
 use crate::checking::check_lines;
-use crate::numbering::{NumberedScript, numbered_scripts};
 use crate::numbers::TypeNumbers;
+use crate::scripts::is_script;
 use mk_core::Config;
 use mk_never::NoMemory;
 use mk_script::{Item, Program};
 use std::alloc::Global;
 use std::marker::Model;
 
-/// A program that is well typed, seen as its items. Its scripts are there with numbers for their names, too.
+/// A program that is well typed, seen as its items.
 #[derive(Drop)]
 pub struct Checked {
     program: Program,
-    scripts: Vec<NumberedScript>,
 }
 
 impl Model for Checked {
     ghost use Rattle.std.specs.Prelude.{List};
     ghost use Rattle.mk_script.specs.{declared.items.Item.Item, Grammar.IsOfSomeText};
-    ghost use Rattle.mk_check.specs.{Numbering.AreNumbered, Typing.IsWellTyped};
+    ghost use Rattle.mk_check.specs.Typing.{IsWellTyped};
 
     ghost Value = { List Item };
 
     ghost view = { λ c. c.program };
 
-    ghost invariant = { λ c. IsWellTyped c.program × IsOfSomeText c.program × AreNumbered c.scripts.items c.program };
+    ghost invariant = { λ c. IsWellTyped c.program × IsOfSomeText c.program };
 }
 
 impl Checked {
@@ -49,15 +47,8 @@ impl Checked {
     pub fn scripts(&self) -> u64
         ensures { result ≡ length (script_names self.now) }
     {
-        self.scripts.len() as u64
-    }
-
-    /// The lines of a script, with numbers for their names.
-    pub(crate) fn script(&self, script: u64) -> &NumberedScript
-        requires { IsScript self.now script }
-        ensures { result.now ≡ elements_of_script self.now script }
-    {
-        &self.scripts[script as usize]
+        let items = self.program.items();
+        items.iter().filter(|item| is_script(item)).count() as u64
     }
 
     /// What a heap for its scripts is started with, where each script is a caller.
@@ -117,6 +108,5 @@ pub fn check(alloc: Global, program: Program) -> Result<Checked, TypeStop>
     ensures first_fault { IfErr result (NamesFirstFault program) }
 {
     check_lines(alloc, program.items())?;
-    let scripts = numbered_scripts(alloc, program.items())?;
-    Ok(Checked { program, scripts })
+    Ok(Checked { program })
 }

@@ -51,12 +51,9 @@ impl Feed {
         requires { IsScript program.now script }
         ensures { IfOk result (λ f. FeedStandsFor program.now script f []) }
     {
-        Feed::begin(
-            alloc,
-            program.program().items(),
-            script,
-            program.script(script),
-        )
+        let items = program.program().items();
+        let numbered = NumberedScript::of_program(alloc, items, script)?;
+        Feed::begin(alloc, items, script, &numbered)
     }
 
     fn begin(

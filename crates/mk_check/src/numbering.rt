@@ -1,11 +1,12 @@
-//! The scripts of a program, with numbers for their names.
+//! A script of a program, with numbers for its names.
 ghost use Rattle.std.specs.Prelude.{◌≡◌, IfOk};
 ghost use Rattle.mk_script.specs.Grammar.{IsOfSomeText};
-ghost use Rattle.mk_check.specs.{Laws.IsScript, Numbering.{AreNumbered, elements_of_script}};
+ghost use Rattle.mk_check.specs.{Laws.IsScript, Numbering.elements_of_script};
 
+use crate::declarations::Declarations;
 use crate::feeding::instructions::Element;
 use crate::names::Names;
-use crate::scripts::{is_script, script_at};
+use crate::scripts::script_at;
 use mk_never::NoMemory;
 use mk_script::Item;
 use std::alloc::Global;
@@ -28,7 +29,7 @@ impl Model for NumberedScript {
 
 impl NumberedScript {
     /// Script `k` of a program, from 0 on.
-    fn of_program(alloc: Global, items: &[Item], k: u64) -> Result<NumberedScript, NoMemory>
+    pub fn of_program(alloc: Global, items: &[Item], k: u64) -> Result<NumberedScript, NoMemory>
         requires exists { IsScript items.now k }
         requires text { IsOfSomeText items.now }
         ensures { IfOk result (λ script. script ≡ elements_of_script items.now k) }
@@ -36,7 +37,8 @@ impl NumberedScript {
         let Some(script) = script_at(items, k) else {
             unreachable!()
         };
-        let names = Names::of(alloc, items, script.items)?;
+        let declarations = Declarations::of_program(alloc, items)?;
+        let names = Names::of(alloc, &declarations, script.items)?;
         Ok(NumberedScript {
             lines: names.elements(alloc, script.items)?,
         })
@@ -48,17 +50,4 @@ impl NumberedScript {
     {
         self.lines.as_slice()
     }
-}
-
-/// All scripts of a program.
-pub fn numbered_scripts(alloc: Global, items: &[Item]) -> Result<Vec<NumberedScript>, NoMemory>
-    requires { IsOfSomeText items.now }
-    ensures { IfOk result (λ scripts. AreNumbered scripts.items items.now) }
-{
-    let count = items.iter().filter(|item| is_script(item)).count() as u64;
-    let mut scripts = Vec::new(alloc);
-    for k in 0..count {
-        scripts.push(NumberedScript::of_program(alloc, items, k)?)?;
-    }
-    Ok(scripts)
 }

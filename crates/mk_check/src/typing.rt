@@ -44,17 +44,57 @@ fn number_word_fault(word: Option<&TypeWord>) -> Option<TypeKind>
     offset_fault(word).or(unless(matches!(word, Some(TypeWord::Number)), TypeKind::Kind))
 }
 
-impl<'a> Lookups<'a> {
+/// A pointer register that is declared.
+fn register_fault(at: Option<&At>) -> Option<TypeKind>
+    ensures { result ≡ rule.unless (is_some (option_copied at.entry)) kind.NoRegister }
+{
+    unless(at.is_some(), TypeKind::NoRegister)
+}
+
+/// The place where a register is declared to point.
+fn place_of(at: Option<&At>) -> Option<Place<'_>>
+    ensures { option_map at_of result ≡ option_copied at.entry }
+{
+    Some(Place::new(at?))
+}
+
+/// The place this many words after it.
+fn place_behind(at: Option<&At>, index: u64) -> Option<Place<'_>>
+    ensures { option_map at_of result ≡ option_map (rule.moved_by index) (option_copied at.entry) }
+{
+    Some(Place::behind(at?, index))
+}
+
+/// The first word of this type.
+fn base_of(ty: Option<&Name>) -> Option<Place<'_>>
+    ensures { option_map at_of result ≡ option_map rule.base_of (option_copied ty.entry) }
+{
+    Some(Place::base(ty?))
+}
+
+/// A register that is declared for an object's first word.
+fn base_fault(at: Option<&At>) -> Option<TypeKind>
+    ensures { result ≡ rule.unless (rule.is_base (option_copied at.entry)) kind.InteriorFree }
+{
+    unless(
+        matches!(at, Some(at) if at.offset == 0),
+        TypeKind::InteriorFree,
+    )
+}
+
+/// A word inside its type that is a pointer to where a register is declared to point.
+fn pointer_word_fault(word: Option<&TypeWord>, at: Option<&At>) -> Option<TypeKind>
+    ensures { result ≡ option_or (rule.unless (is_some (option_copied word.entry)) kind.Offset)
+        (rule.kind_fault (rule.pointed_place (option_copied word.entry)) (option_copied at.entry)) }
+{
+    offset_fault(word).or(kind_fault(pointed_place(word), place_of(at)))
+}
+
+impl<'d, 'a> Lookups<'d, 'a> {
     fn type_fault(&self, name: &Name) -> Option<TypeKind>
         ensures { result ≡ rule.type_fault (around self.now) name.now }
     {
         unless(self.type_words(name).is_some(), TypeKind::NoType)
-    }
-
-    fn global_fault(&self, name: &Name) -> Option<TypeKind>
-        ensures { result ≡ rule.global_fault (around self.now) name.now }
-    {
-        unless(self.global_type(name).is_some(), TypeKind::NoGlobal)
     }
 
     fn pointer_fault(&self, name: &Name) -> Option<TypeKind>
@@ -69,19 +109,6 @@ impl<'a> Lookups<'a> {
         unless(self.has_number(name), TypeKind::NoRegister)
     }
 
-    /// Where a pointer register is declared to point.
-    fn declared_place(&self, pointer: &Name) -> Option<Place<'a>>
-        ensures { option_map at_of result ≡ rule.pointer_at pointer.now (around self.now).script }
-    {
-        Some(Place::new(self.pointer_at(pointer)?))
-    }
-
-    fn place_behind(&self, pointer: &Name, index: u64) -> Option<Place<'a>>
-        ensures { option_map at_of result ≡ rule.place_behind (around self.now) pointer.now index }
-    {
-        Some(Place::behind(self.pointer_at(pointer)?, index))
-    }
-
     fn word_at(&self, place: Place) -> Option<&'a TypeWord>
         ensures { option_copied result ≡ rule.type_word_at (around self.now) (Some (at_of place.entry)) }
     {
@@ -93,11 +120,12 @@ impl<'a> Lookups<'a> {
         }
     }
 
-    fn word_behind(&self, pointer: &Name, index: u64) -> Option<&'a TypeWord>
+    /// The word this many words after where a register is declared to point.
+    fn word_behind(&self, at: Option<&At>, index: u64) -> Option<&'a TypeWord>
         ensures { option_copied result ≡ rule.type_word_at (around self.now)
-            (rule.place_behind (around self.now) pointer.now index) }
+            (option_map (rule.moved_by index) (option_copied at.entry)) }
     {
-        self.word_at(self.place_behind(pointer, index)?)
+        self.word_at(place_behind(at, index)?)
     }
 
     /// A word inside its type.
@@ -135,33 +163,6 @@ impl<'a> Lookups<'a> {
         None
     }
 
-    /// Where a global of its type's first word points.
-    fn place_of_global(&self, global: &Name) -> Option<Place<'a>>
-        ensures { option_map at_of result ≡ rule.base_of_global (around self.now) global.now }
-    {
-        Some(Place::base(self.global_type(global)?))
-    }
-
-    fn base_fault(&self, pointer: &Name) -> Option<TypeKind>
-        ensures { result ≡ rule.unless (rule.is_base (rule.pointer_at pointer.now (around self.now).script))
-            kind.InteriorFree }
-    {
-        let at = self.pointer_at(pointer);
-        unless(
-            matches!(at, Some(at) if at.offset == 0),
-            TypeKind::InteriorFree,
-        )
-    }
-
-    /// A word inside its type that is a pointer to where the register is declared to point.
-    fn pointer_word_fault(&self, word: Option<&TypeWord>, register: &Name) -> Option<TypeKind>
-        ensures { result ≡ option_or (rule.unless (is_some (option_copied word.entry)) kind.Offset)
-            (rule.kind_fault (rule.pointed_place (option_copied word.entry))
-            (rule.pointer_at register.now (around self.now).script)) }
-    {
-        offset_fault(word).or(kind_fault(pointed_place(word), self.declared_place(register)))
-    }
-
     fn declaration_fault(&self, item: &Item) -> Option<TypeKind>
         ensures { result ≡ fault_of_sort is_declaration (around self.now) item.now }
     {
@@ -184,20 +185,20 @@ impl<'a> Lookups<'a> {
                 pointer,
                 index,
             } => {
-                let word = self.word_behind(pointer, *index);
+                let at = self.pointer_at(pointer);
                 self.number_fault(number)
-                    .or(self.pointer_fault(pointer))
-                    .or(number_word_fault(word))
+                    .or(register_fault(at))
+                    .or(number_word_fault(self.word_behind(at, *index)))
             }
             Item::Setn {
                 pointer,
                 index,
                 number,
             } => {
-                let word = self.word_behind(pointer, *index);
-                self.pointer_fault(pointer)
+                let at = self.pointer_at(pointer);
+                register_fault(at)
                     .or(self.number_fault(number))
-                    .or(number_word_fault(word))
+                    .or(number_word_fault(self.word_behind(at, *index)))
             }
             _ => None,
         }
@@ -213,20 +214,22 @@ impl<'a> Lookups<'a> {
                 pointer,
                 index,
             } => {
-                let word = self.word_behind(pointer, *index);
-                self.pointer_fault(loaded)
-                    .or(self.pointer_fault(pointer))
-                    .or(self.pointer_word_fault(word, loaded))
+                let loaded = self.pointer_at(loaded);
+                let at = self.pointer_at(pointer);
+                register_fault(loaded)
+                    .or(register_fault(at))
+                    .or(pointer_word_fault(self.word_behind(at, *index), loaded))
             }
             Item::Setp {
                 pointer,
                 index,
                 stored,
             } => {
-                let word = self.word_behind(pointer, *index);
-                self.pointer_fault(pointer)
-                    .or(self.pointer_fault(stored))
-                    .or(self.pointer_word_fault(word, stored))
+                let at = self.pointer_at(pointer);
+                let stored = self.pointer_at(stored);
+                register_fault(at)
+                    .or(register_fault(stored))
+                    .or(pointer_word_fault(self.word_behind(at, *index), stored))
             }
             Item::Casp {
                 number,
@@ -235,13 +238,16 @@ impl<'a> Lookups<'a> {
                 expected,
                 stored,
             } => {
-                let word = self.word_behind(pointer, *index);
+                let at = self.pointer_at(pointer);
+                let word = self.word_behind(at, *index);
+                let expected = self.pointer_at(expected);
+                let stored = self.pointer_at(stored);
                 self.number_fault(number)
-                    .or(self.pointer_fault(pointer))
-                    .or(self.pointer_fault(expected))
-                    .or(self.pointer_fault(stored))
-                    .or(self.pointer_word_fault(word, expected))
-                    .or(self.pointer_word_fault(word, stored))
+                    .or(register_fault(at))
+                    .or(register_fault(expected))
+                    .or(register_fault(stored))
+                    .or(pointer_word_fault(word, expected))
+                    .or(pointer_word_fault(word, stored))
             }
             _ => None,
         }
@@ -251,26 +257,35 @@ impl<'a> Lookups<'a> {
         ensures { result ≡ fault_of_sort is_pointer_line (around self.now) item.now }
     {
         match item {
-            Item::New { pointer, ty } => self.pointer_fault(pointer).or(self.type_fault(ty)).or(
-                kind_fault(self.declared_place(pointer), Some(Place::base(ty))),
-            ),
-            Item::Free { pointer } => self.pointer_fault(pointer).or(self.base_fault(pointer)),
+            Item::New { pointer, ty } => {
+                let at = self.pointer_at(pointer);
+                register_fault(at)
+                    .or(self.type_fault(ty))
+                    .or(kind_fault(place_of(at), Some(Place::base(ty))))
+            }
+            Item::Free { pointer } => {
+                let at = self.pointer_at(pointer);
+                register_fault(at).or(base_fault(at))
+            }
             Item::Lea {
                 moved,
                 pointer,
                 index,
-            } => self
-                .pointer_fault(moved)
-                .or(self.pointer_fault(pointer))
-                .or(offset_fault(self.word_behind(pointer, *index)))
-                .or(kind_fault(
-                    self.declared_place(moved),
-                    self.place_behind(pointer, *index),
-                )),
-            Item::Move { copied, pointer } => self
-                .pointer_fault(copied)
-                .or(self.pointer_fault(pointer))
-                .or(kind_fault(self.declared_place(copied), self.declared_place(pointer))),
+            } => {
+                let moved = self.pointer_at(moved);
+                let at = self.pointer_at(pointer);
+                register_fault(moved)
+                    .or(register_fault(at))
+                    .or(offset_fault(self.word_behind(at, *index)))
+                    .or(kind_fault(place_of(moved), place_behind(at, *index)))
+            }
+            Item::Move { copied, pointer } => {
+                let copied = self.pointer_at(copied);
+                let at = self.pointer_at(pointer);
+                register_fault(copied)
+                    .or(register_fault(at))
+                    .or(kind_fault(place_of(copied), place_of(at)))
+            }
             Item::Clear { pointer } => self.pointer_fault(pointer),
             Item::Loadg {
                 loaded: register,
@@ -279,10 +294,13 @@ impl<'a> Lookups<'a> {
             | Item::Storeg {
                 stored: register,
                 global,
-            } => self
-                .pointer_fault(register)
-                .or(self.global_fault(global))
-                .or(kind_fault(self.declared_place(register), self.place_of_global(global))),
+            } => {
+                let at = self.pointer_at(register);
+                let ty = self.global_type(global);
+                register_fault(at)
+                    .or(unless(ty.is_some(), TypeKind::NoGlobal))
+                    .or(kind_fault(place_of(at), base_of(ty)))
+            }
             _ => None,
         }
     }
@@ -328,10 +346,22 @@ impl<'a> Lookups<'a> {
         requires { is_script item.now ≡ false }
         ensures { (line : ℕ) (behind : List Item) → result ≡ rule.typing_fault (around self.now) line behind item.now }
     {
-        self.declaration_fault(item)
-            .or(self.number_access_fault(item))
-            .or(self.pointer_access_fault(item))
-            .or(self.pointer_line_fault(item))
-            .or(self.number_line_fault(item))
+        match item {
+            Item::TypeLine { .. } | Item::Global { .. } | Item::Ptr { .. } => {
+                self.declaration_fault(item)
+            }
+            Item::Getn { .. } | Item::Setn { .. } => self.number_access_fault(item),
+            Item::Getp { .. } | Item::Setp { .. } | Item::Casp { .. } => {
+                self.pointer_access_fault(item)
+            }
+            Item::New { .. }
+            | Item::Free { .. }
+            | Item::Lea { .. }
+            | Item::Move { .. }
+            | Item::Clear { .. }
+            | Item::Loadg { .. }
+            | Item::Storeg { .. } => self.pointer_line_fault(item),
+            _ => self.number_line_fault(item),
+        }
     }
 }

@@ -23,4 +23,4 @@ mod PutName
 mod Reading
 mod ScopeAfter
 pub mod Vocabulary
-mod WordsBySort
+mod FirstAndOperands

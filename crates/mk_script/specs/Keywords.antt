@@ -7,38 +7,38 @@ use Rattle.mk_script.specs.declared.keywords.Keyword.TheVariants.{Getn, Setn, Ge
 use Rattle.mk_script.specs.declared.keywords.Keyword.TheVariants.{Storeg, Same, Isnull, Show, Const, Add, Sub, Print}
 use Rattle.mk_script.specs.declared.keywords.Keyword.TheVariants.{Repeat, If, Else, End}
 
--- the words and what they stand for
+-- the words and what they stand for; those that most lines begin with are the first
 abbrev pub keywords : List (List ℕ × Keyword)
 keywords =
+    (codes "setp", Setp) ∷
+    (codes "getp", Getp) ∷
+    (codes "setn", Setn) ∷
+    (codes "getn", Getn) ∷
+    (codes "free", Free) ∷
+    (codes "add", Add) ∷
+    (codes "new", New) ∷
+    (codes "end", End) ∷
+    (codes "sub", Sub) ∷
+    (codes "clear", Clear) ∷
     (codes "heap", Heap) ∷
     (codes "type", TypeLine) ∷
     (codes "global", Global) ∷
     (codes "script", Script) ∷
     (codes "ptr", Ptr) ∷
     (codes "num", Num) ∷
-    (codes "new", New) ∷
-    (codes "free", Free) ∷
-    (codes "getn", Getn) ∷
-    (codes "setn", Setn) ∷
-    (codes "getp", Getp) ∷
-    (codes "setp", Setp) ∷
     (codes "casp", Casp) ∷
     (codes "lea", Lea) ∷
     (codes "move", Move) ∷
-    (codes "clear", Clear) ∷
     (codes "loadg", Loadg) ∷
     (codes "storeg", Storeg) ∷
     (codes "same", Same) ∷
     (codes "isnull", Isnull) ∷
     (codes "show", Show) ∷
     (codes "const", Const) ∷
-    (codes "add", Add) ∷
-    (codes "sub", Sub) ∷
     (codes "print", Print) ∷
     (codes "repeat", Repeat) ∷
     (codes "if", If) ∷
     (codes "else", Else) ∷
-    (codes "end", End) ∷
     []
 
 -- the keyword that a word is, of these

@@ -7,11 +7,14 @@ use Rattle.std.specs.{Char.{is_ascii_alphabetic, is_ascii_alphanumeric}, Str.all
 abbrev pub is_name_byte : ℕ → Bool
 is_name_byte byte = is_ascii_alphanumeric byte || (byte == 95)
 
--- 1 to 16 of these, the first a letter
-abbrev pub is_name : List ℕ → Bool
-is_name word =
+-- 1 to 16 bytes, the first a letter
+abbrev pub begins_name : List ℕ → Bool
+begins_name word =
     nat_lt 0 (length word) && nat_le (length word) 16 && is_ascii_alphabetic (slice_index word 0)
-    && list_all is_name_byte word
+
+-- each of them a letter, a digit or `_`
+abbrev pub is_name : List ℕ → Bool
+is_name word = begins_name word && list_all is_name_byte word
 
 -- the name that a word is
 abbrev pub name_of : List ℕ → Option (List ℕ)

@@ -20,3 +20,8 @@ checked_behind before found = found >>= checked_item before
 abbrev pub stop_at : ℕ → LineStop → TextStop
 stop_at line (Fault fault) = fault_at line fault
 stop_at line NoMemory = stop.NoMemory
+
+-- the item, if a check passes it
+abbrev pub kept_if : {A : Type 0} → Result A LineFault → Item → Result Item LineFault
+kept_if (Ok passed) item = Ok item
+kept_if (Err fault) item = Err fault

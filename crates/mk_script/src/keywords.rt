@@ -36,28 +36,28 @@ pub enum Keyword {
     End,
 }
 
-// The keywords by their length, so that a word is compared with few.
+// The keywords by their length, so that a word is compared with few. Those that most lines begin with come first.
 
 const OF_TWO: [(&[u8], Keyword); 1] = [(b"if", Keyword::If)];
 
 const OF_THREE: [(&[u8], Keyword); 7] = [
+    (b"add", Keyword::Add),
+    (b"new", Keyword::New),
+    (b"end", Keyword::End),
+    (b"sub", Keyword::Sub),
     (b"ptr", Keyword::Ptr),
     (b"num", Keyword::Num),
-    (b"new", Keyword::New),
     (b"lea", Keyword::Lea),
-    (b"add", Keyword::Add),
-    (b"sub", Keyword::Sub),
-    (b"end", Keyword::End),
 ];
 
 const OF_FOUR: [(&[u8], Keyword); 12] = [
+    (b"setp", Keyword::Setp),
+    (b"getp", Keyword::Getp),
+    (b"setn", Keyword::Setn),
+    (b"getn", Keyword::Getn),
+    (b"free", Keyword::Free),
     (b"heap", Keyword::Heap),
     (b"type", Keyword::TypeLine),
-    (b"free", Keyword::Free),
-    (b"getn", Keyword::Getn),
-    (b"setn", Keyword::Setn),
-    (b"getp", Keyword::Getp),
-    (b"setp", Keyword::Setp),
     (b"casp", Keyword::Casp),
     (b"move", Keyword::Move),
     (b"same", Keyword::Same),

@@ -21,7 +21,9 @@ pub fn item(alloc: Global, scope: &Scope, words: &[&[u8]]) -> Result<Item, LineS
     if scope.has_header() {
         other_line(alloc, scope, words)
     } else {
-        Ok(scope.checked(header(words)?)?)
+        let item = header(words)?;
+        scope.check(&item)?;
+        Ok(item)
     }
 }
 
@@ -79,7 +81,8 @@ fn plain_line(scope: &Scope, keyword: Keyword, operands: &[&[u8]]) -> Result<Ite
         → result ≡ checked_behind before (item_from keyword (texts_of operands.now)) }
 {
     let item = forms::item(keyword, operands)?;
-    scope.checked(item)
+    scope.check(&item)?;
+    Ok(item)
 }
 
 /// A type's line, in its place.

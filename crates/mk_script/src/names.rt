@@ -1,5 +1,5 @@
 //! Names of types, scripts and registers.
-ghost use Rattle.std.specs.{Prelude.◌≡◌, List.list_all, Str.bytes_eq};
+ghost use Rattle.std.specs.{Prelude.◌≡◌, Str.bytes_eq};
 ghost use Rattle.mk_script.specs.Names.{name_of};
 ghost use Rattle.mk_script.specs.Names as spec;
 
@@ -29,19 +29,15 @@ fn is_name_byte(byte: u8) -> bool
     byte.is_ascii_alphanumeric() || byte == b'_'
 }
 
-fn are_name_bytes(word: &[u8]) -> bool
-    ensures { result ≡ list_all spec.is_name_byte word.now }
-{
-    word.iter().all(|byte| is_name_byte(*byte))
-}
-
-fn is_name(word: &[u8]) -> bool
-    ensures { result ≡ spec.is_name word.now }
+/// Whether a name may begin so, and is not too long.
+#[inline(always)]
+fn begins_name(word: &[u8]) -> bool
+    ensures { result ≡ spec.begins_name word.now }
 {
     let [first, ..] = word else {
         return false;
     };
-    word.len() <= 16 && first.is_ascii_alphabetic() && are_name_bytes(word)
+    word.len() <= 16 && first.is_ascii_alphabetic()
 }
 
 impl Name {
@@ -49,23 +45,32 @@ impl Name {
     pub fn from_word(word: &[u8]) -> Option<Name>
         ensures { result ≡ name_of word.now }
     {
-        if !is_name(word) {
+        if !begins_name(word) {
             return None;
         }
         let mut bytes = [0; 16];
-        let length = word.len();
-        bytes[..length].copy_from_slice(word);
-        Some(Name { bytes, length })
+        for (place, byte) in word.iter().enumerate() {
+            if !is_name_byte(*byte) {
+                return None;
+            }
+            bytes[place] = *byte;
+        }
+        Some(Name {
+            bytes,
+            length: word.len(),
+        })
     }
 
     /// Its bytes.
+    #[inline(always)]
     pub fn as_bytes(&self) -> &[u8]
         ensures { result.now ≡ self.now }
     {
         &self.bytes[..self.length]
     }
 
-    /// Whether it is the other name.
+    /// Whether it is the other name. It isn't inlined, so that all bytes are compared at once.
+    #[inline(never)]
     pub fn is(&self, other: &Name) -> bool
         ensures { result ≡ bytes_eq self.now other.now }
     {

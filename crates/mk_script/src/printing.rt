@@ -1,5 +1,5 @@
 //! The canonical text of a program.
-ghost use Rattle.std.specs.{Prelude.{◌≡◌, ◌++◌, [], ◌∷◌, IfOk, slice_index_or}, Fmt.decimal};
+ghost use Rattle.std.specs.{Prelude.{◌≡◌, ◌++◌, [], ◌∷◌, IfOk, OnOk, drop, slice_index_or}, Fmt.decimal};
 ghost use Rattle.mk_script.specs.Canonical.{at_text, numbers_before, fields_behind, words_of_item, line_text};
 ghost use Rattle.mk_script.specs.{Canonical.canonical_text, Spaced.{spaced_words, joined_words, operands_of_sort}};
 ghost use Rattle.mk_script.specs.Sorts.{is_declaration, is_number_access, is_pointer_access, is_pointer_line};
@@ -9,7 +9,7 @@ ghost use lib.Chars.{codes};
 use crate::{At, Item, Name, Program, TypeWord};
 use itoa::Buffer;
 use mk_never::NoMemory;
-use std::alloc::Global;
+use std::alloc::{AllocError, Global};
 use std::marker::Model;
 
 /// A text that grows at its end.
@@ -39,7 +39,7 @@ impl Printer {
     fn piece(mut self, piece: &[u8]) -> Result<Printer, NoMemory>
         ensures { IfOk result (λ printer. printer ≡ self ++ piece.now) }
     {
-        self.text.extend_from_slice(piece)?;
+        push_bytes(&mut self.text, piece)?;
         Ok(self)
     }
 
@@ -240,16 +240,35 @@ impl Printer {
         }
     }
 
-    /// Appends the words of a line: the first, and its operands, which a line has by one sort alone.
+    /// Appends the operands of a line, which are those of its sort.
+    fn operands(self, item: &Item) -> Result<Printer, NoMemory>
+        ensures { IfOk result (λ printer. printer ≡ self ++ spaced_words (drop 1 (words_of_item item.now))) }
+    {
+        match item {
+            Item::Getn { .. } | Item::Setn { .. } => self.number_access(item),
+            Item::Getp { .. } | Item::Setp { .. } | Item::Casp { .. } => self.pointer_access(item),
+            Item::New { .. }
+            | Item::Free { .. }
+            | Item::Clear { .. }
+            | Item::Lea { .. }
+            | Item::Move { .. }
+            | Item::Loadg { .. }
+            | Item::Storeg { .. } => self.pointer_line(item),
+            Item::Heap { .. }
+            | Item::TypeLine { .. }
+            | Item::Global { .. }
+            | Item::Script { .. }
+            | Item::Ptr { .. }
+            | Item::Num { .. } => self.declaration(item),
+            _ => self.number_line(item),
+        }
+    }
+
+    /// Appends the words of a line: the first, and its operands.
     fn words(self, item: &Item) -> Result<Printer, NoMemory>
         ensures { IfOk result (λ printer. printer ≡ self ++ joined_words (words_of_item item.now)) }
     {
-        self.piece(first_word(item))?
-            .declaration(item)?
-            .number_access(item)?
-            .pointer_access(item)?
-            .pointer_line(item)?
-            .number_line(item)
+        self.piece(first_word(item))?.operands(item)
     }
 
     /// Appends a newline.
@@ -274,6 +293,17 @@ impl Printer {
         let Printer { text, .. } = self;
         text
     }
+}
+
+/// Appends bytes one by one, which are few.
+#[inline(always)]
+fn push_bytes(text: &mut Vec<u8>, bytes: &[u8]) -> Result<(), AllocError>
+    ensures { OnOk result (text.new.items ≡ text.old.items ++ bytes.now) }
+{
+    for byte in bytes {
+        text.push(*byte)?;
+    }
+    Ok(())
 }
 
 /// The first word of a line.

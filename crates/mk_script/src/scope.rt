@@ -2,7 +2,7 @@
 ghost use Rattle.std.specs.Prelude.{◌≡◌, ◌<◌, ◌+◌, ◌^◌, List, [], ◌∷◌, ◌++◌, length, reverse, not, false, OnOk};
 ghost use Rattle.std.specs.Option.{option_or};
 ghost use Rattle.mk_script.specs.{Lines.is_among, Scopes.{open_blocks, open_behind, behind_else, this_script}};
-ghost use Rattle.mk_script.specs.{Scopes.type_names, ScopeOf.{IsScopeOf, BeginsScript, has_lines}};
+ghost use Rattle.mk_script.specs.{Stops.kept_if, Scopes.type_names, ScopeOf.{IsScopeOf, BeginsScript, has_lines}};
 ghost use Rattle.mk_script.specs.Lines as spec;
 
 use crate::faults::{LineFault, TextKind, Which};
@@ -161,20 +161,21 @@ impl Scope {
         }
     }
 
-    /// The item, where it may stand next.
-    pub fn checked(&self, item: Item) -> Result<Item, LineFault>
-        ensures { (before : List Item) → IsScopeOf self.now before → result ≡ spec.checked_item before item }
+    /// Whether the item may stand next, or the first of its faults.
+    pub fn check(&self, item: &Item) -> Result<(), LineFault>
+        ensures { (before : List Item) → IsScopeOf self.now before
+            → kept_if result item.now ≡ spec.checked_item before item.now }
     {
-        if self.is_twice(&item) {
+        if self.is_twice(item) {
             return Err(LineFault::Text(TextKind::Twice));
         }
-        if let Some(fault) = self.limit_fault(&item) {
+        if let Some(fault) = self.limit_fault(item) {
             return Err(fault);
         }
-        if !self.ends_rightly(&item) {
+        if !self.ends_rightly(item) {
             return Err(LineFault::Text(TextKind::End));
         }
-        Ok(item)
+        Ok(())
     }
 
     /// Adds a line that may stand next.
