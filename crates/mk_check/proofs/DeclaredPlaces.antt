@@ -129,6 +129,10 @@ pub global_type_is : (name : List ℕ) (items : List Item) → global_type name 
     ≡ slice_get (declared_for declared_type items) (number_of_name name (global_names items))
 global_type_is name items = value_at_number Sort.Global declared_type type_named name items
 
+pub pointer_at_is : (name : List ℕ) (items : List Item) → pointer_at name items
+    ≡ slice_get (declared_for declared_place items) (number_of_name name (pointer_names items))
+pointer_at_is name items = value_at_number Sort.Pointer declared_place place_named name items
+
 -- a name is one of these where its number is one of theirs
 pub number_within : (name : List ℕ) (names : List (List ℕ))
     → nat_lt (number_of_name name names) (length names) ≡ list_any (bytes_eq name) names

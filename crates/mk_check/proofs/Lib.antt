@@ -37,3 +37,4 @@ pub mod Observed
 pub mod ObservedSteps
 pub mod WrittenLines
 pub mod Vocabulary
+pub mod TableLemmas

@@ -12,6 +12,7 @@ pub mod Rules
 pub mod AtOnce
 pub mod Spots
 pub mod NamesInScope
+pub mod NameTables
 pub mod Observed
 pub mod ObservedLaws
 pub mod ObservedSteps

@@ -1,11 +1,11 @@
 -- What look-ups by name know of a program.
 -- Private functions alone cite these words.
 use Rattle.std.specs.{Prelude.{◌≡◌, ℕ, if◌then◌else◌, List, [], ◌∷◌, ◌++◌, map, take, Option}, List.filter_map}
-use Rattle.mk_script.specs.{declared.items.At.At, declared.items.Item.Item, Scopes.{global_names, is_script}}
-use Rattle.mk_script.specs.Scopes.{number_names, this_script, type_names}
-use Rattle.mk_check.specs.{declared.lookups.Declarations.Declarations, declared.lookups.PointerRegister.PointerRegister}
-use Rattle.mk_check.specs.{declared.lookups.Registers.Registers, Declarations.{declared_type, declared_words}}
-use Rattle.mk_check.specs.{NamesInScope.referred_names, Typing.{Around, pointer_at, value_of}}
+use Rattle.mk_script.specs.{declared.items.Item.Item, Scopes.{global_names, is_script}}
+use Rattle.mk_script.specs.Scopes.{number_names, pointer_names, this_script, type_names}
+use Rattle.mk_check.specs.{declared.declarations.Declarations.Declarations, declared.registers.Registers.Registers}
+use Rattle.mk_check.specs.{Declarations.{declared_type, declared_words}, NamesInScope.referred_names}
+use Rattle.mk_check.specs.Typing.{Around, declared_place}
 
 -- A program, and how many of its lines were read.
 pub record Reading : Type 0 where
@@ -26,20 +26,13 @@ lines_behind lines item = if is_script item then [] else lines ++ item ∷ []
 
 -- they are those of the program
 pub record AreDeclared (declarations : Declarations) (program : List Item) : Type 0 where
-  pub types : referred_names declarations.types.items ≡ type_names program
+  pub types : declarations.types ≡ type_names program
   pub words : map (λ words. words.now) declarations.words.items ≡ declared_for declared_words program
-  pub globals : referred_names declarations.globals.items ≡ global_names program
+  pub globals : declarations.globals ≡ global_names program
   pub global_types : referred_names declarations.global_types.items ≡ declared_for declared_type program
-
--- a register with where it is declared to point
-abbrev pub place_of : PointerRegister → List ℕ × At
-place_of register = (register.name.now, register.at.now)
-
--- where the first register of a name is declared to point
-abbrev pub first_at : List PointerRegister → List ℕ → Option At
-first_at registers name = value_of name (map place_of registers)
 
 -- they are those of a script's lines
 pub record AreRegisters (registers : Registers) (lines : List Item) : Type 0 where
-  pub pointers : (name : List ℕ) → first_at registers.pointers.items name ≡ pointer_at name lines
-  pub numbers : map (λ number. number.now) registers.numbers.items ≡ number_names lines
+  pub pointers : registers.pointers ≡ pointer_names lines
+  pub places : map (λ at. at.now) registers.places.items ≡ declared_for declared_place lines
+  pub numbers : registers.numbers ≡ number_names lines

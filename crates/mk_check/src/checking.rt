@@ -3,6 +3,7 @@ ghost use Rattle.std.specs.Prelude.{◌≡◌, ℕ, List, IfOk, IfErr, OnOk};
 ghost use Rattle.mk_script.specs.declared.items.Item.TheVariants.{Script};
 ghost use Rattle.mk_check.specs.{Lookups.around, Typing.{Around, typing_fault, IsWellTyped, NamesFirstFault}};
 
+use crate::declarations::Declarations;
 use crate::lengths::script_length;
 use crate::lookups::Lookups;
 use crate::scripts::items_of_script;
@@ -44,7 +45,8 @@ pub fn check_lines(alloc: Global, items: &[Item]) -> Result<(), TypeStop>
     ensures well_typed { OnOk result (IsWellTyped items.now) }
     ensures first_fault { IfErr result (NamesFirstFault items.now) }
 {
-    let mut lookups = Lookups::new(alloc, items)?;
+    let declarations = Declarations::of_program(alloc, items)?;
+    let mut lookups = Lookups::new(alloc, items, &declarations);
     for (place, item) in items.iter().enumerate() {
         if let Some(kind) = line_fault(alloc, &lookups, item, &items[place + 1..])? {
             return Err(TypeStop::IllTyped {

@@ -5,14 +5,17 @@
 
 mod checked;
 mod checking;
+mod declarations;
 mod feeding;
 pub mod laws;
 mod lengths;
 mod lookups;
+mod name_table;
 mod names;
 mod numbering;
 mod numbers;
 mod places;
+mod registers;
 mod scripts;
 mod text;
 mod typing;

@@ -1,139 +1,26 @@
 //! What names stand for, as the lines of a program are read.
-ghost use Rattle.std.specs.Prelude.{◌≡◌, ◌+◌, ◌<◌, List, [], ◌∷◌, ◌++◌, length, map, IfOk, OnOk, OnErr};
+ghost use Rattle.std.specs.Prelude.{◌≡◌, ◌+◌, ◌<◌, length, IfOk, OnOk};
 ghost use Rattle.std.specs.{List.list_any, Option.option_copied, Str.bytes_eq};
-ghost use Rattle.mk_script.specs.{declared.items.Item.Item, Scopes.number_names};
-ghost use Rattle.mk_check.specs.{Typing.{type_words, global_type, pointer_at}, Lookups.{around, declared_for}};
-ghost use Rattle.mk_check.specs.{Declarations.{declared_type, declared_words}, NamesInScope.referred_names};
+ghost use Rattle.mk_script.specs.Scopes.{number_names};
+ghost use Rattle.mk_check.specs.{Typing.{type_words, global_type, pointer_at}, Lookups.{around, AreDeclared}};
 
-use crate::names::{names_among, number_of_name};
+use crate::declarations::Declarations;
+use crate::registers::Registers;
 use mk_never::NoMemory;
-use mk_script::{At, Item, Name, Sort, TypeWord};
+use mk_script::{At, Item, Name, TypeWord};
 use std::alloc::Global;
 use std::marker::Model;
 
-/// The words of types and the types of globals, in the order of their names.
-#[derive(Drop)]
-struct Declarations<'a> {
-    types: Vec<&'a Name>,
-    words: Vec<&'a [TypeWord]>,
-    globals: Vec<&'a Name>,
-    global_types: Vec<&'a Name>,
-}
-
-impl<'a> Declarations<'a> {
-    ghost use Rattle.mk_check.specs.Lookups.{AreDeclared};
-
-    fn of_program(alloc: Global, program: &'a [Item]) -> Result<Declarations<'a>, NoMemory>
-        ensures { IfOk result (λ declarations. AreDeclared declarations program.now) }
-    {
-        Ok(Declarations {
-            types: names_among(alloc, Sort::Type, program)?,
-            words: words_of_types(alloc, program)?,
-            globals: names_among(alloc, Sort::Global, program)?,
-            global_types: types_of_globals(alloc, program)?,
-        })
-    }
-}
-
-/// The words of each type.
-fn words_of_types(alloc: Global, program: &[Item]) -> Result<Vec<&[TypeWord]>, NoMemory>
-    ensures { IfOk result (λ types. map (λ words. words.now) types.items ≡ declared_for declared_words program.now) }
-{
-    let mut types = Vec::new(alloc);
-    for item in program {
-        if let Item::TypeLine { words, .. } = item {
-            types.push(words.as_slice())?;
-        }
-    }
-    Ok(types)
-}
-
-/// The name of each global's type.
-fn types_of_globals(alloc: Global, program: &[Item]) -> Result<Vec<&Name>, NoMemory>
-    ensures { IfOk result (λ types. referred_names types.items ≡ declared_for declared_type program.now) }
-{
-    let mut types = Vec::new(alloc);
-    for item in program {
-        if let Item::Global { ty, .. } = item {
-            types.push(ty)?;
-        }
-    }
-    Ok(types)
-}
-
-/// A pointer register, and where it is declared to point.
-#[derive(Clone, Copy)]
-struct PointerRegister<'a> {
-    name: &'a Name,
-    at: &'a At,
-}
-
-/// The registers of a script, which are few.
-#[derive(Drop)]
-struct Registers<'a> {
-    pointers: Vec<PointerRegister<'a>>,
-    numbers: Vec<&'a Name>,
-}
-
-impl<'a> Registers<'a> {
-    ghost use Rattle.mk_check.specs.Lookups.{lines_behind, AreRegisters, first_at};
-
-    fn new(alloc: Global) -> Registers<'a>
-        ensures { AreRegisters result [] }
-    {
-        Registers {
-            pointers: Vec::new(alloc),
-            numbers: Vec::new(alloc),
-        }
-    }
-
-    fn add(&mut self, item: &'a Item) -> Result<(), NoMemory>
-        ensures added { OnOk result ((lines : List Item) → AreRegisters self.old lines
-            → AreRegisters self.new (lines_behind lines item.now)) }
-        ensures unchanged { OnErr result ((lines : List Item) → AreRegisters self.old lines
-            → AreRegisters self.new lines) }
-    {
-        match item {
-            Item::Script { .. } => {
-                self.pointers.clear();
-                self.numbers.clear();
-                Ok(())
-            }
-            Item::Ptr { name, at } => Ok(self.pointers.push(PointerRegister { name, at })?),
-            Item::Num { name } => Ok(self.numbers.push(name)?),
-            _ => Ok(()),
-        }
-    }
-
-    /// Where the first pointer register of this name is declared to point.
-    fn pointer_at(&self, name: &Name) -> Option<&'a At>
-        ensures { option_copied result ≡ first_at self.now.pointers.items name.now }
-    {
-        for register in &self.pointers {
-            if name.is(register.name) {
-                return Some(register.at);
-            }
-        }
-        None
-    }
-
-    fn has_number(&self, name: &Name) -> bool
-        ensures { result ≡ list_any (bytes_eq name.now) (map (λ number. number.now) self.now.numbers.items) }
-    {
-        number_of_name(&self.numbers, name) < self.numbers.len()
-    }
-}
-
 /// Look-ups of names in a program of which some lines were read.
 #[derive(Drop)]
-pub struct Lookups<'a> {
+pub struct Lookups<'d, 'a> {
     program: &'a [Item],
     count: usize,
-    declarations: Declarations<'a>,
+    declarations: &'d Declarations<'a>,
     registers: Registers<'a>,
 }
 
-impl<'a> Model for Lookups<'a> {
+impl<'d, 'a> Model for Lookups<'d, 'a> {
     ghost use Rattle.std.specs.Prelude.{◌≤◌, length, take};
     ghost use Rattle.mk_script.specs.Scopes.{this_script};
     ghost use Rattle.mk_check.specs.Lookups.{Reading, AreDeclared, AreRegisters};
@@ -142,21 +29,26 @@ impl<'a> Model for Lookups<'a> {
 
     ghost view = { λ l. record { program = l.program.now; count = l.count } };
 
-    ghost invariant = { λ l. (l.count ≤ length l.program.now) × AreDeclared l.declarations l.program.now
+    ghost invariant = { λ l. (l.count ≤ length l.program.now) × AreDeclared l.declarations.now l.program.now
         × AreRegisters l.registers (this_script (take l.count l.program.now)) };
 }
 
-impl<'a> Lookups<'a> {
+impl<'d, 'a> Lookups<'d, 'a> {
     /// No line is read.
-    pub fn new(alloc: Global, program: &'a [Item]) -> Result<Lookups<'a>, NoMemory>
-        ensures { IfOk result (λ lookups. lookups ≡ record { program = program.now; count = 0 }) }
+    pub fn new(
+        alloc: Global,
+        program: &'a [Item],
+        declarations: &'d Declarations<'a>,
+    ) -> Lookups<'d, 'a>
+        requires { AreDeclared declarations.now program.now }
+        ensures { result ≡ record { program = program.now; count = 0 } }
     {
-        Ok(Lookups {
+        Lookups {
             program,
             count: 0,
-            declarations: Declarations::of_program(alloc, program)?,
+            declarations,
             registers: Registers::new(alloc),
-        })
+        }
     }
 
     /// Reads the next line.
@@ -165,7 +57,7 @@ impl<'a> Lookups<'a> {
         ensures { OnOk result (self.new ≡ record self.old { count = self.old.count + 1 }) }
     {
         let program = self.program;
-        self.registers.add(&program[self.count])?;
+        self.registers.read(&program[self.count])?;
         self.count += 1;
         Ok(())
     }
@@ -174,7 +66,7 @@ impl<'a> Lookups<'a> {
     pub fn type_words(&self, name: &Name) -> Option<&'a [TypeWord]>
         ensures { option_copied result ≡ type_words name.now self.now.program }
     {
-        let number = number_of_name(&self.declarations.types, name);
+        let number = self.declarations.types.number_of(name);
         self.declarations.words.get(number).copied()
     }
 
@@ -182,7 +74,7 @@ impl<'a> Lookups<'a> {
     pub fn global_type(&self, name: &Name) -> Option<&'a Name>
         ensures { option_copied result ≡ global_type name.now self.now.program }
     {
-        let number = number_of_name(&self.declarations.globals, name);
+        let number = self.declarations.globals.number_of(name);
         self.declarations.global_types.get(number).copied()
     }
 
@@ -197,6 +89,6 @@ impl<'a> Lookups<'a> {
     pub fn has_number(&self, name: &Name) -> bool
         ensures { result ≡ list_any (bytes_eq name.now) (number_names (around self.now).script) }
     {
-        self.registers.has_number(name)
+        self.registers.numbers.number_of(name) < self.registers.numbers.len()
     }
 }

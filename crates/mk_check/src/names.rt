@@ -1,104 +1,81 @@
 //! Names of a program and of one of its scripts, with their numbers.
-ghost use Rattle.std.specs.Prelude.{◌≡◌, ◌+◌, ◌<◌, ◌≤◌, ◌^◌, length, map, IfOk};
-ghost use Rattle.mk_script.specs.Scopes.{names_of};
-ghost use Rattle.mk_check.specs.{Declarations.number_of_name, NamesInScope.referred_names};
+ghost use Rattle.std.specs.Prelude.{◌≡◌, List, map, IfOk};
+ghost use Rattle.mk_script.specs.declared.items.Item.{Item};
+ghost use Rattle.mk_check.specs.{Declarations.number_of_name, Lookups.AreDeclared};
 ghost use Rattle.mk_check.specs.{Feed.scope_of, Steps.{instruction_of, number_place}};
 
+use crate::declarations::Declarations;
 use crate::feeding::instructions::{Element, Instruction, NumberRegister};
+use crate::registers::Registers;
 use mk_never::NoMemory;
-use mk_script::{Item, Name, Sort, declared_name};
+use mk_script::{Item, Name};
 use std::alloc::Global;
 use std::marker::Model;
 
-/// The names of a sort, in the order of their lines.
-pub fn names_among(alloc: Global, sort: Sort, items: &[Item]) -> Result<Vec<&Name>, NoMemory>
-    ensures { IfOk result (λ names. referred_names names.items ≡ names_of sort items.now) }
-{
-    let mut names = Vec::new(alloc);
-    for item in items {
-        if let Some(name) = declared_name(sort, item) {
-            names.push(name)?;
-        }
-    }
-    Ok(names)
-}
-
-/// The place of a name among these; their count, where it isn't among them.
-pub fn number_of_name(names: &[&Name], name: &Name) -> usize
-    ensures value { result ≡ number_of_name name.now (referred_names names.now) }
-    ensures within { result ≤ length names.now }
-{
-    for (index, other) in names.iter().enumerate() {
-        if name.is(other) {
-            return index;
-        }
-    }
-    names.len()
-}
-
 /// The names that a script may use.
 #[derive(Drop)]
-pub struct Names<'a> {
-    types: Vec<&'a Name>,
-    globals: Vec<&'a Name>,
-    pointers: Vec<&'a Name>,
-    numbers: Vec<&'a Name>,
+pub struct Names<'d, 'a> {
+    declarations: &'d Declarations<'a>,
+    registers: Registers<'a>,
 }
 
-impl<'a> Model for Names<'a> {
-    ghost use Rattle.mk_check.specs.{Feed.Scope, NamesInScope.referred_names};
+impl<'d, 'a> Model for Names<'d, 'a> {
+    ghost use Rattle.mk_check.specs.Feed.{Scope};
 
     ghost Value = { Scope };
 
     ghost view = { λ n. record {
-      types = referred_names n.types.items;
-      globals = referred_names n.globals.items;
-      pointers = referred_names n.pointers.items;
-      numbers = referred_names n.numbers.items;
+      types = n.declarations.now.types;
+      globals = n.declarations.now.globals;
+      pointers = n.registers.pointers;
+      numbers = n.registers.numbers;
     } };
 }
 
-impl<'a> Names<'a> {
+impl<'d, 'a> Names<'d, 'a> {
     ghost use Rattle.mk_check.specs.{NamesInScope.HasFew, Feed.pointer_place, Steps.{on_object, on_registers, load}};
     ghost use Rattle.mk_check.specs.Steps.{pointer_test, arithmetic, element_of};
 
-    /// The names that are declared for a script of the program.
-    pub fn of(alloc: Global, program: &'a [Item], script: &'a [Item]) -> Result<Names<'a>, NoMemory>
-        ensures { IfOk result (λ names. names ≡ scope_of program.now script.now) }
+    /// The names that are declared for a script of a program with these declarations.
+    pub fn of(
+        alloc: Global,
+        declarations: &'d Declarations<'a>,
+        script: &'a [Item],
+    ) -> Result<Names<'d, 'a>, NoMemory>
+        ensures { (program : List Item) → AreDeclared declarations.now program
+            → IfOk result (λ names. names ≡ scope_of program script.now) }
     {
         Ok(Names {
-            types: names_among(alloc, Sort::Type, program)?,
-            globals: names_among(alloc, Sort::Global, program)?,
-            pointers: names_among(alloc, Sort::Pointer, script)?,
-            numbers: names_among(alloc, Sort::Number, script)?,
+            declarations,
+            registers: Registers::of_lines(alloc, script)?,
         })
     }
 
     fn ty(&self, name: &Name) -> u64
         ensures { result ≡ number_of_name name.now self.now.types }
     {
-        number_of_name(&self.types, name) as u64
+        self.declarations.types.number_of(name) as u64
     }
 
     fn global(&self, name: &Name) -> u8
         requires { HasFew self.now }
         ensures { result ≡ number_of_name name.now self.now.globals }
     {
-        number_of_name(&self.globals, name) as u8
+        self.declarations.globals.number_of(name) as u8
     }
 
     fn pointer(&self, name: &Name) -> u8
         requires { HasFew self.now }
         ensures { result ≡ pointer_place self.now name.now }
     {
-        number_of_name(&self.pointers, name) as u8
+        self.registers.pointers.number_of(name) as u8
     }
 
     fn number(&self, name: &Name) -> NumberRegister
         requires { HasFew self.now }
         ensures { result ≡ number_place self.now name.now }
     {
-        NumberRegister::at(number_of_name(&self.numbers, name))
+        NumberRegister::at(self.registers.numbers.number_of(name))
     }
 
     /// An instruction on an object that keeps no number.
@@ -276,12 +253,20 @@ impl<'a> Names<'a> {
         requires { HasFew self.now }
         ensures { result ≡ instruction_of self.now item.now }
     {
-        self.on_object(item)
-            .or(self.on_registers(item))
-            .or(self.load(item))
-            .or(self.pointer_test(item))
-            .or(self.arithmetic(item))
-            .unwrap_or(Instruction::Nothing)
+        let found = match item {
+            Item::New { .. } | Item::Free { .. } | Item::Getp { .. } | Item::Setp { .. } => {
+                self.on_object(item)
+            }
+            Item::Lea { .. }
+            | Item::Move { .. }
+            | Item::Clear { .. }
+            | Item::Loadg { .. }
+            | Item::Storeg { .. } => self.on_registers(item),
+            Item::Getn { .. } | Item::Casp { .. } => self.load(item),
+            Item::Same { .. } | Item::Isnull { .. } | Item::Show { .. } => self.pointer_test(item),
+            _ => self.arithmetic(item),
+        };
+        found.unwrap_or(Instruction::Nothing)
     }
 
     /// What a line adds to a script's tree.

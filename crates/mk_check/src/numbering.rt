@@ -3,6 +3,7 @@ ghost use Rattle.std.specs.Prelude.{◌≡◌, IfOk};
 ghost use Rattle.mk_script.specs.Grammar.{IsOfSomeText};
 ghost use Rattle.mk_check.specs.{Laws.IsScript, Numbering.elements_of_script};
 
+use crate::declarations::Declarations;
 use crate::feeding::instructions::Element;
 use crate::names::Names;
 use crate::scripts::script_at;
@@ -36,7 +37,8 @@ impl NumberedScript {
         let Some(script) = script_at(items, k) else {
             unreachable!()
         };
-        let names = Names::of(alloc, items, script.items)?;
+        let declarations = Declarations::of_program(alloc, items)?;
+        let names = Names::of(alloc, &declarations, script.items)?;
         Ok(NumberedScript {
             lines: names.elements(alloc, script.items)?,
         })

@@ -3,7 +3,7 @@ ghost use Rattle.std.specs.Prelude.{◌≡◌, ◌≤◌, map, length, IfOk};
 ghost use Rattle.mk_script.specs.Scopes.{global_names, type_names};
 ghost use Rattle.mk_check.specs.Declarations.{number_of_name, kind_of, types_of, globals_of};
 
-use crate::names::{names_among, number_of_name};
+use crate::name_table::{NameTable, names_among};
 use mk_core::GlobalTable;
 use mk_never::{Kind, NoMemory, TypeTable};
 use mk_script::{Item, Name, Sort, TypeWord};
@@ -14,20 +14,19 @@ use std::marker::Model;
 #[derive(Drop)]
 pub struct TypeNumbers<'a> {
     program: &'a [Item],
-    types: Vec<&'a Name>,
+    types: NameTable<'a>,
 }
 
 impl<'a> Model for TypeNumbers<'a> {
     ghost use Rattle.std.specs.Prelude.{List};
     ghost use Rattle.mk_script.specs.{declared.items.Item.Item, Scopes.type_names};
     ghost use Rattle.std.specs.Prelude.{◌≡◌};
-    ghost use Rattle.mk_check.specs.NamesInScope.{referred_names};
 
     ghost Value = { List Item };
 
     ghost view = { λ t. t.program.now };
 
-    ghost invariant = { λ t. referred_names t.types.items ≡ type_names t.program.now };
+    ghost invariant = { λ t. t.types ≡ type_names t.program.now };
 }
 
 impl<'a> TypeNumbers<'a> {
@@ -45,7 +44,7 @@ impl<'a> TypeNumbers<'a> {
     fn number(&self, name: &Name) -> u64
         ensures { result ≡ number_of_name name.now (type_names self.now) }
     {
-        number_of_name(&self.types, name) as u64
+        self.types.number_of(name) as u64
     }
 
     fn kind(&self, word: &TypeWord) -> Kind

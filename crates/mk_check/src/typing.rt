@@ -97,7 +97,7 @@ fn pointer_word_fault(word: Option<&TypeWord>, at: Option<&At>) -> Option<TypeKi
     offset_fault(word).or(kind_fault(pointed_place(word), place_of(at)))
 }
 
-impl<'a> Lookups<'a> {
+impl<'d, 'a> Lookups<'d, 'a> {
     fn type_fault(&self, name: &Name) -> Option<TypeKind>
         ensures { result ≡ rule.type_fault (around self.now) name.now }
     {
@@ -353,10 +353,22 @@ impl<'a> Lookups<'a> {
         requires { is_script item.now ≡ false }
         ensures { (line : ℕ) (behind : List Item) → result ≡ rule.typing_fault (around self.now) line behind item.now }
     {
-        self.declaration_fault(item)
-            .or(self.number_access_fault(item))
-            .or(self.pointer_access_fault(item))
-            .or(self.pointer_line_fault(item))
-            .or(self.number_line_fault(item))
+        match item {
+            Item::TypeLine { .. } | Item::Global { .. } | Item::Ptr { .. } => {
+                self.declaration_fault(item)
+            }
+            Item::Getn { .. } | Item::Setn { .. } => self.number_access_fault(item),
+            Item::Getp { .. } | Item::Setp { .. } | Item::Casp { .. } => {
+                self.pointer_access_fault(item)
+            }
+            Item::New { .. }
+            | Item::Free { .. }
+            | Item::Lea { .. }
+            | Item::Move { .. }
+            | Item::Clear { .. }
+            | Item::Loadg { .. }
+            | Item::Storeg { .. } => self.pointer_line_fault(item),
+            _ => self.number_line_fault(item),
+        }
     }
 }

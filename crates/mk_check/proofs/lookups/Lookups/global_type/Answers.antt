@@ -1,7 +1,7 @@
 use Rattle.std.specs.{Borrow.Bor, Option.option_copied}
 use Rattle.mk_check.proofs.Vocabulary.{List, ℕ, ap, global_type, map, number_of_name, slice_get, sym, ◌∙◌}
 use Rattle.mk_check.proofs.{DeclaredPlaces.global_type_is, LookupLemmas.seen_at}
-use Rattle.mk_check.specs.{Declarations.declared_type, Lookups.{Reading, declared_for}, NamesInScope.referred_names}
+use Rattle.mk_check.specs.{Declarations.declared_type, Lookups.{Reading, declared_for}}
 use Rattle.mk_check.proofs.lookups.Lookups.global_type.Goals as goal
 
 pub returns : goal.returns
@@ -9,12 +9,11 @@ returns c =
     let name = c.args.name.now in
     let program = c.self.inside.program.now in
     let known = c.self.invariant.1 in
-    let n = c.number_of_name-number.result in
-    let values = ap (λ (vs : List (Bor (List ℕ))). map (λ v. v.now) vs) c.deref-2.ensures.value ∙ known.global_types in
-    let number = c.number_of_name-number.ensures.value
-    ∙ ap (λ (names : List (Bor (List ℕ))). number_of_name name (referred_names names)) c.deref.ensures.value
+    let n = c.number_of-number.result in
+    let values = ap (λ (vs : List (Bor (List ℕ))). map (λ v. v.now) vs) c.deref.ensures.value ∙ known.global_types in
+    let number = c.number_of-number.ensures.value
     ∙ ap (number_of_name name) known.globals in
     ap (λ o. option_copied o) c.copied.ensures
-    ∙ seen_at c.deref-2.result.now n c.get.result c.get.ensures.lookup ∙ ap (λ vs. slice_get vs n) values
+    ∙ seen_at c.deref.result.now n c.get.result c.get.ensures.lookup ∙ ap (λ vs. slice_get vs n) values
     ∙ ap (slice_get (declared_for declared_type program)) number ∙ sym (global_type_is name program)
     ∙ ap (λ (r : Reading). global_type name r.program) c.self.view_is

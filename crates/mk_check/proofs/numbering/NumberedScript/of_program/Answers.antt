@@ -3,5 +3,6 @@ use Rattle.mk_check.proofs.numbering.NumberedScript.of_program.Goals as goal
 
 pub elements-requires : goal.elements-requires
 elements-requires c =
-    let named = c.in_ok-names.ensures ∙ ap (scope_of c.args.items.now) c.in-Some.ensures.some.items_are in
+    let named = c.in_ok-names.ensures c.args.items.now c.in_ok-declarations.ensures
+    ∙ ap (scope_of c.args.items.now) c.in-Some.ensures.some.items_are in
     subst (λ (s : Scope). HasFew s) (sym named) (text_has_few c.args.items.now c.args.k c.requires.text)
