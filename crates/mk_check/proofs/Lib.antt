@@ -38,3 +38,4 @@ pub mod ObservedSteps
 pub mod WrittenLines
 pub mod Vocabulary
 pub mod TableLemmas
+pub mod DeclaredLines

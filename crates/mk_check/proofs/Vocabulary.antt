@@ -26,7 +26,7 @@ pub use Rattle.mk_check.specs.Feed.{fed_before_answers, fed_before_lines, feed, 
 pub use Rattle.mk_check.specs.Feed.{run, scope_of, take_answer, take_answers, with_answer}
 pub use Rattle.mk_check.specs.Feeding.{FeedStandsFor, FeedState, IsAtStop, IsFeed, IsWaiting, TakesAnswer, first_op}
 pub use Rattle.mk_check.specs.Feeding.{next_op, op_in, op_of_node, script_scope, work_left}
-pub use Rattle.mk_check.specs.{Lookups.{around, first_at}, NamesInScope.HasFew, Spots.{asks_at, instruction_of_node}}
+pub use Rattle.mk_check.specs.{Lookups.around, NamesInScope.HasFew, Spots.{asks_at, instruction_of_node}}
 pub use Rattle.mk_check.specs.{Spots.{sequel_to, sequels_of}, Steps.{KeptState, Steps, Stopped, after_answer}}
 pub use Rattle.mk_check.specs.Steps.{after_line, asks_first, element_of, instruction_of, is_asking, is_print, numbered}
 pub use Rattle.mk_check.specs.Steps.{op_asked, stop_behind, stop_of, stop_of_rounds, stop_on_answer, then_steps}

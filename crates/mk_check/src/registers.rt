@@ -53,7 +53,8 @@ impl<'a> Registers<'a> {
             Item::Ptr { name, at } => {
                 self.places.reserve(1)?;
                 self.pointers.add(name)?;
-                Ok(self.places.push(at)?)
+                self.places.push_reserved(at);
+                Ok(())
             }
             Item::Num { name } => self.numbers.add(name),
             _ => Ok(()),

@@ -348,26 +348,29 @@ impl<'d, 'a> Lookups<'d, 'a> {
         }
     }
 
-    /// What is wrong with a line that begins no script.
+    /// What is wrong with a line that begins no script, by the rule of its sort.
     pub fn fault(&self, item: &Item) -> Option<TypeKind>
         requires { is_script item.now ≡ false }
         ensures { (line : ℕ) (behind : List Item) → result ≡ rule.typing_fault (around self.now) line behind item.now }
     {
         match item {
-            Item::TypeLine { .. } | Item::Global { .. } | Item::Ptr { .. } => {
-                self.declaration_fault(item)
-            }
             Item::Getn { .. } | Item::Setn { .. } => self.number_access_fault(item),
             Item::Getp { .. } | Item::Setp { .. } | Item::Casp { .. } => {
                 self.pointer_access_fault(item)
             }
             Item::New { .. }
             | Item::Free { .. }
+            | Item::Clear { .. }
             | Item::Lea { .. }
             | Item::Move { .. }
-            | Item::Clear { .. }
             | Item::Loadg { .. }
             | Item::Storeg { .. } => self.pointer_line_fault(item),
+            Item::Heap { .. }
+            | Item::TypeLine { .. }
+            | Item::Global { .. }
+            | Item::Script { .. }
+            | Item::Ptr { .. }
+            | Item::Num { .. } => self.declaration_fault(item),
             _ => self.number_line_fault(item),
         }
     }
