@@ -1,7 +1,7 @@
 -- What lines declare, with one line more.
 use Rattle.std.proofs.{Common.IfOk, lemmas.List.Elements.filter_map-append}
 use Rattle.std.specs.{Borrow.Bor, List.filter_map}
-use Rattle.mk_check.proofs.Vocabulary.{At, Item, List, None, OnOk, Option, Result, TypeWord, ap, arith, map, map-append}
+use Rattle.mk_check.proofs.Vocabulary.{At, Item, List, None, Option, TypeWord, ap, arith, map, map-append}
 use Rattle.mk_check.proofs.Vocabulary.{refl, sym, ℕ, [], ◌++◌, ◌∙◌, ◌∷◌, ◌≡◌}
 use Rattle.mk_check.proofs.DeclaredPlaces.{declares_nothing}
 use Rattle.mk_check.specs.{declared.declarations.Declarations.Declarations, declared.registers.Registers.Registers}

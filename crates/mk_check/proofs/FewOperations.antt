@@ -1,14 +1,14 @@
 -- A script asks for no more operations than it executes instructions: at most a million.
 use Rattle.mk_check.proofs.Vocabulary.{Answer, Blocks, Bool, Choice, Done, Fed, Item, Line, List, None, Op, Option}
 use Rattle.mk_check.proofs.Vocabulary.{Rounds, Scope, Some, ScriptText, ap, arith, before_next_script, blocks_from}
-use Rattle.mk_check.proofs.Vocabulary.{fault_from, fed_before_answers, fed_before_lines, feed, if◌then◌else◌, is_some}
+use Rattle.mk_check.proofs.Vocabulary.{fault_from, fed_before_answers, fed_before_lines, if◌then◌else◌, is_some}
 use Rattle.mk_check.proofs.Vocabulary.{length, length-append, max, note, op_of, refl, run, script_from, script_of}
-use Rattle.mk_check.proofs.Vocabulary.{script_scope, suc, sym, take_answer, take_answers, this_script, true}
-use Rattle.mk_check.proofs.Vocabulary.{typing_fault, with_answer, zero, ℕ, [], ◌++◌, ◌*◌, ◌+◌, ◌==◌, ◌∙◌, ◌∷◌, ◌≡◌, ◌≤◌}
+use Rattle.mk_check.proofs.Vocabulary.{script_scope, suc, take_answer, take_answers, true}
+use Rattle.mk_check.proofs.Vocabulary.{with_answer, zero, ℕ, [], ◌++◌, ◌*◌, ◌+◌, ◌==◌, ◌∙◌, ◌∷◌, ◌≡◌, ◌≤◌}
 use Rattle.mk_check.proofs.{Numbered.ops-with_answer, Numbered.run_agrees, TypedScripts.next_none}
 use Rattle.mk_check.specs.{Blocks.followed_by, Blocks.is_end_of_block, Feed.number_in, Feed.run_line, Feed.run_rounds}
 use Rattle.mk_check.specs.{Feed.then_run, Laws.ScriptsAskForFew, Lengths.length_of, Lengths.script_length}
-use Rattle.mk_check.specs.Typing.{IsWellTyped, length_fault}
+use Rattle.mk_check.specs.Typing.{length_fault}
 use Rattle.mk_script.specs.{Scopes.is_instruction, declared.items.Item.TheVariants.Script}
 
 -- A run leaves no more instructions than there were.

@@ -21,6 +21,7 @@ pub mod Stands
 pub mod Spots
 pub mod StepLaws
 pub mod WorkLaws
+pub mod Asked
 pub mod AsksFirst
 pub mod AtOnce
 pub mod NextRounds

@@ -1,5 +1,5 @@
 -- Each line that a script has left to run is a line of the script.
-use Rattle.std.proofs.lemmas.List.Elements.{All-head, All-tail}
+use Rattle.std.{proofs.lemmas.List.Elements.{All-head, All-tail}, specs.Prelude.⊤}
 use Rattle.mk_check.proofs.Vocabulary.{All, Answer, Blocks, Bool, Choice, Done, Fed, Item, Line, List, Op, Part, Rounds}
 use Rattle.mk_check.proofs.Vocabulary.{Scope, ScriptText, Some, ℕ, append_assoc, arith, blocks_from, branch, false}
 use Rattle.mk_check.proofs.Vocabulary.{fed_before_answers, fed_before_lines, feed, first_op, if◌then◌else◌}
@@ -7,7 +7,23 @@ use Rattle.mk_check.proofs.Vocabulary.{is_end_of_block, is_some, length, length_
 use Rattle.mk_check.proofs.Vocabulary.{outermost_blocks, parts_from, refl, run, script_of, script_scope, suc, sym}
 use Rattle.mk_check.proofs.Vocabulary.{take_answer, take_answers, true, with_answer, with_item, zero, [], ◌++◌, ◌+◌}
 use Rattle.mk_check.{proofs.Vocabulary.{◌==◌, ◌∙◌, ◌∷◌, ◌≡◌}, specs.Feed.{then_run}}
-use Rattle.mk_check.specs.{Blocks.{AllFrom, AllLines, AllPlaced, followed_by}, Feed.{number_in, run_line, run_rounds}}
+use Rattle.mk_check.specs.{Blocks.followed_by, Feed.{number_in, run_line, run_rounds}}
+
+-- P holds of each line's number and item
+abbrev pub AllPlaced : (ℕ → Item → Type 0) → Blocks → Type 0
+AllPlaced P Done = ⊤
+AllPlaced P (Line line item rest) = P line item × AllPlaced P rest
+AllPlaced P (Rounds rounds body rest) = AllPlaced P body × AllPlaced P rest
+AllPlaced P (Choice number first second rest) = AllPlaced P first × AllPlaced P second × AllPlaced P rest
+
+-- P holds of each line's item
+abbrev pub AllLines : (Item → Type 0) → Blocks → Type 0
+AllLines P blocks = AllPlaced (λ line. P) blocks
+
+-- P holds of each item and its line's number; the first item stands at this line
+abbrev pub AllFrom : (ℕ → Item → Type 0) → ℕ → List Item → Type 0
+AllFrom P line [] = ⊤
+AllFrom P line (item ∷ items) = P line item × AllFrom P (line + 1) items
 
 module _ (P : ℕ → Item → Type 0) where
   -- The blocks of a script.

@@ -1,9 +1,13 @@
 -- The parts of a script, with numbers for their names.
 use Rattle.std.proofs.Common.{slice_index_or}
-use Rattle.mk_check.proofs.Vocabulary.{Element, Item, List, Part, Scope, ℕ, ap, arith, blocks_from, drop, drop_more}
-use Rattle.mk_check.proofs.Vocabulary.{element_of, length, map, numbered, outermost_blocks, parts_from, refl, sym}
+use Rattle.mk_check.proofs.Vocabulary.{Element, Item, List, Part, Scope, ℕ, ap, arith, blocks_from, branch, drop}
+use Rattle.mk_check.proofs.Vocabulary.{drop_more, element_of, length, map, numbered, outermost_blocks, parts_from, refl, sym}
 use Rattle.mk_check.proofs.Vocabulary.{with_element, with_item, [], ◌+◌, ◌<◌, ◌∙◌, ◌∷◌, ◌≡◌}
-use Rattle.mk_check.specs.Building.{innermost_steps, part_of, parts_before, steps_before}
+use Rattle.mk_check.specs.Building.{StepPart, innermost_steps, parts_before, steps_before}
+
+-- an open block, with numbers for its names
+abbrev pub part_of : Scope → Part → StepPart
+part_of scope part = record { steps = numbered scope part.blocks; second = numbered scope (branch part.second) }
 
 part_of-with_item : (scope : Scope) (line : ℕ) (item : Item) (parts : List Part) → map (part_of scope)
     (with_item line item parts) ≡ with_element line (element_of scope item) (map (part_of scope) parts)

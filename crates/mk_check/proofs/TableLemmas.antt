@@ -3,7 +3,7 @@ use Rattle.std.proofs.Common.{bytes_eq-Decides, min, set, ◌≢◌}
 use Rattle.std.proofs.{lemmas.Bool.cases_eq, lemmas.List.{get_or-set_other, get_or-set_same}}
 use Rattle.mk_check.proofs.Vocabulary.{Bool, List, ap, arith, bytes_eq, cases_lt, drop, get_or, get_or_append_left}
 use Rattle.mk_check.proofs.Vocabulary.{get_or_at, if◌then◌else◌, length, length_push, number_of_name, refl, sym, ℕ}
-use Rattle.mk_check.proofs.Vocabulary.{⊎_elim, ◌++◌, ◌+◌, ◌<◌, ◌∙◌, ◌∷◌, ◌≡◌, ◌≤◌, [], suc, zero}
+use Rattle.mk_check.proofs.Vocabulary.{⊎_elim, ◌++◌, ◌+◌, ◌<◌, ◌∷◌, ◌≡◌, ◌≤◌, [], suc, zero}
 use Rattle.mk_check.specs.NameTables.{IsIndex, key_of}
 
 -- a name that none of the first is stands among the others

@@ -3,7 +3,8 @@ use Rattle.mk_check.proofs.Vocabulary.{At, Item, List, None, Some, ℕ, ap, appe
 use Rattle.mk_check.proofs.Vocabulary.{pointer_at, script_from, script_of, suc, sym, this_script, typing_fault, zero}
 use Rattle.mk_check.proofs.Vocabulary.{[], ◌++◌, ◌+◌, ◌∷◌, ◌≡◌}
 use Rattle.mk_check.proofs.{DeclaredPlaces.said_of-append, FaultLemmas.at_line-None, TypedLines.Says, TypedLines.says}
-use Rattle.mk_check.specs.{Blocks.AllFrom, Typing.IsWellTyped, Typing.declared_place}
+use Rattle.mk_check.proofs.LinesLeft.{AllFrom}
+use Rattle.mk_check.specs.Typing.{IsWellTyped, declared_place}
 use Rattle.mk_script.{proofs.Pushed.this_script-push, specs.declared.items.Item.TheVariants.Script}
 
 -- what is declared before stays declared with more lines

@@ -25,11 +25,11 @@ pub use Rattle.mk_check.specs.{Declarations.{number_of_name, pages_of, resident_
 pub use Rattle.mk_check.specs.Feed.{fed_before_answers, fed_before_lines, feed, note, op_of, refusal_line, refusal_text}
 pub use Rattle.mk_check.specs.Feed.{run, scope_of, take_answer, take_answers, with_answer}
 pub use Rattle.mk_check.specs.Feeding.{FeedStandsFor, FeedState, IsAtStop, IsFeed, IsWaiting, TakesAnswer, first_op}
-pub use Rattle.mk_check.specs.Feeding.{next_op, op_in, op_of_node, script_scope, work_left}
+pub use Rattle.mk_check.specs.Feeding.{next_op, script_scope, work_left}
 pub use Rattle.mk_check.specs.{Lookups.around, NamesInScope.HasFew, Spots.{asks_at, instruction_of_node}}
 pub use Rattle.mk_check.specs.{Spots.{sequel_to, sequels_of}, Steps.{KeptState, Steps, Stopped, after_answer}}
 pub use Rattle.mk_check.specs.Steps.{after_line, asks_first, element_of, instruction_of, is_asking, is_print, numbered}
-pub use Rattle.mk_check.specs.Steps.{op_asked, stop_behind, stop_of, stop_of_rounds, stop_on_answer, then_steps}
+pub use Rattle.mk_check.specs.Steps.{op_asked, stop_behind, stop_of, stop_of_rounds, then_steps}
 pub use Rattle.mk_check.specs.{Steps.with_text, Trees.{FrameIsWithin, FramesAreWithin, HasStopped, IsBelow, IsTree}}
 pub use Rattle.mk_check.specs.Trees.{MovesOn, Place, PlaceFits, PlaceIsWithin, StopsAt, depth_of, innermost, kept_in}
 pub use Rattle.mk_check.specs.Trees.{left_in, node_at, steps_at, steps_from, stopped_in, trees, with_kept, work_in}
@@ -39,3 +39,4 @@ pub use Rattle.mk_check.specs.declared.feeding.instructions.Element.{Element}
 pub use Rattle.mk_check.specs.{declared.feeding.instructions.Instruction.Instruction, declared.feeding.tree.Frame.Frame}
 pub use Rattle.mk_check.specs.{declared.feeding.tree.Node.Node, declared.feeding.tree.Sequel.Sequel}
 pub use Rattle.mk_check.specs.{declared.lengths.PartCount.PartCount, declared.typing_faults.TypeKind.TypeKind}
+pub use Rattle.mk_check.proofs.Asked.{op_in, op_of_node, stop_on_answer}

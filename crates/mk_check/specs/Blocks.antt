@@ -26,22 +26,6 @@ is_end_of_block (Line line item rest) = false
 is_end_of_block (Rounds rounds body rest) = false
 is_end_of_block (Choice number first second rest) = false
 
--- P holds of each line's number and item
-abbrev pub AllPlaced : (ℕ → Item → Type 0) → Blocks → Type 0
-AllPlaced P Done = ⊤
-AllPlaced P (Line line item rest) = P line item × AllPlaced P rest
-AllPlaced P (Rounds rounds body rest) = AllPlaced P body × AllPlaced P rest
-AllPlaced P (Choice number first second rest) = AllPlaced P first × AllPlaced P second × AllPlaced P rest
-
--- P holds of each line's item
-abbrev pub AllLines : (Item → Type 0) → Blocks → Type 0
-AllLines P blocks = AllPlaced (λ line. P) blocks
-
--- P holds of each item and its line's number; the first item stands at this line
-abbrev pub AllFrom : (ℕ → Item → Type 0) → ℕ → List Item → Type 0
-AllFrom P line [] = ⊤
-AllFrom P line (item ∷ items) = P line item × AllFrom P (line + 1) items
-
 -- A part of a script, read from its end: the blocks so far, and the second branch, where its `else` was read.
 pub record Part : Type 0 where
   pub blocks : Blocks

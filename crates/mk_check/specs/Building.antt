@@ -12,10 +12,6 @@ pub record StepPart : Type 0 where
   pub steps : Steps
   pub second : Steps
 
--- an open block, with numbers for its names
-abbrev pub part_of : Scope → blocks.Part → StepPart
-part_of scope part = record { steps = numbered scope part.blocks; second = numbered scope (branch part.second) }
-
 -- a line before the parts
 abbrev pub with_element : ℕ → Element → List StepPart → List StepPart
 with_element line (element.Line instruction) [] = []

@@ -4,10 +4,10 @@ use Rattle.std.specs.{Prelude.{slice_index, slice_set, ◌==◌, if◌then◌els
 use lib.Chars.{codes}
 use Rattle.mk_never.specs.declared.operations.Op.{Op}
 use Rattle.mk_core.specs.{declared.events.Answer.Answer, Decided.flagged}
-use Rattle.mk_script.specs.{declared.items.Item.Item, declared.items.Item.TheVariants.{Heap, TypeLine, Global, Script}}
-use Rattle.mk_script.specs.declared.items.Item.TheVariants.{Ptr, Num, New, Free, Getn, Setn, Getp, Setp, Casp, Lea}
+use Rattle.mk_script.specs.{declared.items.Item.Item, declared.items.Item.TheVariants.{Script}}
+use Rattle.mk_script.specs.declared.items.Item.TheVariants.{Num, New, Free, Getn, Setn, Getp, Setp, Casp, Lea}
 use Rattle.mk_script.specs.declared.items.Item.TheVariants.{Move, Clear, Loadg, Storeg, Same, Isnull, Show, Const, Add}
-use Rattle.mk_script.specs.declared.items.Item.TheVariants.{Sub, Print, Repeat, If, Else, End}
+use Rattle.mk_script.specs.declared.items.Item.TheVariants.{Sub, Print}
 use Rattle.mk_script.specs.Scopes.{type_names, global_names, pointer_names, number_names}
 use Rattle.mk_check.specs.{Declarations.number_of_name, Blocks.{Blocks, Done, Line, Rounds, Choice, followed_by}}
 use Rattle.mk_check.specs.Blocks.{is_end_of_block, blocks_from, ScriptText, script_of}
@@ -46,12 +46,6 @@ fed_with_number scope fed name value = record fed {
 
 -- the operation that an instruction asks for, if it is one on the heap, a register or a global
 abbrev pub op_of : Scope → Fed → Item → Option Op
-op_of scope fed (Heap pages resident) = None
-op_of scope fed (TypeLine name words) = None
-op_of scope fed (Global name ty) = None
-op_of scope fed (Script name) = None
-op_of scope fed (Ptr name at) = None
-op_of scope fed (Num name) = None
 op_of scope fed (New pointer ty) = Some (op.New (pointer_place scope pointer) (number_of_name ty scope.types) false)
 op_of scope fed (Free pointer) = Some (op.Free (pointer_place scope pointer))
 op_of scope fed (Getn number pointer index) = Some (op.GetNum (pointer_place scope pointer) index)
@@ -74,14 +68,7 @@ op_of scope fed (Storeg stored global) =
 op_of scope fed (Same number first second) = Some (op.Same (pointer_place scope first) (pointer_place scope second))
 op_of scope fed (Isnull number pointer) = Some (op.IsNull (pointer_place scope pointer))
 op_of scope fed (Show pointer) = Some (op.IsNull (pointer_place scope pointer))
-op_of scope fed (Const number value) = None
-op_of scope fed (Add number left right) = None
-op_of scope fed (Sub number left right) = None
-op_of scope fed (Print number) = None
-op_of scope fed (Repeat rounds) = None
-op_of scope fed (If number) = None
-op_of scope fed Else = None
-op_of scope fed End = None
+op_of scope fed _ = None
 
 -- the byte that ends a line
 abbrev pub newline : List ℕ
@@ -120,13 +107,11 @@ run scope (Choice number first second rest) fed =
 
 -- what is printed of an answer that refuses the instruction at this line
 abbrev pub refusal_text : Answer → List ℕ
-refusal_text answer.Done = []
-refusal_text (answer.Num n) = []
-refusal_text (answer.Word w) = []
 refusal_text answer.Full = codes "full"
 refusal_text answer.Fault = codes "fault"
 refusal_text answer.Null = codes "null"
 refusal_text answer.Double = codes "double"
+refusal_text _ = []
 
 -- whether it refuses it
 abbrev pub is_refusal : Answer → Bool

@@ -19,17 +19,6 @@ pub record IsAtStop (s : FeedState) : Type 0 where
   pub fits : PlaceFits s.nodes s.place
   pub stops : StopsAt (node_at s.nodes s.place.at) s.place
 
--- the operation that a node asks for
-abbrev pub op_of_node : List ℕ → Node → Option Op
-op_of_node numbers node.Done = None
-op_of_node numbers (node.Line line instruction next) = op_asked numbers instruction
-op_of_node numbers (node.Rounds rounds body next) = None
-op_of_node numbers (node.Choice number first second next) = None
-
--- the operation that it is at
-abbrev pub op_in : FeedState → Option Op
-op_in s = op_of_node s.place.numbers (node_at s.nodes s.place.at)
-
 -- no fewer than the operations that are left to ask for
 abbrev pub work_left : FeedState → ℕ
 work_left s = work_of (left_in s.nodes s.place)

@@ -133,11 +133,6 @@ pub record Stopped : Type 0 where
 
 -- the operation that an instruction asks for
 abbrev pub op_asked : List ℕ → Instruction → Option Op
-op_asked numbers Nothing = None
-op_asked numbers (Const number value) = None
-op_asked numbers (Add number left right) = None
-op_asked numbers (Sub number left right) = None
-op_asked numbers (Print number) = None
 op_asked numbers (New d ty) = Some (op.New d ty false)
 op_asked numbers (Free p) = Some (op.Free p)
 op_asked numbers (GetPtr d q i) = Some (op.GetPtr d q i)
@@ -153,6 +148,7 @@ op_asked numbers (CasPtr q p r number i) = Some (op.CasPtr q i p r)
 op_asked numbers (Same p q number) = Some (op.Same p q)
 op_asked numbers (IsNull p number) = Some (op.IsNull p)
 op_asked numbers (Show p) = Some (op.IsNull p)
+op_asked numbers _ = None
 
 -- the registers, with this number in one
 abbrev pub with_value : KeptState → ℕ → ℕ → KeptState
@@ -164,28 +160,13 @@ with_text kept text = record kept { text = kept.text ++ text }
 
 -- what another instruction does
 abbrev pub after_line : Instruction → KeptState → KeptState
-after_line Nothing kept = kept
 after_line (Const number value) kept = with_value kept number value
 after_line (Add number left right) kept =
     with_value kept number ((slice_index kept.numbers left + slice_index kept.numbers right) % 2 ^ 64)
 after_line (Sub number left right) kept =
     with_value kept number ((2 ^ 64 + slice_index kept.numbers left - slice_index kept.numbers right) % 2 ^ 64)
 after_line (Print number) kept = with_text kept (decimal (slice_index kept.numbers number) ++ newline)
-after_line (New d ty) kept = kept
-after_line (Free p) kept = kept
-after_line (GetPtr d q i) kept = kept
-after_line (SetPtr q i p) kept = kept
-after_line (Lea d q i) kept = kept
-after_line (Move d q) kept = kept
-after_line (Clear d) kept = kept
-after_line (GetGlobal d g) kept = kept
-after_line (SetGlobal g p) kept = kept
-after_line (SetNum q number i) kept = kept
-after_line (GetNum q number i) kept = kept
-after_line (CasPtr q p r number i) kept = kept
-after_line (Same p q number) kept = kept
-after_line (IsNull p number) kept = kept
-after_line (Show p) kept = kept
+after_line _ kept = kept
 
 -- what runs after a part that may have stopped at an operation
 abbrev pub stop_behind : Stopped → (KeptState → Stopped) → Steps → Stopped
@@ -234,26 +215,12 @@ asks_first (Choice number first second rest) = asks_first first && asks_first se
 
 -- the instruction takes its answer
 abbrev pub after_answer : Instruction → Answer → KeptState → KeptState
-after_answer Nothing a kept = kept
-after_answer (Const number value) a kept = kept
-after_answer (Add number left right) a kept = kept
-after_answer (Sub number left right) a kept = kept
-after_answer (Print number) a kept = kept
-after_answer (New d ty) a kept = kept
-after_answer (Free p) a kept = kept
-after_answer (GetPtr d q i) a kept = kept
-after_answer (SetPtr q i p) a kept = kept
-after_answer (Lea d q i) a kept = kept
-after_answer (Move d q) a kept = kept
-after_answer (Clear d) a kept = kept
-after_answer (GetGlobal d g) a kept = kept
-after_answer (SetGlobal g p) a kept = kept
-after_answer (SetNum q number i) a kept = kept
 after_answer (GetNum q number i) a kept = with_value kept number (answered_number a)
 after_answer (CasPtr q p r number i) a kept = with_value kept number (answered_number a)
 after_answer (Same p q number) a kept = with_value kept number (answered_number a)
 after_answer (IsNull p number) a kept = with_value kept number (answered_number a)
 after_answer (Show p) a kept = with_text kept (show_text (answered_number a))
+after_answer _ a kept = kept
 
 -- the number register that keeps the answer
 abbrev pub keeping_register : Instruction → Option ℕ
@@ -271,11 +238,3 @@ is_show instruction = false
 -- The instruction prints nothing when it takes this answer.
 abbrev pub is_silent : Instruction → Answer → Bool
 is_silent instruction a = not (is_refusal a) && not (is_show instruction)
-
--- where the steps stop that begin with an instruction which is answered
-abbrev pub stop_on_answer : Steps → Answer → KeptState → Stopped
-stop_on_answer Done a kept = record { left = Done; kept = kept }
-stop_on_answer (Line line instruction rest) a kept =
-    stop_of rest (after_answer instruction a (with_text kept (refusal_line line (refusal_text a))))
-stop_on_answer (Rounds rounds body rest) a kept = record { left = Rounds rounds body rest; kept = kept }
-stop_on_answer (Choice number first second rest) a kept = record { left = Choice number first second rest; kept = kept }

@@ -4,10 +4,10 @@ use Rattle.std.specs.Prelude.{[], ◌∷◌, ◌++◌, Option, Some, None, is_so
 use Rattle.std.specs.{List.{filter_map, list_any}, Option.option_or, Str.bytes_eq}
 use Rattle.mk_script.specs.{declared.items.At.At, declared.items.TypeWord.TypeWord}
 use Rattle.mk_script.specs.{declared.items.TypeWord.TheVariants.{Number, Pointer}, declared.items.Item.Item}
-use Rattle.mk_script.specs.declared.items.Item.TheVariants.{Heap, TypeLine, Global, Script, Ptr, Num, New, Free, Getn}
+use Rattle.mk_script.specs.declared.items.Item.TheVariants.{TypeLine, Global, Script, Ptr, New, Free, Getn}
 use Rattle.mk_script.specs.declared.items.Item.TheVariants.{Setn, Getp, Setp, Casp, Lea, Move, Clear, Loadg, Storeg}
-use Rattle.mk_script.specs.declared.items.Item.TheVariants.{Same, Isnull, Show, Const, Add, Sub, Print, Repeat, If}
-use Rattle.mk_script.specs.{declared.items.Item.TheVariants.{Else, End}, Scopes.{this_script, number_names}}
+use Rattle.mk_script.specs.declared.items.Item.TheVariants.{Same, Isnull, Show, Const, Add, Sub, Print, If}
+use Rattle.mk_script.specs.Scopes.{this_script, number_names}
 use Rattle.mk_check.specs.{declared.typing_faults.TypeKind.TypeKind, declared.typing_faults.TypeStop.TypeStop}
 use Rattle.mk_check.specs.{Blocks.before_next_script, Declarations.{declared_type, declared_words}}
 use Rattle.mk_check.specs.Lengths.{script_length}
@@ -153,13 +153,11 @@ pointer_word_fault a pointer index register =
 -- What is wrong with a line that stands after these of its script, and before those after it: the names from left to
 -- right, then offsets, then kinds, then an interior pointer that is freed.
 abbrev pub typing_fault : Around → ℕ → List Item → Item → Option TypeKind
-typing_fault a line behind (Heap pages resident) = None
 typing_fault a line behind (TypeLine name words) = pointers_fault a words or offsets_fault a words
 typing_fault a line behind (Global name ty) = type_fault a ty
 typing_fault a line behind (Script name) =
     length_fault (script_length (record { name = name; line = line + 1; items = before_next_script behind }))
 typing_fault a line behind (Ptr name at) = type_fault a at.name or inside_fault a (Some at)
-typing_fault a line behind (Num name) = None
 typing_fault a line behind (New pointer ty) =
     pointer_fault a pointer or type_fault a ty or kind_fault (pointer_at pointer a.script) (Some (base_of ty))
 typing_fault a line behind (Free pointer) =
@@ -201,10 +199,8 @@ typing_fault a line behind (Add number left right) =
 typing_fault a line behind (Sub number left right) =
     number_fault a number or number_fault a left or number_fault a right
 typing_fault a line behind (Print number) = number_fault a number
-typing_fault a line behind (Repeat rounds) = None
 typing_fault a line behind (If number) = number_fault a number
-typing_fault a line behind Else = None
-typing_fault a line behind End = None
+typing_fault a line behind _ = None
 
 -- an ill-typed line
 pub record TypingFault : Type 0 where
