@@ -1,6 +1,7 @@
 -- What lines declare, with one line more.
 use Rattle.std.proofs.{Common.IfOk, lemmas.List.Elements.filter_map-append}
 use Rattle.std.specs.{Borrow.Bor, List.filter_map}
+use Rattle.mk_check.proofs.Vocabulary.{Err, Ok, OnOk, Result}
 use Rattle.mk_check.proofs.Vocabulary.{At, Item, List, None, Option, TypeWord, ap, arith, map, map-append}
 use Rattle.mk_check.proofs.Vocabulary.{refl, sym, ℕ, [], ◌++◌, ◌∙◌, ◌∷◌, ◌≡◌}
 use Rattle.mk_check.proofs.DeclaredPlaces.{declares_nothing}
@@ -10,6 +11,10 @@ use Rattle.mk_check.specs.{Lookups.{AreDeclared, AreRegisters, declared_for}, Ty
 use Rattle.mk_script.proofs.Pushed.{names_of-append}
 use Rattle.mk_script.specs.{declared.items.Item.TheVariants.{Global, Num, Ptr, TypeLine}, Scopes.declared_name}
 use Rattle.mk_script.specs.declared.sorts.Sort.{Sort}
+
+pub OnOk-map : {T E P Q : Type 0} (r : Result T E) → (P → Q) → OnOk r P → OnOk r Q
+OnOk-map (Ok x) f p = f p
+OnOk-map (Err e) f p = p
 
 module _ {X : Type 0} (says : Item → Option (List ℕ × X)) (lines : List Item) (item : Item) where
   said_more : declared_for says (lines ++ item ∷ []) ≡ declared_for says lines ++ declared_for says (item ∷ [])

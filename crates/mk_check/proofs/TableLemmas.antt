@@ -1,16 +1,21 @@
 -- Names that are found by a key.
-use Rattle.std.proofs.Common.{bytes_eq-Decides, min, set, ◌≢◌}
+use Rattle.std.proofs.Common.{min, set, ◌≢◌}
 use Rattle.std.proofs.{lemmas.Bool.cases_eq, lemmas.List.{get_or-set_other, get_or-set_same}}
-use Rattle.mk_check.proofs.Vocabulary.{Bool, List, ap, arith, bytes_eq, cases_lt, drop, get_or, get_or_append_left}
+use Rattle.mk_check.proofs.Vocabulary.{Bool, List, ap, arith, bytes_eq, bytes_eq-Decides, cases_lt, drop, drop_more}
+use Rattle.mk_check.proofs.Vocabulary.{false, get_or, get_or_append_left, subst, true, ◌∙◌}
 use Rattle.mk_check.proofs.Vocabulary.{get_or_at, if◌then◌else◌, length, length_push, number_of_name, refl, sym, ℕ}
 use Rattle.mk_check.proofs.Vocabulary.{⊎_elim, ◌++◌, ◌+◌, ◌<◌, ◌∷◌, ◌≡◌, ◌≤◌, [], suc, zero}
-use Rattle.mk_check.specs.NameTables.{IsIndex, key_of}
+use Rattle.mk_check.specs.{NameTables.{IsIndex, key_of}, NamesInScope.referred_names}
+use Rattle.std.specs.Borrow.{Bor}
+
+none_before : (n : ℕ) → 0 + n ≡ n
+none_before n = omega arith
 
 -- a name that none of the first is stands among the others
 pub skipped : (name : List ℕ) (names : List (List ℕ)) (start : ℕ) → start ≤ length names
     → ((k : ℕ) → k < start → get_or names k [] ≢ name)
     → start + number_of_name name (drop start names) ≡ number_of_name name names
-skipped name names zero h others = refl
+skipped name names zero h others = none_before (number_of_name name names)
 skipped name [] (suc start) h others = absurd (omega arith)
 skipped name (other ∷ names) (suc start) h others =
     by_test (bytes_eq name other) refl (skipped name names start (omega arith) (λ k below. others (suc k) (omega arith)))
@@ -45,9 +50,47 @@ pub index-added : (starts : List ℕ) (names : List (List ℕ)) (name : List ℕ
     → key ≡ key_of name → key < length starts → place ≡ length names
     → IsIndex (set starts key (min (get_or starts key 0) place)) (names ++ name ∷ [])
 index-added starts names name key place index is within at i h =
-    ⊎_elim (λ (below : i < length names). rw (get_or_append_left names (name ∷ []) i [] below)
+    let now = set starts key (min (get_or starts key 0) place) in
+    ⊎_elim (λ (below : i < length names).
+    subst (λ (n : List ℕ). get_or now (key_of n) 0 ≤ i) (sym (get_or_append_left names (name ∷ []) [] i below))
     (lower starts key place (key_of (get_or names i [])) i within (index i below)))
     (λ (last : length names ≤ i).
     let here : length names ≡ i = omega (arith, length_push names name) in
-    rw (get_or_at names name [] [] i here, ← is) (omega (arith, lowest starts key place within)))
+    let least : get_or now key 0 ≤ i = omega (arith, lowest starts key place within) in
+    subst (λ (n : List ℕ). get_or now (key_of n) 0 ≤ i) (sym (get_or_at names name [] [] i here))
+    (subst (λ (k : ℕ). get_or now k 0 ≤ i) is least))
     (cases_lt i (length names))
+
+-- the name at a place of a list of references
+pub name_at : (names : List (Bor (List ℕ))) (place : ℕ) (name : Bor (List ℕ)) → place < length names
+    → name ≡ get_or names place name → get_or (referred_names names) place [] ≡ name.now
+name_at [] place name within is = absurd (omega arith)
+name_at (first ∷ names) zero name within is = ap (λ (n : Bor (List ℕ)). n.now) (sym is)
+name_at (first ∷ names) (suc place) name within is = name_at names place name (omega arith) is
+
+-- the test of a name with the one at a place
+pub test_at : (names : List (Bor (List ℕ))) (seen : List (List ℕ)) (place : ℕ) (one : Bor (List ℕ)) (name : List ℕ)
+    → referred_names names ≡ seen → place < length names → one ≡ get_or names place one
+    → bytes_eq name (get_or seen place []) ≡ bytes_eq name one.now
+test_at names seen place one name is within here =
+    ap (λ (ns : List (List ℕ)). bytes_eq name (get_or ns place [])) (sym is)
+    ∙ ap (bytes_eq name) (name_at names place one within here)
+
+-- a name that stands at a place, where none before it is it
+pub found : (name : List ℕ) (names : List (List ℕ)) (place : ℕ) → place < length names
+    → bytes_eq name (get_or names place []) ≡ true
+    → place + number_of_name name (drop place names) ≡ number_of_name name names → place ≡ number_of_name name names
+found name names place within same whole =
+    let here : number_of_name name (drop place names) ≡ 0 =
+    ap (number_of_name name) (drop_more names place [] within) ∙ rw same refl in
+    omega (arith, here, whole)
+
+-- one that doesn't stand there
+pub missed : (name : List ℕ) (names : List (List ℕ)) (place : ℕ) → place < length names
+    → bytes_eq name (get_or names place []) ≡ false
+    → place + number_of_name name (drop place names) ≡ number_of_name name names
+    → (place + 1) + number_of_name name (drop (place + 1) names) ≡ number_of_name name names
+missed name names place within other whole =
+    let here : number_of_name name (drop place names) ≡ number_of_name name (drop (place + 1) names) + 1 =
+    ap (number_of_name name) (drop_more names place [] within) ∙ rw other refl in
+    omega (arith, here, whole)

@@ -1,4 +1,4 @@
-use Rattle.mk_check.proofs.Vocabulary.{drop, length, number_of_name, ◌+◌, ◌×◌, ◌≡◌, ◌≤◌}
+use Rattle.mk_check.proofs.Vocabulary.{drop, length, number_of_name, ◌+◌, ◌≡◌, ◌≤◌}
 use Rattle.mk_check.proofs.name_table.NameTable.number_of.Given as goal
 
 -- no name before this place is it
