@@ -19,9 +19,8 @@ IsSound n (Ptr number ty offset) =
 
 -- It is a number.
 abbrev pub IsNum : Value → Type 0
-IsNum Null = ⊥
 IsNum (Num m) = Unit {0}
-IsNum (Ptr number ty offset) = ⊥
+IsNum _ = ⊥
 
 -- what a word of the kind holds: a number, or a sound pointer of the kind's type and offset
 abbrev pub Suits : NeverState → Value → Kind → Type 0
