@@ -6,8 +6,7 @@ use Rattle.mk_never.specs.{declared.values.Value.TheVariants.{Null, Num, Ptr}, d
 use Rattle.mk_never.specs.declared.operations.Op.TheVariants.{New, Free, GetNum, SetNum, GetPtr, SetPtr, CasPtr, Lea}
 use Rattle.mk_never.specs.declared.operations.Op.TheVariants.{Move, Clear, GetGlobal, SetGlobal, Same, IsNull}
 use Rattle.mk_never.specs.{Types.{kinds_of, is_number}, NeverHeap.{NeverState, Call, register_at, allocation_at}}
-use Rattle.mk_never.specs.NeverHeap.{words_of, after_op}
-use Rattle.mk_never.specs.declared.types.Kind.TheVariants.{Num as Number, To}
+use Rattle.mk_never.specs.{NeverHeap.{words_of, after_op}, declared.types.Kind.TheVariants.{Num as Number, To}}
 
 -- The operation's registers, global and type are in range.
 abbrev pub OperandsAreInRange : NeverState → Op → Type 0

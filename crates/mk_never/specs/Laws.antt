@@ -2,11 +2,11 @@
 use Rattle.std.specs.Prelude.{◌≡◌, ◌≢◌, ◌↔◌, ℕ, ◌+◌, ◌<◌, ◌≤◌, List, [], ◌∷◌, ◌++◌, length, false, IsTrue}
 use Rattle.mk_never.specs.{declared.values.Value.Value, declared.values.Value.TheVariants.{Null, Num, Ptr}}
 use Rattle.mk_never.specs.{declared.values.Target.TheVariants.WordOf, declared.operations.Op.Op}
-use Rattle.mk_never.specs.declared.operations.Op.TheVariants.{New, GetNum, SetNum, GetPtr, SetPtr, CasPtr, Lea}
-use Rattle.mk_never.specs.declared.operations.Op.TheVariants.{Move, Clear, GetGlobal, Same}
-use Rattle.mk_never.specs.{Types.{kinds_of, zero_words}, NeverHeap.{NeverState, Call, register_at, allocation_at}}
-use Rattle.mk_never.specs.NeverHeap.{words_of, word_at, target_of, number_of, reply_of, after_op, after_calls}
-use Rattle.mk_never.specs.{NeverHeap.replies_of, Admitted.{IsCaller, AccessIsAdmitted, AreAdmitted}}
+use Rattle.mk_never.specs.declared.operations.Op.TheVariants.{New, GetNum, SetNum, GetPtr, SetPtr, CasPtr, Lea, Move}
+use Rattle.mk_never.specs.{declared.operations.Op.TheVariants.{Clear, GetGlobal, Same}, Types.{kinds_of, zero_words}}
+use Rattle.mk_never.specs.NeverHeap.{NeverState, Call, register_at, allocation_at, words_of, word_at, target_of}
+use Rattle.mk_never.specs.NeverHeap.{number_of, reply_of, after_op, after_calls, replies_of}
+use Rattle.mk_never.specs.Admitted.{IsCaller, AccessIsAdmitted, AreAdmitted}
 use Rattle.mk_never.specs.declared.operations.Reply.TheVariants.{Num as Number, Val}
 
 -- Each allocation of n is in m, with its type and its number of words, and what is freed in n is freed in m. m has the

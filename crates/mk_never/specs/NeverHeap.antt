@@ -6,9 +6,9 @@ use Rattle.mk_never.specs.{declared.values.Value.TheVariants.{Null, Num, Ptr}, d
 use Rattle.mk_never.specs.{declared.values.Target.TheVariants.{Nothing, Unmapped, WordOf}, declared.operations.Op.Op}
 use Rattle.mk_never.specs.declared.operations.Op.TheVariants.{New, Free, GetNum, SetNum, GetPtr, SetPtr, CasPtr, Lea}
 use Rattle.mk_never.specs.declared.operations.Op.TheVariants.{Move, Clear, GetGlobal, SetGlobal, Same, IsNull}
-use Rattle.mk_never.specs.{declared.operations.Reply.Reply, declared.operations.Reply.TheVariants.Double}
+use Rattle.mk_never.specs.{declared.operations.Reply.Reply, declared.operations.Reply.TheVariants.{Double, Done}}
+use Rattle.mk_never.specs.declared.operations.Reply.TheVariants.{Num as Number, Val, Full, Fault, Null as WasNull}
 use Rattle.mk_never.specs.Types.{kinds_of, is_large, zero_words}
-use Rattle.mk_never.specs.declared.operations.Reply.TheVariants.{Done, Num as Number, Val, Full, Fault, Null as WasNull}
 
 -- an allocation: the type that it was made for, its words, and whether it was freed
 pub record Allocation : Type 0 where
