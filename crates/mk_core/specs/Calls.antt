@@ -68,19 +68,7 @@ i_of _ = 0
 -- the type of a New exists
 abbrev pub has_type : Config → Op → Bool
 has_type c (op.New d ty full) = nat_lt ty (length c.types)
-has_type c (op.Free p) = true
-has_type c (op.GetNum q i) = true
-has_type c (op.SetNum q i n) = true
-has_type c (op.GetPtr d q i) = true
-has_type c (op.SetPtr q i p) = true
-has_type c (op.CasPtr q i p r) = true
-has_type c (op.Lea d q i) = true
-has_type c (op.Move d q) = true
-has_type c (op.Clear d) = true
-has_type c (op.GetGlobal d g) = true
-has_type c (op.SetGlobal g p) = true
-has_type c (op.Same p q) = true
-has_type c (op.IsNull p) = true
+has_type c _ = true
 
 -- the registers, the global and the type of an operation are there
 abbrev pub has_operands : Config → Op → Bool

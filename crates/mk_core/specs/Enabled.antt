@@ -21,39 +21,7 @@ marker_may c x step.Mload = may_mload x
 marker_may c x step.Mmark = may_mmark c x
 marker_may c x step.Mblack = may_mblack x
 -- all other kinds, which are no marker's
-marker_may c x (step.Enter o) = true
-marker_may c x step.Leave = true
-marker_may c x step.Reg = true
-marker_may c x step.Probe = true
-marker_may c x step.Read = true
-marker_may c x step.Write = true
-marker_may c x step.Cas = true
-marker_may c x step.Getg = true
-marker_may c x step.Setg = true
-marker_may c x (step.Take o) = true
-marker_may c x step.Give = true
-marker_may c x (step.Look y) = true
-marker_may c x (step.Head p v) = true
-marker_may c x (step.Used p v) = true
-marker_may c x (step.Quar p v) = true
-marker_may c x step.Grant = true
-marker_may c x (step.Tally n v) = true
-marker_may c x (step.Hold j) = true
-marker_may c x (step.Open j) = true
-marker_may c x (step.Clear p) = true
-marker_may c x (step.Mark p v) = true
-marker_may c x (step.Wipe n) = true
-marker_may c x step.Full = true
-marker_may c x step.Begin = true
-marker_may c x step.Close = true
-marker_may c x step.Release = true
-marker_may c x step.End = true
-marker_may c x step.Want = true
-marker_may c x step.Dirty = true
-marker_may c x (step.Undirty p) = true
-marker_may c x (step.Black p v) = true
-marker_may c x (step.Unblack p) = true
-marker_may c x step.Over = true
+marker_may c x _ = true
 
 -- condition 7 for the kinds of the turn's holder, if its call is f
 abbrev pub holder_may : Config → Moment → Flight → Step → Bool
@@ -75,30 +43,7 @@ holder_may c m f (step.Black p v) = may_black c m p v
 holder_may c m f (step.Unblack p) = may_unblack m
 holder_may c m f step.Over = may_end_all c m
 -- kinds that ask no more than conditions 1 to 6, and those of callers and markers
-holder_may c m f (step.Enter o) = true
-holder_may c m f step.Leave = true
-holder_may c m f step.Reg = true
-holder_may c m f step.Probe = true
-holder_may c m f step.Read = true
-holder_may c m f step.Write = true
-holder_may c m f step.Cas = true
-holder_may c m f step.Getg = true
-holder_may c m f step.Setg = true
-holder_may c m f (step.Take o) = true
-holder_may c m f (step.Look x) = true
-holder_may c m f (step.Tally n v) = true
-holder_may c m f (step.Hold j) = true
-holder_may c m f (step.Clear p) = true
-holder_may c m f step.Release = true
-holder_may c m f step.Want = true
-holder_may c m f step.Dirty = true
-holder_may c m f step.Attend = true
-holder_may c m f step.Quit = true
-holder_may c m f (step.Mlook x) = true
-holder_may c m f (step.Claim p k) = true
-holder_may c m f step.Mload = true
-holder_may c m f step.Mmark = true
-holder_may c m f step.Mblack = true
+holder_may c m f _ = true
 
 -- condition 7: each of the two is true of the other's kinds
 abbrev pub meets_own : Config → Moment → Seat → Step → Bool

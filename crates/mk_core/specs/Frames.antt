@@ -9,7 +9,7 @@ use Rattle.mk_core.specs.{declared.seats.Flight.Flight, Bits.has_bit, Config.IsW
 use Rattle.mk_core.specs.{Words.{register_word, header_at, phase_of}, Cells.{header_in, is_unmapped_header}}
 use Rattle.mk_core.specs.{Cells.points_well, Moments.{Moment, flight_of, marker_of, marker_at, others_are_held}}
 use Rattle.mk_core.specs.{StopConditions.is_attending, Allocations.{PlacedAllocation, placed_at, is_mapped, storage_of}}
-use Rattle.mk_core.specs.{History.{World, left, AreEnabled, never_behind, IsHistory}, Counts.{ends, full_answers}}
+use Rattle.mk_core.specs.{History.{World, left, never_behind, IsHistory}, Counts.{ends, full_answers}}
 use Rattle.mk_core.specs.{Growing.AreOfOthers, Readings.{is_in_call, Holds, is_in, NoneAttends}}
 
 -- what a seat is in the middle of
@@ -142,13 +142,6 @@ pub record IsLeft (c : Config) (s : Seat) (es fs : List Event) : Type 0 where
   pub stop : HoldsAll c (left c es).now s → written_of (left c fs) ≡ written_of (left c es)
   pub scan : Attends (left c es).now s → ScanIsLeft (left c es) (left c fs)
   pub visit : IsIn (left c es).now s → 1 ≤ (left c fs).now.words.phase / 8
-
--- What other seats leave to a seat, in each enabled list.
-abbrev pub OthersLeave : Type 0
-OthersLeave =
-    (c : Config) (es more : List Event) (s : Seat) → IsWithinLimits c → AreEnabled c (es ++ more)
-    → AreOfOthers (s ∷ []) more
-    → IsLeft c s es (es ++ more)
 
 -- What also needs admitted calls. The allocations to which a caller's registers lead stay unreleased while it is in a
 -- call, and mapped if they are.

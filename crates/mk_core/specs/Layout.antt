@@ -43,12 +43,6 @@ count_of_words pages = 656 + 77 * pages
 
 -- the name is one of a table of this many pages
 abbrev pub NamesWord : ℕ → Word → Type 0
-NamesWord pages word.Phase = ⊤
-NamesWord pages word.Held = ⊤
-NamesWord pages word.Fresh = ⊤
-NamesWord pages word.Cycles = ⊤
-NamesWord pages word.Released = ⊤
-NamesWord pages word.Full = ⊤
 NamesWord pages (word.Gate caller) = caller < 16
 NamesWord pages (word.Reg caller r) = (caller < 16) × (r < 8)
 NamesWord pages (word.Global g) = g < 64
@@ -59,6 +53,8 @@ NamesWord pages (word.Mark p) = p < pages
 NamesWord pages (word.Black p) = p < pages
 NamesWord pages (word.Dirty p) = p < pages
 NamesWord pages (word.Heap n) = n < 64 * pages
+-- words that there is one of
+NamesWord pages _ = ⊤
 
 -- The table has this word.
 abbrev pub IsOfTable : ℕ → TableWord → Type 0

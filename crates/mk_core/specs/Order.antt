@@ -27,28 +27,6 @@ group_of step.Cas = group.Callers
 group_of step.Getg = group.Callers
 group_of step.Setg = group.Callers
 group_of step.Dirty = group.Callers
-group_of (step.Take o) = group.Turn
-group_of step.Give = group.Turn
-group_of (step.Look x) = group.Turn
-group_of (step.Head p v) = group.Turn
-group_of (step.Used p v) = group.Turn
-group_of (step.Quar p v) = group.Turn
-group_of step.Grant = group.Turn
-group_of (step.Tally n v) = group.Turn
-group_of (step.Hold j) = group.Turn
-group_of (step.Open j) = group.Turn
-group_of (step.Clear p) = group.Turn
-group_of (step.Mark p v) = group.Turn
-group_of (step.Wipe n) = group.Turn
-group_of step.Full = group.Turn
-group_of step.Begin = group.Turn
-group_of step.Close = group.Turn
-group_of step.Release = group.Turn
-group_of step.End = group.Turn
-group_of step.Want = group.Turn
-group_of (step.Undirty p) = group.Turn
-group_of (step.Black p v) = group.Turn
-group_of (step.Unblack p) = group.Turn
 group_of step.Attend = group.Markers
 group_of step.Quit = group.Markers
 group_of (step.Mlook x) = group.Markers
@@ -57,6 +35,8 @@ group_of step.Mload = group.Markers
 group_of step.Mmark = group.Markers
 group_of step.Mblack = group.Markers
 group_of step.Over = group.Host
+-- all others are steps of the turn's holder
+group_of _ = group.Turn
 
 -- condition 2: the seat has steps of this group
 abbrev pub is_open_to : Seat → Group → Bool
