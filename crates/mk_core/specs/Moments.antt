@@ -1,11 +1,10 @@
 -- A moment: the words of the table, and what each seat is in the middle of. It decides which event may come next.
 use Rattle.std.specs.Prelude.{ℕ, Bool, false, ◌||◌, not, ◌==◌, List, replicate, slice_index, slice_index_or, None}
-use Rattle.mk_core.specs.{declared.config.Config.Config, declared.events.Seat.Seat}
-use Rattle.mk_core.specs.{declared.events.Seat.TheVariants.{Caller, Marker}, declared.seats.Flight.Flight}
+use Rattle.mk_core.specs.{Words.{Words, zero_words_of, phase_of}, declared.events.Seat.TheVariants.{Caller, Marker}}
+use Rattle.mk_core.specs.{declared.config.Config.Config, declared.events.Seat.Seat, declared.seats.Flight.Flight}
 use Rattle.mk_core.specs.{declared.seats.Holding.Holding, declared.seats.Placing.TheVariants.Unplaced}
 use Rattle.mk_core.specs.{declared.seats.OwnCycle.TheVariants.NotBegun, declared.seats.Presence.TheVariants.Out}
-use Rattle.mk_core.specs.{Words.{Words, zero_words_of, phase_of}, Calls.at_rest, Bounded.all_below}
-use Rattle.mk_core.specs.declared.seats.Marker.{Marker as MarkerState}
+use Rattle.mk_core.specs.{Calls.at_rest, Bounded.all_below, declared.seats.Marker.Marker as MarkerState}
 
 -- each caller's call, what the turn's holder has done, and the markers
 pub record Seats : Type 0 where

@@ -1,6 +1,6 @@
 -- What a look at a word of the table says: the reading laws.
-use Rattle.std.specs.Prelude.{◌≡◌, ◌≢◌, ℕ, ◌+◌, ◌-◌, ◌<◌, ◌≤◌, Bool, true, false, not, ◌&&◌, ◌||◌, List}
-use Rattle.std.specs.{Prelude.{Some}, List.list_any}
+use Rattle.std.specs.Prelude.{◌≡◌, ◌≢◌, ℕ, ◌+◌, ◌-◌, ◌<◌, ◌≤◌, Bool, true, false, not, ◌&&◌, ◌||◌, List, Some}
+use Rattle.std.specs.List.{list_any}
 use Rattle.mk_geom.specs.{declared.headers.Header.TheVariants.Later, Headers.IsHeaderWord, declared.addresses.Cell.Cell}
 use Rattle.mk_core.specs.{declared.config.Config.Config, declared.events.Seat.Seat, Counts.{IsTidy, TalliesAreExact}}
 use Rattle.mk_core.specs.{Counts.TalliesAreTidy, declared.events.Seat.TheVariants.{Caller, Marker, Host}}
@@ -9,22 +9,19 @@ use Rattle.mk_core.specs.{declared.seats.RunPages.RunPages, Words.{header_at, ph
 use Rattle.mk_core.specs.Cells.{header_in, cells_under, run_headed, is_freed, is_in_snapshot}
 use Rattle.mk_core.specs.{Moments.{Moment, flight_of, marker_of}, StopConditions.is_attending, MarkerConditions.is_out}
 use Rattle.mk_core.specs.{Allocations.{placed_at, stands_in, cell_of_allocation}, History.{World, left}}
-use Rattle.mk_core.specs.{HeldGates.is_gate_held, Cycles.{is_begin, is_release, At, is_quarantined}}
-use Rattle.mk_core.specs.declared.seats.Stage.TheVariants as stage
+use Rattle.mk_core.specs.Cycles.{is_begin, is_release, At, is_quarantined}
 use Rattle.mk_core.specs.declared.seats.Marker.{Marker as MarkerState}
-
--- what a caller is in: no call, a call between `enter` and `leave`, or one between `take` and `give`
 
 -- between two calls
 abbrev pub is_idle : Stage → Bool
-is_idle stage.Idle = true
+is_idle Stage.Idle = true
 is_idle _ = false
 
--- in a call that needs no turn
+-- in a call that needs no turn, between `enter` and `leave`
 abbrev pub is_in_call : Flight → Bool
 is_in_call f = not (is_idle f.stage) && not (is_under_turn f.op)
 
--- in a New or a Free
+-- in a New or a Free, between `take` and `give`
 abbrev pub is_in_turn : Flight → Bool
 is_in_turn f = not (is_idle f.stage) && is_under_turn f.op
 
