@@ -1,5 +1,5 @@
 -- What a page map knows after header words of a run were stored together, and that it fits then.
-use Rattle.std.proofs.Common.{drop, le-leb, le-ltb, lt-ltb, nat_le, ne_eqb, take, take_at, ◌&&◌, ◌*◌, ◌++◌, ◌-◌, ◌||◌}
+use Rattle.std.proofs.Common.{drop, le-leb, le-ltb, lt-ltb, nat_le, ne_eqb, take_at, ◌&&◌, ◌*◌, ◌-◌, ◌||◌}
 use Rattle.std.proofs.lemmas.Bool.{and_left, and_right, lt-leb}
 use Rattle.mk_books.proofs.Vocabulary.{AreSets, Bool, FitPages, IsInItsSets, KnownPages, List, Page, PageUse, PartOfRun}
 use Rattle.mk_books.proofs.Vocabulary.{ap, arith, cases_eq, cond, false, inl, inr, is_free_page, nat_lt, cases_lt}
@@ -8,7 +8,7 @@ use Rattle.mk_books.proofs.Vocabulary.{is_resident_page, length, nat_eq, not, pa
 use Rattle.mk_books.proofs.{Vocabulary.{true, use_of_page, uses_of_pages, ℕ, ◌+◌, ◌<◌, ◌∙◌, ◌≡◌, ◌≤◌}}
 use Rattle.mk_books.proofs.{BlockSets.{each_set, of_block_set}}
 use Rattle.mk_books.proofs.{RunPages.{in_range, length-with_headers, page_inside, page_outside, resident_range}}
-use Rattle.mk_books.proofs.{Showing.{known_by, member_at, member_of_freed}, Uncleaned.{uncleaned_alike, uncleaned_at}}
+use Rattle.mk_books.proofs.{Showing.{known_by, member_at, member_of_freed, sets_written, written_in}, Uncleaned.{uncleaned_alike, uncleaned_at}}
 use Rattle.mk_books.{proofs.MovedPages.{no_teller, placed}, specs.PageSets.{MovesPages, is_between, tells_free}}
 use Rattle.mk_books.specs.Runs.{AreBare, HeadersSay, RunIsTold, StandsOn, with_headers}
 use Rattle.mk_geom.specs.{Headers.header_of, PageWords.use_under}
@@ -83,10 +83,6 @@ pub record MapIsTold (known : KnownPages) (first count : ℕ) (headers : ℕ →
   pub fits : FitPages pages sets resident
   pub told : RunIsTold known first count headers (known_by pages sets)
 
--- what a Vec holds after a write through its slice
-abbrev pub written_in : {A : Type 0} → List A → List A → ℕ → List A
-written_in new old n = take n (new ++ drop (length new) old)
-
 -- The header words were stored through the slice of the map's pages. What was asked of the pages that the map knows
 -- holds of those that it has.
 pub map_told : (P : List Page → Type 0) {known : KnownPages} {held slice new : List Page} {sets after vec : List ℕ}
@@ -122,17 +118,14 @@ pub moved_map_told : (P : List Page → Type 0) {known : KnownPages} {held slice
     → P known.pages → (P held → first + count ≤ length held → MovesPages sets after (is_between first (first + count))
     free → StoresRun held sets after now first count headers stands)
     → MapIsTold known first count headers (written_in new held len) (written_in after sets size) now
-moved_map_told P {known} {held} {sets = sets} {after = after} {size = size} {first = first} {count = count} headers
-    stands {free} view fit long seen_pages stored size_is seen moves within some before stores =
+moved_map_told P {known} {held} {sets = sets} {after = after} {first = first} {count = count} headers stands {free} view
+    fit long seen_pages stored size_is seen moves within some before stores =
     let inside : first + count ≤ length held =
     omega (arith, within, ap (λ (k : KnownPages). length k.pages) view) in
-    map_told P headers stands view fit long seen_pages stored (take_at after (drop (length after) sets) size (omega (
-      arith,
-      size_is,
-      moves.are_sets.long,
-      (fit.are_sets (omega (arith, inside, some))).long,
-    ))) before (λ was. stores was inside (subst (λ (xs : List ℕ). MovesPages xs after
-    (is_between first (first + count)) free) seen moves))
+    map_told P headers stands view fit long seen_pages stored
+    (sets_written after size_is (fit.are_sets (omega (arith, inside, some))) moves.are_sets) before
+    (λ was. stores was inside (subst (λ (xs : List ℕ). MovesPages xs after (is_between first (first + count)) free) seen
+    moves))
 
 -- how many pages are resident, if these ones had `was` on each page and have `is`
 resident_then : {held : List Page} {sets : List ℕ} {resident : ℕ} (first count : ℕ) (headers : ℕ → ℕ)

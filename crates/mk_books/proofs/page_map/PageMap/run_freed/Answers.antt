@@ -1,5 +1,6 @@
 use Rattle.mk_books.proofs.Vocabulary.{List, Nothing, Page, PartOfRun, false}
-use Rattle.mk_books.proofs.RunsTold.{MapIsTold, freed_stored, moved_map_told, written_in}
+use Rattle.mk_books.proofs.RunsTold.{MapIsTold, freed_stored, moved_map_told}
+use Rattle.mk_books.proofs.Showing.{written_in}
 use Rattle.mk_books.proofs.page_map.PageMap.run_freed.Goals as goal
 use Rattle.mk_books.proofs.page_map.PageMap.run_freed.Goals.{After-move_pages}
 use Rattle.mk_books.specs.Runs.{StandsOn}

@@ -1,5 +1,6 @@
 use Rattle.mk_books.proofs.Vocabulary.{List, Page, PartOfRun, false, length, refl, true, ◌+◌, ◌-◌, ◌≤◌}
-use Rattle.mk_books.proofs.RunsTold.{MapIsTold, map_told, unmapped_enough, unmapped_stored, written_in}
+use Rattle.mk_books.proofs.RunsTold.{MapIsTold, map_told, unmapped_enough, unmapped_stored}
+use Rattle.mk_books.proofs.Showing.{written_in}
 use Rattle.mk_books.proofs.page_map.PageMap.run_unmapped.Goals as goal
 use Rattle.mk_books.proofs.page_map.PageMap.run_unmapped.Goals.{After-store_headers}
 use Rattle.mk_books.specs.Runs.{StandsOn, run_word}
