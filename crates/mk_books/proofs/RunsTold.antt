@@ -8,7 +8,8 @@ use Rattle.mk_books.proofs.Vocabulary.{is_resident_page, length, nat_eq, not, pa
 use Rattle.mk_books.proofs.{Vocabulary.{true, use_of_page, uses_of_pages, ℕ, ◌+◌, ◌<◌, ◌∙◌, ◌≡◌, ◌≤◌}}
 use Rattle.mk_books.proofs.{BlockSets.{each_set, of_block_set}}
 use Rattle.mk_books.proofs.{RunPages.{in_range, length-with_headers, page_inside, page_outside, resident_range}}
-use Rattle.mk_books.proofs.{Showing.{known_by, member_at, member_of_freed, sets_written, written_in}, Uncleaned.{uncleaned_alike, uncleaned_at}}
+use Rattle.mk_books.proofs.Showing.{known_by, member_at, member_of_freed, sets_written, written_in}
+use Rattle.mk_books.proofs.Uncleaned.{uncleaned_alike, uncleaned_at}
 use Rattle.mk_books.{proofs.MovedPages.{no_teller, placed}, specs.PageSets.{MovesPages, is_between, tells_free}}
 use Rattle.mk_books.specs.Runs.{AreBare, HeadersSay, RunIsTold, StandsOn, with_headers}
 use Rattle.mk_geom.specs.{Headers.header_of, PageWords.use_under}

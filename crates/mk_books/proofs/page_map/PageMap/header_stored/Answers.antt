@@ -2,7 +2,8 @@ use Rattle.mk_books.proofs.Vocabulary.{Page, ℕ, ap, arith, is_resident_page, l
 use Rattle.mk_books.proofs.Vocabulary.{◌+◌, ◌<◌, ◌∙◌, ◌≡◌, ◌≤◌, List}
 use Rattle.mk_books.proofs.{Uncleaned.{header_uncleaned, others_kept, this_uncleaned}, FitStays.resident_one}
 use Rattle.mk_books.proofs.{Showing.{sets_written, written_in}}
-use Rattle.mk_books.proofs.Storing.{Stores, counted_anew, page_read, page_within, resident_byte, store_fits, store_shows}
+use Rattle.mk_books.proofs.Storing.{Stores, counted_anew, page_read, page_within, resident_byte, store_fits}
+use Rattle.mk_books.proofs.Storing.{store_shows}
 use Rattle.mk_books.proofs.page_map.PageMap.header_stored.Goals as goal
 use Rattle.mk_books.proofs.page_map.PageMap.header_stored.Goals.{After-from}
 
@@ -42,7 +43,8 @@ overflow_sub-self c = enough c
 same_sets : (c : After-from)
     → written_in c.sort_by_header-is_resident.new.sets c.self.inside.sets.items c.self.inside.sets.len
     ≡ c.sort_by_header-is_resident.new.sets
-same_sets c = sets_written c.sort_by_header-is_resident.new.sets c.self.inside.sets.ok.0 (c.self.invariant.are_sets (omega (arith, within c)))
+same_sets c = sets_written c.sort_by_header-is_resident.new.sets c.self.inside.sets.ok.0
+    (c.self.invariant.are_sets (omega (arith, within c)))
     c.sort_by_header-is_resident.ensures.sorts.are_sets
 
 pub invariant_of-self : goal.invariant_of-self

@@ -12,7 +12,8 @@ within c = page_within c.args.self.now c.self.inside.pages.items c.self.inside.s
 same_sets : (c : After-sort_by_quarantine)
     → written_in c.sort_by_quarantine.new.sets c.self.inside.sets.items c.self.inside.sets.len
     ≡ c.sort_by_quarantine.new.sets
-same_sets c = sets_written c.sort_by_quarantine.new.sets c.self.inside.sets.ok.0 (c.self.invariant.are_sets (omega (arith, within c)))
+same_sets c = sets_written c.sort_by_quarantine.new.sets c.self.inside.sets.ok.0
+    (c.self.invariant.are_sets (omega (arith, within c)))
     c.sort_by_quarantine.ensures.are_sets
 
 puts : (c : After-sort_by_quarantine) → PutsInto c.self.inside.pages.items c.self.inside.sets.items

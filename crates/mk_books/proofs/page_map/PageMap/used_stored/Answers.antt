@@ -28,7 +28,8 @@ stores c = record {
 
 same_sets : (c : After-sort_by_used)
     → written_in c.sort_by_used.new.sets c.self.inside.sets.items c.self.inside.sets.len ≡ c.sort_by_used.new.sets
-same_sets c = sets_written c.sort_by_used.new.sets c.self.inside.sets.ok.0 (c.self.invariant.are_sets (omega (arith, within c)))
+same_sets c = sets_written c.sort_by_used.new.sets c.self.inside.sets.ok.0
+    (c.self.invariant.are_sets (omega (arith, within c)))
     c.sort_by_used.ensures.sorts.are_sets
 
 pub invariant_of-self : goal.invariant_of-self
