@@ -14,13 +14,13 @@ wipe_two-requires-clause-second_page c = omega (arith, c.requires.within, c.loop
 
 pub wipe_two-requires-clause-first : goal.wipe_two-requires-clause-first
 wipe_two-requires-clause-first c =
-    unmapped_still (64 * c.args.page + c.args.first) c.args.pairs c.loop-i.invariant.frees c.requires.unmapped (2 * c.loop-i.i) _ (omega
-    (arith, c.loop-i-test.true)) (omega arith)
+    unmapped_still (64 * c.args.page + c.args.first) c.args.pairs c.loop-i.invariant.frees c.requires.unmapped
+    (2 * c.loop-i.i) _ (omega (arith, c.loop-i-test.true)) (omega arith)
 
 pub wipe_two-requires-clause-second : goal.wipe_two-requires-clause-second
 wipe_two-requires-clause-second c =
-    unmapped_still (64 * c.args.page + c.args.first) c.args.pairs c.loop-i.invariant.frees c.requires.unmapped (2 * c.loop-i.i + 1) _
-    (omega (arith, c.loop-i-test.true)) (omega arith)
+    unmapped_still (64 * c.args.page + c.args.first) c.args.pairs c.loop-i.invariant.frees c.requires.unmapped
+    (2 * c.loop-i.i + 1) _ (omega (arith, c.loop-i-test.true)) (omega arith)
 
 pub loop-i-preserved : goal.loop-i-preserved
 loop-i-preserved c =
@@ -28,8 +28,8 @@ loop-i-preserved c =
     let now = c.wipe_two.ensures in
     record {
       frees = none_then before.frees now.frees;
-      zeros = pair_more (64 * c.args.page + c.args.first) c.args.pairs c.loop-i.i before.frees now.frees c.requires.unmapped
-          c.loop-i-test.true before.zeros
+      zeros = pair_more (64 * c.args.page + c.args.first) c.args.pairs c.loop-i.i before.frees now.frees
+          c.requires.unmapped c.loop-i-test.true before.zeros
           (subst (λ (n : ℕ). IsZero c.wipe_two.new.turn.pass n) (omega arith) now.first)
           (subst (λ (n : ℕ). IsZero c.wipe_two.new.turn.pass n) (omega arith) now.second);
     }

@@ -8,8 +8,8 @@ loop-i-init c = record { frees = none_at_once c.args.turn.now.pass; zeros = λ k
 
 pub wipe_two-requires-clause-first : goal.wipe_two-requires-clause-first
 wipe_two-requires-clause-first c =
-    unmapped_still (2 * c.args.first) c.args.pairs c.loop-i.invariant.frees c.requires.unmapped (2 * c.loop-i.i) _ (omega
-    (arith, c.loop-i-test.true)) (omega arith)
+    unmapped_still (2 * c.args.first) c.args.pairs c.loop-i.invariant.frees c.requires.unmapped (2 * c.loop-i.i) _
+    (omega (arith, c.loop-i-test.true)) (omega arith)
 
 pub wipe_two-requires-clause-second : goal.wipe_two-requires-clause-second
 wipe_two-requires-clause-second c =
