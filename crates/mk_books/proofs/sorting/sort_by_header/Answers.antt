@@ -4,7 +4,8 @@ use Rattle.mk_books.proofs.sorting.sort_by_header.Goals as goal
 use Rattle.std.specs.Prelude.{◌==◌, ◌||◌}
 
 pub returns-clause-resident : goal.returns-clause-resident
-returns-clause-resident c word = ap is_resident_page (c.kind_of-after.ensures.kind word) ∙ c.is_resident-is_resident.ensures word
+returns-clause-resident c word =
+    ap is_resident_page (c.kind_of-after.ensures.kind word) ∙ c.is_resident-is_resident.ensures word
 
 pub returns-clause-sorts : goal.returns-clause-sorts
 returns-clause-sorts c =
