@@ -5,7 +5,8 @@ use Rattle.std.proofs.lemmas.List.Elements.{All-nil, All-push, filter-append}
 use Rattle.std.proofs.lemmas.List.{Splits.{slice_split_at, slice_split_none}, Sums.position_or_len_is}
 use Rattle.std.specs.List.{All, slice_split}
 use Rattle.mk_script.proofs.Vocabulary.{List, ℕ, ap, append-nil, append_assoc, arith, drop, false, filter, get_or}
-use Rattle.mk_script.proofs.Vocabulary.{is_empty, length, length-append, not, refl, subst, sym, take, true, words_of_line}
+use Rattle.mk_script.proofs.Vocabulary.{is_empty, length, length-append, not, refl, subst, sym, take, true}
+use Rattle.mk_script.proofs.Vocabulary.{words_of_line}
 use Rattle.mk_script.proofs.Vocabulary.{[], ◌++◌, ◌+◌, ◌-◌, ◌<◌, ◌==◌, ◌∙◌, ◌∷◌, ◌≡◌, ◌≢◌, ◌≤◌}
 use Rattle.mk_script.specs.Words.{first_line, kept_word, newline_or_end}
 

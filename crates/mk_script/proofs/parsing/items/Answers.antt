@@ -28,7 +28,8 @@ ends c =
     let so_far = c.loop-rest.invariant in
     from_first c.args.text.now (some_byte c.args.text.now (sym c.is_empty.ensures ∙ c.if-is_empty.false))
     ∙ sym so_far.decides
-    ∙ no_more c.loop-rest.rest.now c.loop-rest.items.items (sym c.is_empty-in-loop-rest.ensures ∙ c.loop-rest-test.false)
+    ∙ no_more c.loop-rest.rest.now c.loop-rest.items.items
+    (sym c.is_empty-in-loop-rest.ensures ∙ c.loop-rest-test.false)
 
 pub returns-clause-items : goal.returns-clause-items
 returns-clause-items c = ended_well (λ kept. kept.items) c.at_end.result _ (at_end c.loop-rest.items.items) (ends c)
