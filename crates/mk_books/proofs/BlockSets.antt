@@ -127,3 +127,15 @@ sorted_free {after} {page} was stands puts same sorted = record {
   quarantined = puts.other_sets 18 (omega arith) (omega arith) (omega arith);
   other_pages = puts.other_pages;
 }
+
+-- a page leaves its sets, and then joins those that it is of
+pub sorts_then : {before between after : List ℕ} {page : ℕ} {meanwhile now stands : PageUse}
+    → SortsPage before between page meanwhile → SortsPage between after page now → stands ≡ now
+    → SortsPage before after page stands
+sorts_then left joined same = record {
+  are_sets = joined.are_sets;
+  sorted = λ set is_set. joined.sorted set is_set ∙ ap (is_of_set set) (sym same);
+  quarantined = joined.quarantined ∙ left.quarantined;
+  other_pages = λ s number is_set few differ.
+      joined.other_pages s number is_set few differ ∙ left.other_pages s number is_set few differ;
+}

@@ -1,11 +1,11 @@
 -- The sets of a heap whose pages are all free.
-use Rattle.std.proofs.{Common.{le-ltb, lt-ltb, ne_eqb, take_at, ◌&&◌, ◌/◌}, lemmas.Bool.{and_left, and_right}}
+use Rattle.std.proofs.{Common.{le-ltb, lt-ltb, ne_eqb, ◌&&◌, ◌/◌}, lemmas.Bool.{and_left, and_right}}
 use Rattle.std.proofs.{lemmas.List.{get_or-replicate, get_or_past, length-replicate}, lemmas.List.Sums.sum_by-cons}
 use Rattle.std.proofs.lemmas.Nat.Bits.{bit_at-zero}
 use Rattle.mk_books.proofs.Vocabulary.{AreSets, FitPages, List, Nothing, PageUse, Shows, ℕ, ap, arith, bit_at, cases_eq}
-use Rattle.mk_books.proofs.Vocabulary.{cases_lt, cond, drop, false, free_page, get_or, inl, inr, is_member}
+use Rattle.mk_books.proofs.Vocabulary.{cases_lt, cond, false, free_page, get_or, inl, inr, is_member}
 use Rattle.mk_books.proofs.Vocabulary.{is_resident_page, length, nat_eq, nat_lt, not, page_at, refl, replicate}
-use Rattle.mk_books.proofs.Vocabulary.{resident_pages, suc, sym, take, uses_of_pages, zero, ◌%◌, ◌*◌, ◌++◌, ◌+◌, ◌-◌}
+use Rattle.mk_books.proofs.Vocabulary.{resident_pages, suc, sym, uses_of_pages, zero, ◌%◌, ◌*◌, ◌+◌, ◌-◌}
 use Rattle.mk_books.proofs.{Vocabulary.{◌<◌, ◌∙◌, ◌≡◌, ◌≤◌}, BlockSets.{each_set, nothing_of_set}}
 use Rattle.mk_books.proofs.Showing.{known_by, member_at}
 use Rattle.mk_books.specs.PageSets.{OtherWordsStay, word_in_set}
@@ -74,10 +74,6 @@ one_word_more before after {words} pages word free is stay bits set number is_se
 pub all_free : (sets : List ℕ) (words : ℕ) {pages : ℕ} → pages ≤ 64 * words → HaveFreeBelow sets words pages
     → HaveFree sets pages
 all_free sets words enough free set number is_set few = grind (arith, cases_lt, lt-ltb, and_right, le-ltb)
-
--- what a Vec holds after a write through its slice
-pub written : (new old : List ℕ) (n : ℕ) → length new ≡ n → take n (new ++ drop (length new) old) ≡ new
-written new old n long = take_at new (drop (length new) old) n long
 
 -- ---- the map of free pages
 

@@ -1,8 +1,8 @@
 -- The pages of a run after its header words were stored together.
-use Rattle.std.proofs.Common.{take_at, ◌*◌}
-use Rattle.mk_books.proofs.Vocabulary.{List, Page, ap, arith, cases_eq, cases_lt, drop, free_page}
+use Rattle.std.proofs.Common.{◌*◌}
+use Rattle.mk_books.proofs.Vocabulary.{List, Page, ap, arith, cases_eq, cases_lt, free_page}
 use Rattle.mk_books.proofs.Vocabulary.{get_or-set_other, get_or-set_same, inl, inr, length, length-set, page_at, refl}
-use Rattle.mk_books.proofs.Vocabulary.{resident_pages, set, subst, suc, sym, take, uses_of_pages, zero, ◌++◌, ◌+◌, ◌-◌}
+use Rattle.mk_books.proofs.Vocabulary.{resident_pages, set, subst, suc, sym, uses_of_pages, zero, ◌+◌, ◌-◌}
 use Rattle.mk_books.proofs.{Vocabulary.{ℕ, ◌<◌, ◌∙◌, ◌≡◌, ◌≤◌}, FitStays.{resident_changed, resident_one}}
 use Rattle.mk_books.specs.Runs.{with_headers}
 
@@ -72,7 +72,3 @@ in_range first count number P inside outside = elim (cases_lt number first) [
     | inr past ↦ outside (λ _ high. absurd (omega arith))
   ]
 ]
-
--- what a Vec of pages holds after a write through its slice
-pub pages_written : (new old : List Page) (n : ℕ) → length new ≡ n → take n (new ++ drop (length new) old) ≡ new
-pages_written new old n long = take_at new (drop (length new) old) n long

@@ -1,5 +1,6 @@
 -- What a map shows, by its pages and sets.
-use Rattle.std.proofs.lemmas.List.FromFn.{get_or-map-range_with_len}
+use Rattle.std.proofs.{Common.take_at, lemmas.List.FromFn.get_or-map-range_with_len}
+use Rattle.mk_books.proofs.Vocabulary.{AreSets, drop, take, ◌++◌}
 use Rattle.mk_books.proofs.Vocabulary.{KnownPages, List, OthersStay, Page, PageUse, PutsPage, Shows, SortsPage, ℕ, ap}
 use Rattle.mk_books.proofs.Vocabulary.{arith, cases_eq, false, get_or, get_or-set_other, get_or-set_same, inl, inr}
 use Rattle.mk_books.proofs.Vocabulary.{is_member, length, length-set, nat_eq, not, set, sym, ◌<◌, ◌∙◌, ◌≡◌, ◌≤◌}
@@ -62,3 +63,12 @@ quarantine_shows held {pages} sets after {freed} {page} cells few inside puts sh
                 ∙ sym (ap (λ n. not (nat_eq n 0)) (get_or-set_other freed page number cells 0 differ))
           ];
     }
+
+-- what a Vec holds after a write through its slice
+abbrev pub written_in : {A : Type 0} → List A → List A → ℕ → List A
+written_in new old n = take n (new ++ drop (length new) old)
+
+pub sets_written : {sets : List ℕ} (after : List ℕ) {len : ℕ} → len ≡ length sets → AreSets sets → AreSets after
+    → written_in after sets len ≡ after
+sets_written {sets} after {len} long before now =
+    take_at after (drop (length after) sets) len (omega (arith, long, before.long, now.long))

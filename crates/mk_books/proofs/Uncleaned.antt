@@ -3,7 +3,7 @@ use Rattle.std.{proofs.Common.◌&&◌, proofs.Common.◌==◌, proofs.Common.�
 use Rattle.std.{proofs.lemmas.List.FromFn.length-range_with_len, specs.List.range_with_len}
 use Rattle.mk_books.proofs.Vocabulary.{Bool, FitPages, IsNext, KnownPages, List, Option, OthersStay, Page, PutsPage}
 use Rattle.mk_books.proofs.Vocabulary.{Shows, ℕ, ap, arith, cases_lt, false, is_member, length, length-map, not}
-use Rattle.mk_books.proofs.{Vocabulary.{page_at, refl, subst, sym, ◌<◌, ◌∙◌, ◌≡◌, ◌≤◌}, Showing.{known_by, member_at}}
+use Rattle.mk_books.proofs.{Vocabulary.{page_at, subst, sym, ◌<◌, ◌∙◌, ◌≡◌, ◌≤◌}, Showing.{known_by, member_at}}
 use Rattle.mk_books.proofs.{Showing.{member_of_freed, set_stays}, FitStays.fit_again, NextPages.same_next}
 use Rattle.mk_books.proofs.Reading.{Reads}
 use Rattle.mk_books.specs.{KnownPages.{is_uncleaned, is_uncleaned_under}, PageSets.members}
@@ -31,34 +31,36 @@ pub uncleaned_others : (held now : List Page) (sets after : List ℕ) {page : �
 uncleaned_others held now sets after number long few others differ =
     uncleaned_alike held now sets after number long (λ within. others 19 number (omega arith) (omega arith) differ)
 
--- if all else of a page stays in the sets
-pub record ChangesUncleaned (held : List Page) (sets slice after : List ℕ) (resident page : ℕ) (inside : Bool)
+-- a page is put into a set that doesn't tell what stands on it, or out of it
+pub record PutsInto (held : List Page) (sets slice after : List ℕ) (resident set page : ℕ) (inside : Bool)
     : Type 0 where
   pub fit : FitPages held sets resident
   pub within : page < length held
   pub is_slice : slice ≡ sets
-  pub puts : PutsPage slice after 19 page inside
+  pub puts : PutsPage slice after set page inside
 
-puts_it : {held : List Page} {sets slice after : List ℕ} {resident page : ℕ} {inside : Bool}
-    → ChangesUncleaned held sets slice after resident page inside → PutsPage sets after 19 page inside
-puts_it {after} {page} {inside} r = subst (λ (xs : List ℕ). PutsPage xs after 19 page inside) r.is_slice r.puts
+pub puts_it : {held : List Page} {sets slice after : List ℕ} {resident set page : ℕ} {inside : Bool}
+    → PutsInto held sets slice after resident set page inside → PutsPage sets after set page inside
+puts_it {after} {set} {page} {inside} r =
+    subst (λ (xs : List ℕ). PutsPage xs after set page inside) r.is_slice r.puts
+
+pub still_fits : {held : List Page} {sets slice after : List ℕ} (vec : List ℕ) {resident set page : ℕ}
+    {inside : Bool} → 18 ≤ set → PutsInto held sets slice after resident set page inside → vec ≡ after
+    → FitPages held vec resident
+still_fits {held} vec {resident} apart r written =
+    subst (λ (xs : List ℕ). FitPages held xs resident) (sym written) (fit_again apart r.within (puts_it r) r.fit)
+
+-- if all else of a page stays in the sets
 
 same_freed : {held : List Page} {sets slice after : List ℕ} {resident page : ℕ} {inside : Bool}
-    → ChangesUncleaned held sets slice after resident page inside
+    → PutsInto held sets slice after resident 19 page inside
     → (number : ℕ) → number < length held → is_member after 18 number ≡ is_member sets 18 number
 same_freed {sets} {after} {page} r number within = set_stays sets after page 18 number (omega arith)
     (omega (arith, r.fit.few)) (puts_it r).other_pages ((puts_it r).other_sets 18 (omega arith) (omega arith))
 
-pub still_fits : {held : List Page} {sets slice after : List ℕ} (vec : List ℕ) {resident page : ℕ}
-    {inside : Bool} → ChangesUncleaned held sets slice after resident page inside → vec ≡ after
-    → FitPages held vec resident
-still_fits {held} vec {resident} r written =
-    subst (λ (xs : List ℕ). FitPages held xs resident) (sym written)
-    (fit_again (omega arith) r.within (puts_it r) r.fit)
-
 pub still_shows : {known : KnownPages} {held pages : List Page} {sets slice after : List ℕ}
     (vec : List ℕ) {freed : List ℕ} {resident page : ℕ} {inside : Bool}
-    → ChangesUncleaned held sets slice after resident page inside → vec ≡ after → known_by held sets ≡ known
+    → PutsInto held sets slice after resident 19 page inside → vec ≡ after → known_by held sets ≡ known
     → Shows known pages freed → Shows (known_by held vec) pages freed
 still_shows {held} {pages} {sets} {after} vec {freed} r written view shows =
     let before = subst (λ (k : KnownPages). Shows k pages freed) (sym view) shows in
@@ -69,16 +71,6 @@ still_shows {held} {pages} {sets} {after} vec {freed} r written view shows =
       quarantined = λ number within. member_at after 18 (length held) number (omega arith)
           ∙ same_freed r number (omega arith) ∙ member_of_freed held sets before number within;
     })
-
-pub others_uncleaned : (known : KnownPages) {held : List Page} {sets slice after : List ℕ} (vec : List ℕ)
-    {resident page : ℕ} {inside : Bool} (number : ℕ) → ChangesUncleaned held sets slice after resident page inside
-    → vec ≡ after
-    → known_by held sets ≡ known → (number ≡ page → ⊥)
-    → is_uncleaned (known_by held vec) number ≡ is_uncleaned known number
-others_uncleaned known {held} {sets} {after} vec {page} number r written view differ =
-    ap (λ xs. is_uncleaned (known_by held xs) number) written ∙ uncleaned_others held held sets after number refl
-    r.fit.few (puts_it r).other_pages differ
-    ∙ ap (λ k. is_uncleaned k number) view
 
 pub this_uncleaned : (held : List Page) (after vec : List ℕ) (page : ℕ) (inside : Bool) → page < length held
     → vec ≡ after → is_member after 19 page ≡ inside → is_uncleaned (known_by held vec) page ≡ inside

@@ -1,9 +1,8 @@
 -- First fit in the words that a page map answers in.
 use Rattle.std.specs.Prelude.{◌≡◌, ℕ, Bool, false, not, nat_lt, List, Option, None, option_map, option_and_then}
 use Rattle.std.specs.Prelude.{if◌then◌else◌}
-use Rattle.mk_geom.specs.{declared.pages.Page.Page, declared.pages.Place.Place, PageUses.{is_free_page, resident_pages}}
-use Rattle.mk_geom.specs.PageUses.{cells_taken, first_where, or_else, carved, small_place}
-use Rattle.mk_geom.specs.PageWords.{use_of_page, uses_of_pages}
+use Rattle.mk_geom.specs.PageUses.{is_free_page, resident_pages, cells_taken, first_where, or_else, carved, small_place}
+use Rattle.mk_geom.specs.{PageWords.{use_of_page, uses_of_pages}, declared.pages.Page.Page, declared.pages.Place.Place}
 use Rattle.mk_books.specs.Members.{page_at, has_free_cell}
 
 -- the lowest free cell of a page, as a place

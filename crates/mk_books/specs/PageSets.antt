@@ -1,15 +1,13 @@
 -- How a page map keeps its sets of pages: as bits, 64 pages in a word. A set has a summary, whose bit k is 1 if its
 -- word k isn't 0, and then 64 words.
-use Rattle.std.specs.Prelude.{◌≡◌, ℕ, ◌+◌, ◌*◌, ◌/◌, ◌%◌, ◌<◌, ◌≤◌, ◌&&◌, ◌||◌, Bool, false, not, ◌==◌, nat_le}
-use Rattle.std.specs.Prelude.{nat_lt, List}
-use Rattle.std.specs.Prelude.{Option, Some, true}
-use Rattle.std.specs.{Prelude.{length, slice_index, if◌then◌else◌, map}, Int.bit_at, List.range_with_len}
+use Rattle.std.specs.Prelude.{◌≡◌, ℕ, ◌+◌, ◌*◌, ◌/◌, ◌%◌, ◌<◌, ◌≤◌, ◌&&◌, ◌||◌, Bool, false, not, ◌==◌, nat_le, nat_lt}
+use Rattle.std.specs.{Prelude.{List, Option, Some, true, length, slice_index, if◌then◌else◌, map}, Int.bit_at}
+use Rattle.std.specs.List.{range_with_len}
 use Rattle.mk_geom.specs.{declared.pages.Page.Page, PageUses.{PageUse, Nothing, Cells, PartOfRun, is_free_page}}
 use Rattle.mk_geom.specs.{PageUses.resident_pages, PageWords.{use_of_page, uses_of_pages, bits_of}, Classes.cells_of}
+use Rattle.mk_geom.specs.declared.headers.Header.{Header}
 use Rattle.mk_books.specs.{Members.{page_at, has_free_cell}, declared.kinds.PageKind.PageKind}
 use Rattle.mk_books.specs.declared.kinds.PageKind.TheVariants.{Free, Block, Run}
-use Rattle.mk_geom.specs.declared.headers.Header.{Header}
-use Rattle.mk_geom.specs.declared.headers.Header.TheVariants as header
 
 -- word number word of a set: 64 pages, a bit each
 abbrev pub word_in_set : List ℕ → ℕ → ℕ → ℕ
@@ -91,18 +89,15 @@ pub record MovesPages (before after : List ℕ) (among : ℕ → Bool) (free : B
 abbrev pub is_between : ℕ → ℕ → ℕ → Bool
 is_between from end number = nat_le from number && nat_lt number end
 
--- a page is in the sets of blocks that it was in, and among those with freed cells if it was so
-abbrev pub StaysInOtherSets : List ℕ → List ℕ → ℕ → Type 0
-StaysInOtherSets before after page =
-    (set : ℕ) → set < 19 → (set ≡ 16 → ⊥) → (set ≡ 17 → ⊥) → is_member after set page ≡ is_member before set page
-
 -- A page is put among the free ones and among those of them that may be marked, or out of both and among those in use.
+-- Of the sets of blocks it is in those that it was in, and among those with freed cells if it was so.
 pub record PutsFree (before after : List ℕ) (page : ℕ) (is_free : Bool) : Type 0 where
   pub are_sets : AreSets after
   pub free : is_member after 16 page ≡ is_free
   pub in_use : is_member after 17 page ≡ not is_free
   pub uncleaned : is_member after 19 page ≡ is_free
-  pub other_sets : StaysInOtherSets before after page
+  pub other_sets : (set : ℕ) → set < 19 → (set ≡ 16 → ⊥) → (set ≡ 17 → ⊥)
+      → is_member after set page ≡ is_member before set page
   pub other_pages : OthersStay before after page
 
 -- A page is sorted by what is on it now. It is among those with freed cells if it was so.
@@ -133,13 +128,12 @@ use_of_kind (Run mapped) used = PartOfRun mapped
 
 -- the page is one of a mapped run
 abbrev pub is_mapped_run : Option Header → Bool
-is_mapped_run (Some (header.Run pages mapped)) = mapped
-is_mapped_run (Some (header.Later distance mapped)) = mapped
-is_mapped_run (Some (header.LeafRun pages)) = true
+is_mapped_run (Some (Header.Run pages mapped)) = mapped
+is_mapped_run (Some (Header.Later distance mapped)) = mapped
+is_mapped_run (Some (Header.LeafRun pages)) = true
 is_mapped_run _ = false
 
 -- a block's class is one of the eight
 abbrev pub HasClass : PageKind → Type 0
-HasClass Free = Unit {0}
 HasClass (Block class leaf) = class < 8
-HasClass (Run mapped) = Unit {0}
+HasClass _ = Unit {0}

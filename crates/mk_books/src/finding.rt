@@ -1,11 +1,12 @@
 //! What a page map answers.
-ghost use Rattle.std.specs.Prelude.{◌≡◌, ℕ, ◌<◌, ◌≤◌, List, length, false};
+ghost use Rattle.std.specs.Prelude.{◌≡◌, ℕ, ◌<◌, ◌≤◌, List, length, false, true};
 ghost use Rattle.mk_geom.specs.{declared.pages.Page.Page, PageUses.{first_where, is_free_page, range_start}};
 ghost use Rattle.mk_geom.specs.{PageUses.resident_pages, PageWords.{use_of_page, uses_of_pages}};
 ghost use Rattle.mk_books.specs.KnownPages.{Shows, is_quarantined_page, is_uncleaned};
 ghost use Rattle.mk_books.specs.Members.{IsNext, has_free_cell, has_freed_cells, is_in_use, page_at};
 ghost use Rattle.mk_books.specs.PageSets.{AreSets, is_member, is_of_set};
 
+use crate::kinds::{PageKind, kind_of};
 use crate::page_map::PageMap;
 use crate::sets::next_in;
 use crate::sorting::{FREE, IN_USE, QUARANTINED, UNCLEANED, block_set};
@@ -54,11 +55,25 @@ impl PageMap {
         self.next_of(block_set(class, leaf), 0)
     }
 
-    /// The lowest page that isn't free, of those from this one on.
+    /// Whether there is such a page, and it isn't free.
+    #[inline(always)]
+    fn is_in_use(&self, page: u64) -> bool
+        ensures within { result ≡ true → page < length self.now.pages }
+        ensures in_use { result ≡ true → is_in_use self.now.pages page ≡ true }
+    {
+        let place = page as usize;
+        place < self.pages.len() && !matches!(kind_of(self.pages[place].header), PageKind::Free)
+    }
+
+    /// The lowest page that isn't free, of those from this one on. Mostly it is this one, since first fit leaves few
+    /// free pages between others.
     pub fn next_in_use(&self, from: u64) -> Option<u64>
         ensures { (pages : List Page) (freed : List ℕ) → Shows self.now pages freed
             → IsNext (is_in_use pages) from (length pages) result }
     {
+        if self.is_in_use(from) {
+            return Some(from);
+        }
         self.next_of(IN_USE, from)
     }
 

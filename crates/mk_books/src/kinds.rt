@@ -44,14 +44,13 @@ pub(crate) fn kind_of(header: u64) -> PageKind
             leaf: false,
         };
     }
-    if is_mapped(header) {
-        return PageKind::Run { mapped: true };
-    }
     let class = header / 16;
     if header % 16 == 13 && class < 8 {
         return PageKind::Block { class, leaf: true };
     }
-    PageKind::Run { mapped: false }
+    PageKind::Run {
+        mapped: is_mapped(header),
+    }
 }
 
 impl PageKind {

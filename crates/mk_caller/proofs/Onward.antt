@@ -3,11 +3,11 @@ use Rattle.mk_words.proofs.Below.Laws.Vocabulary.{Answer, Bool, Config, Flight, 
 use Rattle.mk_words.proofs.Below.Laws.Vocabulary.{ℕ, ap, arith, at_rest, begun, false, header_of, if◌then◌else◌}
 use Rattle.mk_words.proofs.Below.Laws.Vocabulary.{is_under_turn, is_unmapped_header, onward, progress_read}
 use Rattle.mk_words.proofs.Below.Laws.Vocabulary.{progress_reg, refl, refused, stage_behind, steps_of, subst, sym, true}
-use Rattle.mk_words.proofs.Below.Laws.Vocabulary.{◌∙◌, ◌≡◌}
+use Rattle.mk_words.proofs.Below.Laws.Vocabulary.{[], ◌∙◌, ◌∷◌, ◌≡◌}
 use Rattle.mk_core.specs.{Calls.progress_getg, Effects.progress_probe, Ranges.is_word_met}
 use Rattle.mk_caller.proofs.{Enabling.caller_exists, OneStep.goes_underway, OneStep.one_step}
 use Rattle.mk_caller.specs.{Moves.CallMoves, Moves.IsUnderway, Moves.MayBeginCall, Moves.is_past_decision}
-use Rattle.mk_caller.specs.{Moves.is_written, Moves.loads_register, Moves.stores_register, States.Admits}
+use Rattle.mk_caller.specs.{Moves.is_stage_of, Moves.loads_register, Moves.stores_register, States.Admits}
 use Rattle.mk_words.{proofs.Made.pass_before, specs.States.PassState, specs.States.call_of, specs.Steps.Goes}
 
 pub record Next (c : Config) (f : Flight) (x : Progress) : Type 0 where
@@ -69,6 +69,10 @@ probe_on : (c : Config) (o : Op) (q p r l : ℕ) → Next c (flight Stage.Probe 
     (onward (flight Stage.Probe o q p r l) None)
 probe_on c (Op.GetNum x i) q p r l = record { op = refl; undecided = λ h. (cc, cc); page = λ h. cc }
 probe_on c _ q p r l = record { op = refl; undecided = λ h. (cc, cc); page = λ h. cc }
+
+-- a stage at which a heap word is written
+abbrev pub is_written : Stage → Bool
+is_written s = is_stage_of (Stage.Write ∷ Stage.Cas ∷ []) s
 
 -- after a write the page is still to be marked
 written : (c : Config) (s : Stage) (o : Op) (q p r l : ℕ) (a : Answer) → is_written s ≡ true

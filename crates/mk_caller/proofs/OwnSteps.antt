@@ -1,14 +1,12 @@
 -- The own steps of a list in parts: events of others have none of them. Its own calls are those of mk_laws.
 pub use Rattle.mk_words.proofs.Below.Laws.FramesLongerLists.{by_append, calls_by, others_add_none, own_entry}
-use Rattle.std.proofs.{Common.{arith, filter}, lemmas.List.Elements.filter-append}
-use Rattle.mk_words.proofs.Below.Laws.Vocabulary.{Answer, Bool, Caller, Config, Decided, Event, Host, List, Marker}
-use Rattle.mk_words.proofs.Below.Laws.Vocabulary.{None, Op, Option, Seat, Some, Step, World, ℕ, answer_decided, ap}
-use Rattle.mk_words.proofs.Below.Laws.Vocabulary.{append-nil, call_decided, calls, cond, entry_of, eq-eqb, false}
-use Rattle.mk_words.proofs.Below.Laws.Vocabulary.{flight_of, found, if◌then◌else◌, is_one_of, left, map, map-append}
-use Rattle.mk_words.proofs.Below.Laws.Vocabulary.{ne_eqb, refl, sym, true, world_behind, [], ◌++◌, ◌==◌, ◌∙◌, ◌∷◌, ◌≡◌}
-use Rattle.mk_words.proofs.{Below.Laws.Vocabulary.◌≢◌, Below.Laws.ProtocolFrames.other_seat}
-use Rattle.mk_core.proofs.HistoryParts.{calls_in_parts}
-use Rattle.mk_core.specs.{Growing.{AreOfOthers, Finding, is_same_seat, own_from}, History.{calls_from, left_from}}
+use Rattle.mk_words.proofs.Below.Laws.Vocabulary.{Bool, Config, Event, List}
+use Rattle.mk_words.proofs.Below.Laws.Vocabulary.{Seat, Step, World, ap}
+use Rattle.mk_words.proofs.Below.Laws.Vocabulary.{false}
+use Rattle.mk_words.proofs.Below.Laws.Vocabulary.{found, if◌then◌else◌, is_one_of, map, map-append}
+use Rattle.mk_words.proofs.Below.Laws.Vocabulary.{refl, sym, true, world_behind, [], ◌++◌, ◌∙◌, ◌∷◌, ◌≡◌}
+use Rattle.mk_words.proofs.{Below.Laws.ProtocolFrames.other_seat}
+use Rattle.mk_core.specs.{Growing.{AreOfOthers, Finding, is_same_seat, own_from}, History.{left_from}}
 use Rattle.mk_words.proofs.Seats.{same_seat, same_self}
 
 own_append : (c : Config) (s : Seat) (w : World) (xs ys : List Event)

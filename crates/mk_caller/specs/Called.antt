@@ -7,21 +7,18 @@ use Rattle.mk_core.specs.{Decided.{Decided, entry_of}, Growing.{Finding, in_this
 use Rattle.mk_core.specs.{History.{call_decided, bases_of}, Image.answer_of}
 use Rattle.mk_words.specs.States.{IsPass, PassState, call_of}
 use Rattle.mk_caller.specs.States.{caller_of_pass, never_of, never_then}
-use Rattle.mk_core.specs.declared.events.Answer.TheVariants as answer
-use Rattle.mk_core.specs.declared.events.Step.TheVariants as step
-use Rattle.mk_core.specs.declared.seats.Stage.TheVariants as stage
 
 -- the step at a stage of a call
 abbrev pub step_at : Stage → Step
-step_at stage.Probe = step.Probe
-step_at stage.Read = step.Read
-step_at stage.Write = step.Write
-step_at stage.Cas = step.Cas
-step_at stage.Getg = step.Getg
-step_at stage.Setg = step.Setg
-step_at stage.Dirty = step.Dirty
-step_at stage.Leave = step.Leave
-step_at _ = step.Reg
+step_at Stage.Probe = Step.Probe
+step_at Stage.Read = Step.Read
+step_at Stage.Write = Step.Write
+step_at Stage.Cas = Step.Cas
+step_at Stage.Getg = Step.Getg
+step_at Stage.Setg = Step.Setg
+step_at Stage.Dirty = Step.Dirty
+step_at Stage.Leave = Step.Leave
+step_at _ = Step.Reg
 
 -- the stages up to this one, and with it
 abbrev pub up_to : Stage → List Stage → List Stage
@@ -30,18 +27,18 @@ up_to s (x ∷ xs) = x ∷ (if is_same_stage x s then [] else up_to s xs)
 
 -- the stages after a refusal, from the first one on
 abbrev pub refused_from : Stage → List Stage
-refused_from stage.Put = stage.Put ∷ stage.Leave ∷ []
-refused_from _ = stage.Leave ∷ []
+refused_from Stage.Put = Stage.Put ∷ Stage.Leave ∷ []
+refused_from _ = Stage.Leave ∷ []
 
 -- the stages of a call that is answered so: Null comes at the load of q, and Fault at the probe
 abbrev pub stages_made : Op → Answer → List Stage
-stages_made o answer.Null = up_to stage.LoadQ (steps_of o) ++ refused_from (stage_refused o)
-stages_made o answer.Fault = up_to stage.Probe (steps_of o) ++ refused_from (stage_refused o)
+stages_made o Answer.Null = up_to Stage.LoadQ (steps_of o) ++ refused_from (stage_refused o)
+stages_made o Answer.Fault = up_to Stage.Probe (steps_of o) ++ refused_from (stage_refused o)
 stages_made o _ = steps_of o
 
 -- the steps of a call with this answer, from its `enter` on
 abbrev pub steps_made : Op → Answer → List Step
-steps_made o a = step.Enter o ∷ map step_at (stages_made o a)
+steps_made o a = Step.Enter o ∷ map step_at (stages_made o a)
 
 -- the steps of the pass's seat among the events that came after what it had seen
 abbrev pub own_steps : PassState → List Event → List Step
@@ -80,9 +77,9 @@ pub record Called (p : PassState) (o : Op) (a : Answer) (q : PassState) : Type 0
 
 -- It was answered yes or no.
 abbrev pub Says : PassState → Op → Bool → PassState → Type 0
-Says p o said q = Called p o (answer.Num (one_if said)) q
+Says p o said q = Called p o (Answer.Num (one_if said)) q
 
 -- It was answered by a pointer, or null: which one says the reply of the heap that never reuses storage.
 pub record IsAnswered (p : PassState) (o : Op) (q : PassState) : Type 0 where
   pub word : ℕ
-  pub called : Called p o (answer.Word word) q
+  pub called : Called p o (Answer.Word word) q

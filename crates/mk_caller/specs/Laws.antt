@@ -4,16 +4,15 @@ use Rattle.mk_never.specs.declared.operations.Op.{Op}
 use Rattle.mk_core.specs.declared.events.Answer.{Answer}
 use Rattle.mk_words.specs.States.{PassState}
 use Rattle.mk_caller.specs.{States.value_of, Called.Called}
-use Rattle.mk_never.specs.declared.operations.Op.TheVariants as op
 
 -- the register that an operation sets
 abbrev pub destination : Op → Option ℕ
-destination (op.New d ty full) = Some d
-destination (op.GetPtr d q i) = Some d
-destination (op.Lea d q i) = Some d
-destination (op.Move d q) = Some d
-destination (op.Clear d) = Some d
-destination (op.GetGlobal d g) = Some d
+destination (Op.New d ty full) = Some d
+destination (Op.GetPtr d q i) = Some d
+destination (Op.Lea d q i) = Some d
+destination (Op.Move d q) = Some d
+destination (Op.Clear d) = Some d
+destination (Op.GetGlobal d g) = Some d
 destination _ = None
 
 -- A call leaves the registers that it doesn't set.

@@ -10,10 +10,6 @@ use Rattle.mk_core.specs.{Calls.{progress_reg, progress_read, progress_getg}, De
 use Rattle.mk_words.specs.States.{PassState, IsPass, call_of}
 use Rattle.mk_caller.specs.{States.{caller_of_pass, never_of, Admits}, Called.{step_at, refused_from, own_steps}}
 use Rattle.mk_caller.specs.Called.{own_calls, IsDecidedIn}
-use Rattle.mk_never.specs.declared.operations.Op.TheVariants as op
-use Rattle.mk_core.specs.declared.events.Answer.TheVariants as answer
-use Rattle.mk_core.specs.declared.events.Step.TheVariants as step
-use Rattle.mk_core.specs.declared.seats.Stage.TheVariants as stage
 
 -- whether a stage is one of these
 abbrev pub is_stage_of : List Stage → Stage → Bool
@@ -21,34 +17,30 @@ is_stage_of stages s = list_any (is_same_stage s) stages
 
 -- what is after the deciding step
 abbrev pub is_past_decision : Stage → Bool
-is_past_decision s = is_stage_of (stage.Put ∷ stage.Dirty ∷ stage.Leave ∷ stage.Idle ∷ []) s
+is_past_decision s = is_stage_of (Stage.Put ∷ Stage.Dirty ∷ Stage.Leave ∷ Stage.Idle ∷ []) s
 
 -- a stage at which a register is loaded
 abbrev pub loads_register : Stage → Bool
-loads_register s = is_stage_of (stage.LoadQ ∷ stage.LoadP ∷ stage.LoadR ∷ []) s
+loads_register s = is_stage_of (Stage.LoadQ ∷ Stage.LoadP ∷ Stage.LoadR ∷ []) s
 
 -- or stored
 abbrev pub stores_register : Stage → Bool
-stores_register s = is_stage_of (stage.Store ∷ stage.Put ∷ []) s
-
--- a stage at which a heap word is written
-abbrev pub is_written : Stage → Bool
-is_written s = is_stage_of (stage.Write ∷ stage.Cas ∷ []) s
+stores_register s = is_stage_of (Stage.Store ∷ Stage.Put ∷ []) s
 
 -- the operations that access through q
 abbrev pub is_access : Op → Bool
-is_access (op.GetNum q i) = true
-is_access (op.SetNum q i n) = true
-is_access (op.GetPtr d q i) = true
-is_access (op.SetPtr q i p) = true
-is_access (op.CasPtr q i p r) = true
-is_access (op.Lea d q i) = true
+is_access (Op.GetNum q i) = true
+is_access (Op.SetNum q i n) = true
+is_access (Op.GetPtr d q i) = true
+is_access (Op.SetPtr q i p) = true
+is_access (Op.CasPtr q i p r) = true
+is_access (Op.Lea d q i) = true
 is_access _ = false
 
 -- the register that a refusal makes null
 abbrev pub refused_register : Op → Option ℕ
-refused_register (op.GetPtr d q i) = Some d
-refused_register (op.Lea d q i) = Some d
+refused_register (Op.GetPtr d q i) = Some d
+refused_register (Op.Lea d q i) = Some d
 refused_register _ = None
 
 -- A caller whose pass may begin a call of the operation.
@@ -67,7 +59,7 @@ pub record IsUnderway (p : PassState) : Type 0 where
   pub exists : caller < p.table.config.callers
   pub entered : is_under_turn (call_of p).op ≡ false
   pub admits : is_past_decision (call_of p).stage ≡ false → Admits p (call_of p).op
-  pub page : (call_of p).stage ≡ stage.Dirty → is_word_met p.table.config (call_of p) ≡ true
+  pub page : (call_of p).stage ≡ Stage.Dirty → is_word_met p.table.config (call_of p) ≡ true
 
 -- The call was decided with this answer among these events; if there is none, it left the registers as they were.
 abbrev pub IsDecidedAs : PassState → Op → Option Answer → List Event → Type 0
@@ -94,8 +86,6 @@ pub record IsAtFlight (p : PassState) (o : Op) (ss : List Step) (a : Option Answ
 abbrev pub CallMoves : PassState → Op → Step → Progress → PassState → Type 0
 CallMoves p o s x q = IsAtFlight p o (s ∷ []) x.answer x.flight q
 
--- how a call begins, and goes on by its steps
-
 -- the call after its `enter`
 abbrev pub begins : Op → Progress
 begins o = record { flight = begun o; answer = None }
@@ -114,7 +104,7 @@ passes f = onward f None
 
 -- the call after a probe that found an unmapped run
 abbrev pub faults : Flight → Progress
-faults f = refused f answer.Fault
+faults f = refused f Answer.Fault
 
 -- the call after its word was loaded
 abbrev pub reads : ℕ → Flight → Progress
@@ -122,11 +112,11 @@ reads value f = progress_read f f.op value
 
 -- the call after its word was stored
 abbrev pub writes : Flight → Progress
-writes f = onward f (Some answer.Done)
+writes f = onward f (Some Answer.Done)
 
 -- the call after its exchange, which did it or didn't
 abbrev pub exchanges : Bool → Flight → Progress
-exchanges did f = onward f (Some (answer.Num (one_if did)))
+exchanges did f = onward f (Some (Answer.Num (one_if did)))
 
 -- the call after its `leave`
 abbrev pub call_ends : Flight → Progress
@@ -143,10 +133,6 @@ Ends p ss a q = IsAtFlight p (call_of p).op ss a at_rest q
 -- The steps of a call that are left after a refusal: up to its end.
 abbrev pub refused_steps : Op → List Step
 refused_steps o = map step_at (refused_from (stage_refused o))
-
--- and after a probe that finds the page unmapped
-abbrev pub fault_steps : Op → List Step
-fault_steps o = step.Probe ∷ refused_steps o
 
 -- the call after the load of q
 abbrev pub behind_q : Op → ℕ → Flight

@@ -58,9 +58,8 @@ Admits p o = IsAdmitted p.table.config.globals (never_of p) (caller_of_pass p) o
 abbrev pub IsPassOfCaller : WordsState → ℕ → PassState → Type 0
 IsPassOfCaller w k p = (p.table ≡ w) × (k ≡ caller_of_pass p)
 
--- What a caller is made of: its words, its number and its pass, if that is home.
-
--- the pass, or one that has seen nothing while it is away
+-- What a caller is made of: its words, its number, and its pass, if that is home. While it is away, the pass stands
+-- there that has seen nothing.
 abbrev pub pass_of : WordsState → ℕ → Option PassState → PassState
 pass_of w k (Some p) = p
 pass_of w k None = record { table = w; seat = Caller k; seats = []; seen = [] }
@@ -75,7 +74,6 @@ abbrev pub HasHome : WordsState → ℕ → Option PassState → Type 0
 HasHome w k x = is_some x ≡ true → IsHomePass (pass_of w k x)
 
 -- That has one proof at most.
-
 home_pass_prop : (p : PassState) → IsProp (IsHomePass p)
 home_pass_prop p x y i = record {
   pass = pass_prop p x.pass y.pass i;

@@ -7,7 +7,7 @@ ghost use Rattle.mk_core.specs.Calls.{word_met, progress_reg};
 ghost use Rattle.mk_words.specs.States.{call_of};
 ghost use Rattle.mk_caller.specs.{States.{IsPassOfCaller, value_of}, Causes.{Probes, ProbesAWord, IsRefused}};
 ghost use Rattle.mk_caller.specs.Moves.{MayBeginCall, IsUnderway, IsAtFlight, Ends, CallGoesOn, is_access};
-ghost use Rattle.mk_caller.specs.Moves.{stores_register, refused_register, refused_steps, fault_steps, behind_q, loads};
+ghost use Rattle.mk_caller.specs.Moves.{stores_register, refused_register, refused_steps, behind_q, loads};
 ghost use Rattle.mk_caller.specs.Moves.{passes};
 ghost use Rattle.mk_core.specs.declared.events.Answer.TheVariants as answer;
 ghost use Rattle.mk_core.specs.declared.events.Step.TheVariants as step;
@@ -119,7 +119,8 @@ pub(crate) fn probe_access(
     ensures moves { IfSome result (λ word. CallGoesOn pass.old step.Probe passes pass.new) }
     ensures word { IfSome result (λ word. word ≡ word_met (call_of pass.old)) }
     ensures reached { IfSome result (λ word. ProbesAWord pass.old (call_of pass.old).op pass.new) }
-    ensures refused { IfNone result (Ends pass.old (fault_steps (call_of pass.old).op) (Some answer.Fault) pass.new) }
+    ensures refused { IfNone result (Ends pass.old (step.Probe ∷ refused_steps (call_of pass.old).op)
+        (Some answer.Fault) pass.new) }
     ensures unmapped { IfNone result (Probes pass.old (call_of pass.old).op pass.new Unmapped) }
 {
     match probe(table, pass, u, i) {

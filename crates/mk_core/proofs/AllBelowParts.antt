@@ -1,6 +1,6 @@
 -- Tests of each number below a sum.
 use Rattle.std.proofs.{Common.add-suc, Math.Bool.and-true, Math.Bool.and_assoc}
-use Rattle.mk_core.proofs.Vocabulary.{Bool, ℕ, all_below, arith, refl, suc, zero, ◌&&◌, ◌+◌, ◌-◌, ◌≡◌}
+use Rattle.mk_core.proofs.Vocabulary.{Bool, ℕ, all_below, arith, refl, suc, zero, ◌&&◌, ◌+◌, ◌≡◌}
 
 -- this many, and this many after them
 pub all_below-add : (a b : ℕ) (test : ℕ → Bool)

@@ -6,7 +6,8 @@ use Rattle.mk_core.proofs.Vocabulary.{not-true, pointed_cell, refl, slice_index,
 use Rattle.mk_core.proofs.{Vocabulary.{[], ◌++◌, ◌+◌, ◌<◌, ◌↔◌, ◌∷◌, ◌≡◌, ◌≤◌}, SmallCycles.{begun_in_stop, by_caller}}
 use Rattle.mk_core.proofs.SmallCycles.{by_host, first_marked, marked_in_stop, marker_in, small, three_objects}
 use Rattle.mk_core.proofs.{SmallCycles.written_beside, ListTests.list_all-at}
-use Rattle.mk_core.specs.Readings.{GateTells, Holds, NoneAttends, PhaseTells, TurnTells, WordsTellWhoHoldsWhat}
+use Rattle.mk_core.specs.Readings.{Holds, NoneAttends}
+use Rattle.mk_core.proofs.WhoHoldsWhat.{GateTells, PhaseTells, TurnTells, WordsTellWhoHoldsWhat}
 use Rattle.mk_core.specs.{Readings.is_in_turn, StopConditions.{is_attending, none_attends}, HeldGates.is_gate_held_from}
 use Rattle.mk_core.specs.{Moments.outside, declared.seats.Marker.Marker}
 

@@ -51,6 +51,7 @@ pub mod Steps
 pub mod Touched
 pub mod TouchedTests
 pub mod UnreleasedStorage
+pub mod WhoHoldsWhat
 pub mod Wiped
 pub mod WordBits
 pub mod Vocabulary

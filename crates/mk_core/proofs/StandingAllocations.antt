@@ -5,7 +5,7 @@ use Rattle.mk_core.proofs.Vocabulary.{base_made, cases_Bool, cell_ends, cell_of_
 use Rattle.mk_core.proofs.Vocabulary.{cells_under, class_made, class_words_of, cond-false, cond-true, false, header_at}
 use Rattle.mk_core.proofs.Vocabulary.{header_in, inl, inr, is_small_object, length, object_placed, page_at_address}
 use Rattle.mk_core.proofs.Vocabulary.{pages_made, pointed_cell, refl, storage_of, subst, sym, true, true≢false}
-use Rattle.mk_core.proofs.Vocabulary.{unmapped_header, words_made, words_under, zero, [], ◌%◌, ◌*◌, ◌+◌, ◌-◌, ◌/◌, ◌<◌}
+use Rattle.mk_core.proofs.Vocabulary.{unmapped_header, words_made, words_under, [], ◌%◌, ◌*◌, ◌+◌, ◌-◌, ◌/◌, ◌<◌}
 use Rattle.mk_core.proofs.{Vocabulary.{◌∙◌, ◌≡◌, ◌≤◌, ◌⊎◌}, Sizes.{class_known, large_cells, large_count}}
 use Rattle.mk_core.proofs.Sizes.{large_is_not_small, large_words, pages_some, small_cells, small_pages, small_words}
 use Rattle.mk_core.proofs.Sizes.{words_are_small, words_hold, words_within}

@@ -5,13 +5,10 @@ use Rattle.mk_never.specs.{declared.operations.Op.Op, Types.{kinds_of, is_large}
 use Rattle.mk_geom.specs.{declared.addresses.Cell.Cell, declared.pages.Place.Place, declared.pages.Census.Census}
 use Rattle.mk_geom.specs.{StorageWords.{held_by_storages, cell_of_storage}, Storages.{Storage, place_among_storages}}
 use Rattle.mk_geom.specs.{Storages.{census_of, Fits}, Addresses.address_of}
+use Rattle.mk_core.specs.{Cells.{pointed_cell, first_word, is_left_unmarked}, Moments.{Moment, flight_of}}
 use Rattle.mk_core.specs.{declared.config.Config.Config, declared.events.Step.Step, declared.events.Event.Event}
-use Rattle.mk_core.specs.{declared.seats.Flight.Flight, Words.Words, Bounded.is_some_and}
-use Rattle.mk_core.specs.{Cells.{pointed_cell, first_word, is_left_unmarked}, NewPlaces.object_of}
+use Rattle.mk_core.specs.{declared.seats.Flight.Flight, Words.Words, Bounded.is_some_and, NewPlaces.object_of}
 use Rattle.mk_core.specs.{ObjectHeaders.words_made, TurnConditions.cell_freed, Accesses.granted_base}
-use Rattle.mk_core.specs.Moments.{Moment, flight_of}
-use Rattle.mk_never.specs.declared.operations.Op.TheVariants as op
-use Rattle.mk_core.specs.declared.events.Step.TheVariants as step
 
 -- The heap word whose address its grant stored, its type, whether it was freed, whether that was after the last
 -- `begin`, and whether a `release` released it.
@@ -32,7 +29,7 @@ placed_at xs i = slice_index_or xs i never_granted
 
 -- the type of the object that a New makes
 abbrev pub type_made : Op → ℕ
-type_made (op.New d ty full) = ty
+type_made (Op.New d ty full) = ty
 type_made _ = 0
 
 -- the allocation that a grant adds
@@ -69,10 +66,10 @@ no_longer_fresh a = record a { fresh = false }
 
 -- the allocations after a step of a seat whose call is f
 abbrev pub allocations_by : Config → Moment → Flight → Step → List PlacedAllocation → List PlacedAllocation
-allocations_by c m f step.Grant xs = xs ++ granted c m f ∷ []
-allocations_by c m f (step.Quar p v) xs = map (freed_where_it_stands m.words (cell_freed c.pages m.words f p v)) xs
-allocations_by c m f step.Begin xs = map no_longer_fresh xs
-allocations_by c m f step.Release xs = map (with_released c m.words) xs
+allocations_by c m f Step.Grant xs = xs ++ granted c m f ∷ []
+allocations_by c m f (Step.Quar p v) xs = map (freed_where_it_stands m.words (cell_freed c.pages m.words f p v)) xs
+allocations_by c m f Step.Begin xs = map no_longer_fresh xs
+allocations_by c m f Step.Release xs = map (with_released c m.words) xs
 allocations_by c m f _ xs = xs
 
 -- the allocations after an event

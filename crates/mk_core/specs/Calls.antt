@@ -7,80 +7,64 @@ use Rattle.mk_core.specs.{declared.config.Config.Config, declared.events.Answer.
 use Rattle.mk_core.specs.declared.seats.Stage.TheVariants.{Idle, LoadQ, LoadP, LoadR, Probe, Read, Write, Cas, Getg}
 use Rattle.mk_core.specs.declared.seats.Stage.TheVariants.{Setg, Store, Put, Dirty, Leave, Turn, Give}
 use Rattle.mk_core.specs.{declared.seats.Flight.Flight, declared.seats.Progress.Progress}
-use Rattle.mk_never.specs.declared.operations.Op.TheVariants as op
-use Rattle.mk_core.specs.declared.events.Answer.TheVariants as answer
 
--- the registers q, p, r and d of an operation, its global, and its offset in words; 0 if it has none
-
--- the register q of an operation, as its instruction names it
+-- the register q of an operation, as its instruction names it; 0 if it has none, as with all of these
 abbrev pub q_of : Op → ℕ
-q_of (op.GetNum q i) = q
-q_of (op.SetNum q i n) = q
-q_of (op.GetPtr d q i) = q
-q_of (op.SetPtr q i p) = q
-q_of (op.CasPtr q i p r) = q
-q_of (op.Lea d q i) = q
-q_of (op.Move d q) = q
-q_of (op.Same p q) = q
+q_of (Op.GetNum q i) = q
+q_of (Op.SetNum q i n) = q
+q_of (Op.GetPtr d q i) = q
+q_of (Op.SetPtr q i p) = q
+q_of (Op.CasPtr q i p r) = q
+q_of (Op.Lea d q i) = q
+q_of (Op.Move d q) = q
+q_of (Op.Same p q) = q
 q_of _ = 0
 
 -- its register p
 abbrev pub p_of : Op → ℕ
-p_of (op.Free p) = p
-p_of (op.SetPtr q i p) = p
-p_of (op.CasPtr q i p r) = p
-p_of (op.SetGlobal g p) = p
-p_of (op.Same p q) = p
-p_of (op.IsNull p) = p
+p_of (Op.Free p) = p
+p_of (Op.SetPtr q i p) = p
+p_of (Op.CasPtr q i p r) = p
+p_of (Op.SetGlobal g p) = p
+p_of (Op.Same p q) = p
+p_of (Op.IsNull p) = p
 p_of _ = 0
 
 -- its register r
 abbrev pub r_of : Op → ℕ
-r_of (op.CasPtr q i p r) = r
+r_of (Op.CasPtr q i p r) = r
 r_of _ = 0
 
 -- the register that it sets
 abbrev pub d_of : Op → ℕ
-d_of (op.New d ty full) = d
-d_of (op.GetPtr d q i) = d
-d_of (op.Lea d q i) = d
-d_of (op.Move d q) = d
-d_of (op.Clear d) = d
-d_of (op.GetGlobal d g) = d
+d_of (Op.New d ty full) = d
+d_of (Op.GetPtr d q i) = d
+d_of (Op.Lea d q i) = d
+d_of (Op.Move d q) = d
+d_of (Op.Clear d) = d
+d_of (Op.GetGlobal d g) = d
 d_of _ = 0
 
 -- its global
 abbrev pub g_of : Op → ℕ
-g_of (op.GetGlobal d g) = g
-g_of (op.SetGlobal g p) = g
+g_of (Op.GetGlobal d g) = g
+g_of (Op.SetGlobal g p) = g
 g_of _ = 0
 
 -- its distance in words
 abbrev pub i_of : Op → ℕ
-i_of (op.GetNum q i) = i
-i_of (op.SetNum q i n) = i
-i_of (op.GetPtr d q i) = i
-i_of (op.SetPtr q i p) = i
-i_of (op.CasPtr q i p r) = i
-i_of (op.Lea d q i) = i
+i_of (Op.GetNum q i) = i
+i_of (Op.SetNum q i n) = i
+i_of (Op.GetPtr d q i) = i
+i_of (Op.SetPtr q i p) = i
+i_of (Op.CasPtr q i p r) = i
+i_of (Op.Lea d q i) = i
 i_of _ = 0
 
 -- the type of a New exists
 abbrev pub has_type : Config → Op → Bool
-has_type c (op.New d ty full) = nat_lt ty (length c.types)
-has_type c (op.Free p) = true
-has_type c (op.GetNum q i) = true
-has_type c (op.SetNum q i n) = true
-has_type c (op.GetPtr d q i) = true
-has_type c (op.SetPtr q i p) = true
-has_type c (op.CasPtr q i p r) = true
-has_type c (op.Lea d q i) = true
-has_type c (op.Move d q) = true
-has_type c (op.Clear d) = true
-has_type c (op.GetGlobal d g) = true
-has_type c (op.SetGlobal g p) = true
-has_type c (op.Same p q) = true
-has_type c (op.IsNull p) = true
+has_type c (Op.New d ty full) = nat_lt ty (length c.types)
+has_type c _ = true
 
 -- the registers, the global and the type of an operation are there
 abbrev pub has_operands : Config → Op → Bool
@@ -90,26 +74,26 @@ has_operands c o =
 
 -- a call of the operation begins with `take`, and else with `enter`
 abbrev pub is_under_turn : Op → Bool
-is_under_turn (op.New d ty full) = true
-is_under_turn (op.Free p) = true
+is_under_turn (Op.New d ty full) = true
+is_under_turn (Op.Free p) = true
 is_under_turn _ = false
 
 -- the steps after that one, in order
 abbrev pub steps_of : Op → List Stage
-steps_of (op.GetNum q i) = LoadQ ∷ Probe ∷ Read ∷ Leave ∷ []
-steps_of (op.GetPtr d q i) = LoadQ ∷ Probe ∷ Read ∷ Put ∷ Leave ∷ []
-steps_of (op.SetNum q i n) = LoadQ ∷ Probe ∷ Write ∷ Dirty ∷ Leave ∷ []
-steps_of (op.SetPtr q i p) = LoadQ ∷ LoadP ∷ Probe ∷ Write ∷ Dirty ∷ Leave ∷ []
-steps_of (op.CasPtr q i p r) = LoadQ ∷ LoadP ∷ LoadR ∷ Probe ∷ Cas ∷ Dirty ∷ Leave ∷ []
-steps_of (op.Lea d q i) = LoadQ ∷ Store ∷ Leave ∷ []
-steps_of (op.Move d q) = LoadQ ∷ Store ∷ Leave ∷ []
-steps_of (op.Clear d) = Store ∷ Leave ∷ []
-steps_of (op.GetGlobal d g) = Getg ∷ Put ∷ Leave ∷ []
-steps_of (op.SetGlobal g p) = LoadP ∷ Setg ∷ Leave ∷ []
-steps_of (op.Same p q) = LoadP ∷ LoadQ ∷ Leave ∷ []
-steps_of (op.IsNull p) = LoadP ∷ Leave ∷ []
-steps_of (op.New d ty full) = Turn ∷ Give ∷ []
-steps_of (op.Free p) = LoadP ∷ Turn ∷ Give ∷ []
+steps_of (Op.GetNum q i) = LoadQ ∷ Probe ∷ Read ∷ Leave ∷ []
+steps_of (Op.GetPtr d q i) = LoadQ ∷ Probe ∷ Read ∷ Put ∷ Leave ∷ []
+steps_of (Op.SetNum q i n) = LoadQ ∷ Probe ∷ Write ∷ Dirty ∷ Leave ∷ []
+steps_of (Op.SetPtr q i p) = LoadQ ∷ LoadP ∷ Probe ∷ Write ∷ Dirty ∷ Leave ∷ []
+steps_of (Op.CasPtr q i p r) = LoadQ ∷ LoadP ∷ LoadR ∷ Probe ∷ Cas ∷ Dirty ∷ Leave ∷ []
+steps_of (Op.Lea d q i) = LoadQ ∷ Store ∷ Leave ∷ []
+steps_of (Op.Move d q) = LoadQ ∷ Store ∷ Leave ∷ []
+steps_of (Op.Clear d) = Store ∷ Leave ∷ []
+steps_of (Op.GetGlobal d g) = Getg ∷ Put ∷ Leave ∷ []
+steps_of (Op.SetGlobal g p) = LoadP ∷ Setg ∷ Leave ∷ []
+steps_of (Op.Same p q) = LoadP ∷ LoadQ ∷ Leave ∷ []
+steps_of (Op.IsNull p) = LoadP ∷ Leave ∷ []
+steps_of (Op.New d ty full) = Turn ∷ Give ∷ []
+steps_of (Op.Free p) = LoadP ∷ Turn ∷ Give ∷ []
 
 -- they are one stage
 abbrev pub is_same_stage : Stage → Stage → Bool
@@ -143,13 +127,13 @@ stage_behind stage (s ∷ ss) = if is_same_stage s stage then first_of ss else s
 
 -- the stage after a refusal: a register that would have been loaded becomes null first
 abbrev pub stage_refused : Op → Stage
-stage_refused (op.GetPtr d q i) = Put
-stage_refused (op.Lea d q i) = Put
+stage_refused (Op.GetPtr d q i) = Put
+stage_refused (Op.Lea d q i) = Put
 stage_refused _ = Leave
 
 -- no call
 abbrev pub at_rest : Flight
-at_rest = record { stage = Idle; op = op.IsNull 0; q = 0; p = 0; r = 0; loaded = 0 }
+at_rest = record { stage = Idle; op = Op.IsNull 0; q = 0; p = 0; r = 0; loaded = 0 }
 
 -- the flight of a call that begins
 abbrev pub begun : Op → Flight
@@ -165,13 +149,13 @@ page_met f = word_met f / 64
 
 -- what the deciding store puts into d
 abbrev pub value_for : Flight → Op → ℕ
-value_for f (op.Lea d q i) = (f.q + 8 * i) % 2 ^ 64
-value_for f (op.Move d q) = f.q
+value_for f (Op.Lea d q i) = (f.q + 8 * i) % 2 ^ 64
+value_for f (Op.Move d q) = f.q
 value_for f _ = 0
 
 -- what a write stores
 abbrev pub value_written : Flight → Op → ℕ
-value_written f (op.SetNum q i n) = n
+value_written f (Op.SetNum q i n) = n
 value_written f _ = f.p
 
 -- the next step of the call, undecided or decided by this answer
@@ -193,17 +177,17 @@ one_if false = 0
 
 -- `reg` that loads q and finds this value
 abbrev pub progress_q : Flight → Op → ℕ → Progress
-progress_q f (op.Move d q) found = onward (record f { q = found }) None
-progress_q f (op.Same p q) found = onward (record f { q = found }) (Some (answer.Num (one_if (f.p == found))))
-progress_q f _ found = if found == 0 then refused (record f { q = found }) answer.Null
+progress_q f (Op.Move d q) found = onward (record f { q = found }) None
+progress_q f (Op.Same p q) found = onward (record f { q = found }) (Some (Answer.Num (one_if (f.p == found))))
+progress_q f _ found = if found == 0 then refused (record f { q = found }) Answer.Null
     else onward (record f { q = found }) None
 
 -- `reg` that loads p
 abbrev pub progress_p : Flight → Op → ℕ → Progress
-progress_p f (op.IsNull p) found = onward (record f { p = found }) (Some (answer.Num (one_if (found == 0))))
-progress_p f (op.Free p) found =
+progress_p f (Op.IsNull p) found = onward (record f { p = found }) (Some (Answer.Num (one_if (found == 0))))
+progress_p f (Op.Free p) found =
     if found == 0
-    then record { flight = record f { stage = Give; p = found }; answer = Some answer.Done }
+    then record { flight = record f { stage = Give; p = found }; answer = Some Answer.Done }
     else onward (record f { p = found }) None
 progress_p f _ found = onward (record f { p = found }) None
 
@@ -212,19 +196,19 @@ abbrev pub progress_reg : Flight → Stage → ℕ → Progress
 progress_reg f LoadQ found = progress_q f f.op found
 progress_reg f LoadP found = progress_p f f.op found
 progress_reg f LoadR found = onward (record f { r = found }) None
-progress_reg f Store found = onward f (Some answer.Done)
+progress_reg f Store found = onward f (Some Answer.Done)
 progress_reg f Put found = record { flight = record f { stage = Leave }; answer = None }
 progress_reg f _ found = still f
 
 -- `read`: a number is the answer, and a pointer is put into d besides
 abbrev pub progress_read : Flight → Op → ℕ → Progress
-progress_read f (op.GetPtr d q i) found = onward (record f { loaded = found }) (Some (answer.Word found))
-progress_read f _ found = onward f (Some (answer.Num found))
+progress_read f (Op.GetPtr d q i) found = onward (record f { loaded = found }) (Some (Answer.Word found))
+progress_read f _ found = onward f (Some (Answer.Num found))
 
 -- what `cas` makes of the call
 abbrev pub progress_cas : Flight → ℕ → Progress
-progress_cas f found = onward f (Some (answer.Num (one_if (found == f.p))))
+progress_cas f found = onward f (Some (Answer.Num (one_if (found == f.p))))
 
 -- what `getg` makes of the call
 abbrev pub progress_getg : Flight → ℕ → Progress
-progress_getg f found = onward (record f { loaded = found }) (Some (answer.Word found))
+progress_getg f found = onward (record f { loaded = found }) (Some (Answer.Word found))

@@ -1,8 +1,8 @@
 -- Cells and runs as the words show them.
-use Rattle.std.specs.Prelude.{ℕ, ◌+◌, ◌-◌, ◌*◌, ◌/◌, ◌^◌, Bool, true, false, ◌&&◌, ◌||◌, not, ◌==◌, nat_le, nat_lt}
-use Rattle.std.specs.Prelude.{List, Option, Some, None, if◌then◌else◌, slice_index, slice_index_or}
+use Rattle.std.specs.Prelude.{ℕ, ◌+◌, ◌-◌, ◌*◌, ◌/◌, ◌^◌, Bool, true, false, ◌&&◌, ◌||◌, ◌==◌, nat_le, nat_lt, List}
+use Rattle.std.specs.Prelude.{Option, Some, None, if◌then◌else◌, slice_index, slice_index_or}
 use Rattle.mk_geom.specs.{declared.addresses.Cell.Cell, declared.headers.Header.Header}
-use Rattle.mk_geom.specs.declared.headers.Header.TheVariants.{Block, Run, Later, LeafBlock, LeafRun}
+use Rattle.mk_geom.specs.declared.headers.Header.TheVariants.{Block, Run, LeafBlock, LeafRun}
 use Rattle.mk_geom.specs.{declared.pages.Page.Page, Storages.free_page, Classes.{cells_of, class_words_of}}
 use Rattle.mk_geom.specs.{Headers.header_of, Addresses.{cell_at, page_at_address, head_page_under}}
 pub use Rattle.mk_geom.specs.Headers.{is_unmapped_header}

@@ -6,8 +6,7 @@ use Rattle.mk_core.specs.{declared.config.Config.Config, declared.events.Seat.Th
 use Rattle.mk_core.specs.{Bounded.is_some_and, Words.Words, Calls.page_met, Cells.{header_in, cells_under, words_under}}
 use Rattle.mk_core.specs.Cells.{has_no_pointers, pointed_cell, is_marked, points_well, word_points_well}
 use Rattle.mk_core.specs.{Moments.{Moment, flight_of, is_phase}, Allocations.{PlacedAllocation, placed_at, is_mapped}}
-use Rattle.mk_core.specs.{Allocations.storage_of, History.World}
-use Rattle.mk_core.specs.declared.seats.Stage.TheVariants as stage
+use Rattle.mk_core.specs.{Allocations.storage_of, History.World, declared.seats.Stage.Stage}
 
 -- the cell at the allocation's first word is marked
 abbrev pub is_marked_allocation : Config → Words → PlacedAllocation → Bool
@@ -29,7 +28,7 @@ pub record MarksAreClosed (c : Config) (w : World) : Type 0 where
 
 -- A caller has written to the page, or exchanged, and has still to mark it dirty.
 abbrev pub OwesDirty : Moment → ℕ → ℕ → Type 0
-OwesDirty m k page = ((flight_of m (Caller k)).stage ≡ stage.Dirty) × (page_met (flight_of m (Caller k)) ≡ page)
+OwesDirty m k page = ((flight_of m (Caller k)).stage ≡ Stage.Dirty) × (page_met (flight_of m (Caller k)) ≡ page)
 
 -- The heap word points well, or its page is dirty, or a call in flight owes the page its dirty mark.
 pub data IsGuarded (c : Config) (m : Moment) (n : ℕ) : Type 0 where

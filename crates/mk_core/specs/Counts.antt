@@ -5,10 +5,6 @@ use Rattle.mk_core.specs.{declared.config.Config.Config, declared.events.Answer.
 use Rattle.mk_core.specs.{declared.events.Event.Event, declared.seats.Flight.Flight, Moments.{Moment, flight_of}}
 use Rattle.mk_core.specs.{TurnConditions.cell_freed, Allocations.{PlacedAllocation, held_by_allocations}}
 use Rattle.mk_core.specs.{Allocations.fresh_words_of, Decided.answered, History.{left, calls}, Cycles.is_end}
-use Rattle.mk_core.specs.declared.events.Answer.TheVariants as answer
-use Rattle.mk_core.specs.declared.events.Step.TheVariants as step
-
--- how many cycles have ended, how many allocations are released, and how many calls were answered Full
 
 -- how many cycles ended
 abbrev pub ends : List Event → ℕ
@@ -20,7 +16,7 @@ releases xs = count_by (λ (a : PlacedAllocation). a.released) xs
 
 -- it is Full
 abbrev pub is_full_answer : Answer → Bool
-is_full_answer answer.Full = true
+is_full_answer Answer.Full = true
 is_full_answer _ = false
 
 -- how many calls were answered Full
@@ -41,7 +37,7 @@ pub record TalliesAreTidy (c : Config) (es : List Event) : Type 0 where
 abbrev pub IsTidy : Config → List Event → Type 0
 IsTidy c es =
     (before : List Event) (e : Event) (behind : List Event)
-    → es ≡ before ++ e ∷ behind → e.step ≡ step.Give → TalliesAreTidy c before
+    → es ≡ before ++ e ∷ behind → e.step ≡ Step.Give → TalliesAreTidy c before
 
 -- The tallies of held and fresh words are those of the allocations.
 pub record TalliesAreExact (c : Config) (es : List Event) : Type 0 where
@@ -50,7 +46,7 @@ pub record TalliesAreExact (c : Config) (es : List Event) : Type 0 where
 
 -- the step decides that a Free has freed its object
 abbrev pub decides_freed : Config → Moment → Flight → Step → Bool
-decides_freed c m f (step.Quar p v) = is_some (cell_freed c.pages m.words f p v)
+decides_freed c m f (Step.Quar p v) = is_some (cell_freed c.pages m.words f p v)
 decides_freed c m f _ = false
 
 -- A free is due if more than a quarter of the held words is fresh after the event that decides it.

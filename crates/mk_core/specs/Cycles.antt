@@ -8,33 +8,30 @@ use Rattle.mk_core.specs.{declared.seats.Source.TheVariants.Unmarked, declared.s
 use Rattle.mk_core.specs.{Moments.{Moment, flight_of}, NewPlaces.object_made, TurnConditions.place_now}
 use Rattle.mk_core.specs.{StopConditions.marks_place, Allocations.{PlacedAllocation, placed_at}}
 use Rattle.mk_core.specs.{History.{World, world_behind, left}, Growing.is_same_seat}
-use Rattle.mk_core.specs.declared.events.Step.TheVariants as step
-
--- kinds of step
 
 -- it is a `begin`
 abbrev pub is_begin : Step → Bool
-is_begin step.Begin = true
+is_begin Step.Begin = true
 is_begin _ = false
 
 -- it is a `close`
 abbrev pub is_close : Step → Bool
-is_close step.Close = true
+is_close Step.Close = true
 is_close _ = false
 
 -- it is a `release`
 abbrev pub is_release : Step → Bool
-is_release step.Release = true
+is_release Step.Release = true
 is_release _ = false
 
 -- it is an `end`
 abbrev pub is_end : Step → Bool
-is_end step.End = true
+is_end Step.End = true
 is_end _ = false
 
 -- it is a `give`
 abbrev pub is_give : Step → Bool
-is_give step.Give = true
+is_give Step.Give = true
 is_give _ = false
 
 -- An event of a kind in a list: what stands before it, the event, and what stands after it.
@@ -98,7 +95,7 @@ pub record TurnOf (c : Config) (s : Seat) (es : List Event) : Type 0 where
   pub before : List Event
   pub op : Option Op
   pub behind : List Event
-  pub is : es ≡ before ++ record { seat = s; step = step.Take op } ∷ behind
+  pub is : es ≡ before ++ record { seat = s; step = Step.Take op } ∷ behind
   pub took : (left c before).now.words.turn ≡ 0
   pub goes_on : list_any (λ (e : Event). is_same_seat s e.seat && is_give e.step) behind ≡ false
 
@@ -117,7 +114,7 @@ is_unmarked _ = false
 
 -- a step that marks from a word of an unmarked cell
 abbrev pub sweeps : Config → Moment → Flight → Step → Bool
-sweeps c m f (step.Mark p v) =
+sweeps c m f (Step.Mark p v) =
     is_some_and (λ (hand : Hand). is_unmarked hand.source) m.seats.holding.hand
     && not (marks_place m.words (object_made c f.op) (place_now c m f) p v)
 sweeps c m f _ = false

@@ -2,8 +2,6 @@
 use Rattle.std.specs.Prelude.{ℕ, true, false, List, [], ◌∷◌, map, Option, Some, None}
 use Rattle.mk_never.specs.{declared.operations.Op.Op, NeverHeap.Call}
 use Rattle.mk_core.specs.declared.events.Answer.{Answer}
-use Rattle.mk_never.specs.declared.operations.Op.TheVariants as op
-use Rattle.mk_core.specs.declared.events.Answer.TheVariants as answer
 
 -- A decided call: its caller, its operation and its answer.
 pub record Decided : Type 0 where
@@ -13,8 +11,8 @@ pub record Decided : Type 0 where
 
 -- Whether a New is full says its answer.
 abbrev pub flagged : Op → Answer → Op
-flagged (op.New d ty full) answer.Full = op.New d ty true
-flagged (op.New d ty full) _ = op.New d ty false
+flagged (Op.New d ty full) Answer.Full = Op.New d ty true
+flagged (Op.New d ty full) _ = Op.New d ty false
 flagged o _ = o
 
 -- the entry of a call that is decided with this answer, or none

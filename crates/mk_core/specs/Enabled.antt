@@ -2,103 +2,46 @@
 use Rattle.std.specs.Prelude.{◌≡◌, ◌↔◌, ℕ, Bool, true, ◌&&◌, not, if◌then◌else◌}
 use Rattle.mk_core.specs.{declared.config.Config.Config, declared.events.Seat.Seat, declared.events.Step.Step}
 use Rattle.mk_core.specs.{declared.events.Event.Event, declared.seats.Flight.Flight, Words.phase_of}
-use Rattle.mk_core.specs.{Moments.{Moment, flight_of, marker_at}, Order.{seat_exists, group_of, is_open_to}}
-use Rattle.mk_core.specs.{Order.is_in_order, Ranges.{is_in_range, has_gates, has_phase}}
-use Rattle.mk_core.specs.{NewPlaces.{object_made, is_run_gone}, TurnConditions.{may_head, may_use, may_quarantine}}
-use Rattle.mk_core.specs.TurnConditions.{may_give, may_wipe, may_answer_full, is_used_once}
+use Rattle.mk_core.specs.{declared.seats.Marker.Marker as MarkerState, NewPlaces.{object_made, is_run_gone}}
+use Rattle.mk_core.specs.{Moments.{Moment, flight_of, marker_at}, Ranges.{is_in_range, has_gates, has_phase}}
+use Rattle.mk_core.specs.{Order.{seat_exists, group_of, is_open_to, is_in_order}, TurnConditions.{may_head, may_use}}
+use Rattle.mk_core.specs.TurnConditions.{may_quarantine, may_give, may_wipe, may_answer_full, is_used_once}
 use Rattle.mk_core.specs.StopConditions.{may_mark, may_begin, may_close, may_end, may_undirty, may_black, may_unblack}
 use Rattle.mk_core.specs.MarkerConditions.{is_out, may_mlook, may_claim, may_mload, may_mmark, may_mblack, may_end_all}
-use Rattle.mk_core.specs.declared.events.Step.TheVariants as step
-use Rattle.mk_core.specs.declared.seats.Marker.{Marker as MarkerState}
 
 -- condition 7 for the kinds of a marker
 abbrev pub marker_may : Config → MarkerState → Step → Bool
-marker_may c x step.Attend = is_out x.presence
-marker_may c x step.Quit = not (is_out x.presence)
-marker_may c x (step.Mlook w) = may_mlook x w
-marker_may c x (step.Claim p k) = may_claim x p k
-marker_may c x step.Mload = may_mload x
-marker_may c x step.Mmark = may_mmark c x
-marker_may c x step.Mblack = may_mblack x
+marker_may c x Step.Attend = is_out x.presence
+marker_may c x Step.Quit = not (is_out x.presence)
+marker_may c x (Step.Mlook w) = may_mlook x w
+marker_may c x (Step.Claim p k) = may_claim x p k
+marker_may c x Step.Mload = may_mload x
+marker_may c x Step.Mmark = may_mmark c x
+marker_may c x Step.Mblack = may_mblack x
 -- all other kinds, which are no marker's
-marker_may c x (step.Enter o) = true
-marker_may c x step.Leave = true
-marker_may c x step.Reg = true
-marker_may c x step.Probe = true
-marker_may c x step.Read = true
-marker_may c x step.Write = true
-marker_may c x step.Cas = true
-marker_may c x step.Getg = true
-marker_may c x step.Setg = true
-marker_may c x (step.Take o) = true
-marker_may c x step.Give = true
-marker_may c x (step.Look y) = true
-marker_may c x (step.Head p v) = true
-marker_may c x (step.Used p v) = true
-marker_may c x (step.Quar p v) = true
-marker_may c x step.Grant = true
-marker_may c x (step.Tally n v) = true
-marker_may c x (step.Hold j) = true
-marker_may c x (step.Open j) = true
-marker_may c x (step.Clear p) = true
-marker_may c x (step.Mark p v) = true
-marker_may c x (step.Wipe n) = true
-marker_may c x step.Full = true
-marker_may c x step.Begin = true
-marker_may c x step.Close = true
-marker_may c x step.Release = true
-marker_may c x step.End = true
-marker_may c x step.Want = true
-marker_may c x step.Dirty = true
-marker_may c x (step.Undirty p) = true
-marker_may c x (step.Black p v) = true
-marker_may c x (step.Unblack p) = true
-marker_may c x step.Over = true
+marker_may c x _ = true
 
 -- condition 7 for the kinds of the turn's holder, if its call is f
 abbrev pub holder_may : Config → Moment → Flight → Step → Bool
-holder_may c m f step.Give = may_give m f
-holder_may c m f (step.Head p v) = may_head c m f p v
-holder_may c m f (step.Used p v) = may_use c m f p v
-holder_may c m f (step.Quar p v) = may_quarantine c m f p v
-holder_may c m f step.Grant = is_used_once m.seats.holding.placing
-holder_may c m f (step.Open j) = is_run_gone m.words m.seats.holding.freed
-holder_may c m f (step.Mark p v) = may_mark c m f p v
-holder_may c m f (step.Wipe n) = may_wipe c m n
-holder_may c m f step.Full =
+holder_may c m f Step.Give = may_give m f
+holder_may c m f (Step.Head p v) = may_head c m f p v
+holder_may c m f (Step.Used p v) = may_use c m f p v
+holder_may c m f (Step.Quar p v) = may_quarantine c m f p v
+holder_may c m f Step.Grant = is_used_once m.seats.holding.placing
+holder_may c m f (Step.Open j) = is_run_gone m.words m.seats.holding.freed
+holder_may c m f (Step.Mark p v) = may_mark c m f p v
+holder_may c m f (Step.Wipe n) = may_wipe c m n
+holder_may c m f Step.Full =
     may_answer_full c.resident m.words.pages (object_made c f.op) m.seats.holding.placing m.seats.holding.cycle
-holder_may c m f step.Begin = may_begin c.pages m.words
-holder_may c m f step.Close = may_close c m
-holder_may c m f step.End = may_end c.pages m.words
-holder_may c m f (step.Undirty p) = may_undirty m p
-holder_may c m f (step.Black p v) = may_black c m p v
-holder_may c m f (step.Unblack p) = may_unblack m
-holder_may c m f step.Over = may_end_all c m
+holder_may c m f Step.Begin = may_begin c.pages m.words
+holder_may c m f Step.Close = may_close c m
+holder_may c m f Step.End = may_end c.pages m.words
+holder_may c m f (Step.Undirty p) = may_undirty m p
+holder_may c m f (Step.Black p v) = may_black c m p v
+holder_may c m f (Step.Unblack p) = may_unblack m
+holder_may c m f Step.Over = may_end_all c m
 -- kinds that ask no more than conditions 1 to 6, and those of callers and markers
-holder_may c m f (step.Enter o) = true
-holder_may c m f step.Leave = true
-holder_may c m f step.Reg = true
-holder_may c m f step.Probe = true
-holder_may c m f step.Read = true
-holder_may c m f step.Write = true
-holder_may c m f step.Cas = true
-holder_may c m f step.Getg = true
-holder_may c m f step.Setg = true
-holder_may c m f (step.Take o) = true
-holder_may c m f (step.Look x) = true
-holder_may c m f (step.Tally n v) = true
-holder_may c m f (step.Hold j) = true
-holder_may c m f (step.Clear p) = true
-holder_may c m f step.Release = true
-holder_may c m f step.Want = true
-holder_may c m f step.Dirty = true
-holder_may c m f step.Attend = true
-holder_may c m f step.Quit = true
-holder_may c m f (step.Mlook x) = true
-holder_may c m f (step.Claim p k) = true
-holder_may c m f step.Mload = true
-holder_may c m f step.Mmark = true
-holder_may c m f step.Mblack = true
+holder_may c m f _ = true
 
 -- condition 7: each of the two is true of the other's kinds
 abbrev pub meets_own : Config → Moment → Seat → Step → Bool

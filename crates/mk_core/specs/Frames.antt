@@ -1,18 +1,15 @@
 -- The frame law: what the events of other seats leave to a seat, by what it is in the middle of.
 use Rattle.std.specs.Prelude.{◌≡◌, ◌≢◌, ◌⊎◌, ℕ, ◌/◌, ◌<◌, ◌≤◌, true, false, List, [], ◌∷◌, ◌++◌, slice_index, Some}
+use Rattle.mk_never.specs.{Reach.LeadsTo, NeverHeap.register_at}
 use Rattle.mk_geom.specs.{declared.pages.Page.Page, declared.addresses.Cell.Cell, Addresses.cell_at}
 use Rattle.mk_geom.specs.StorageWords.{IsWordOf}
-use Rattle.mk_never.specs.{Reach.LeadsTo, NeverHeap.register_at}
-use Rattle.mk_core.specs.{declared.config.Config.Config, declared.events.Seat.Seat}
-use Rattle.mk_core.specs.{declared.events.Seat.TheVariants.{Caller, Marker}, declared.events.Event.Event}
-use Rattle.mk_core.specs.{declared.seats.Flight.Flight, Bits.has_bit, Config.IsWithinLimits}
+use Rattle.mk_core.specs.{declared.config.Config.Config, declared.events.Seat.Seat, declared.events.Event.Event}
+use Rattle.mk_core.specs.{declared.seats.Flight.Flight, Bits.has_bit, StopConditions.is_attending, Growing.AreOfOthers}
+use Rattle.mk_core.specs.{declared.events.Seat.TheVariants.{Caller, Marker}, Counts.{ends, full_answers}}
 use Rattle.mk_core.specs.{Words.{register_word, header_at, phase_of}, Cells.{header_in, is_unmapped_header}}
-use Rattle.mk_core.specs.{Cells.points_well, Moments.{Moment, flight_of, marker_of, marker_at, others_are_held}}
-use Rattle.mk_core.specs.{StopConditions.is_attending, Allocations.{PlacedAllocation, placed_at, is_mapped, storage_of}}
-use Rattle.mk_core.specs.{History.{World, left, AreEnabled, never_behind, IsHistory}, Counts.{ends, full_answers}}
-use Rattle.mk_core.specs.{Growing.AreOfOthers, Readings.{is_in_call, Holds, is_in, NoneAttends}}
-
--- what a seat is in the middle of
+use Rattle.mk_core.specs.{Cells.points_well, Allocations.{PlacedAllocation, placed_at, is_mapped, storage_of}}
+use Rattle.mk_core.specs.{History.{World, left, never_behind, IsHistory}, Readings.{is_in_call, Holds, is_in}}
+use Rattle.mk_core.specs.{Readings.NoneAttends, Moments.{Moment, flight_of, marker_of, marker_at, others_are_held}}
 
 -- The seat is a caller in a call that needs no turn.
 abbrev pub IsInCall : Moment → Seat → Type 0
@@ -142,13 +139,6 @@ pub record IsLeft (c : Config) (s : Seat) (es fs : List Event) : Type 0 where
   pub stop : HoldsAll c (left c es).now s → written_of (left c fs) ≡ written_of (left c es)
   pub scan : Attends (left c es).now s → ScanIsLeft (left c es) (left c fs)
   pub visit : IsIn (left c es).now s → 1 ≤ (left c fs).now.words.phase / 8
-
--- What other seats leave to a seat, in each enabled list.
-abbrev pub OthersLeave : Type 0
-OthersLeave =
-    (c : Config) (es more : List Event) (s : Seat) → IsWithinLimits c → AreEnabled c (es ++ more)
-    → AreOfOthers (s ∷ []) more
-    → IsLeft c s es (es ++ more)
 
 -- What also needs admitted calls. The allocations to which a caller's registers lead stay unreleased while it is in a
 -- call, and mapped if they are.

@@ -2,11 +2,10 @@
 use Rattle.std.specs.Prelude.{ℕ, Bool, false, not, ◌==◌, if◌then◌else◌, List, [], ◌∷◌, slice_index}
 use Rattle.mk_core.specs.{declared.config.Config.Config, declared.events.Step.Step, declared.events.Event.Event}
 use Rattle.mk_core.specs.History.{World, first_world, world_behind}
-use Rattle.mk_core.specs.declared.events.Step.TheVariants as step
 
 -- it holds this caller's gate
 abbrev pub is_hold_of : ℕ → Step → Bool
-is_hold_of i (step.Hold j) = i == j
+is_hold_of i (Step.Hold j) = i == j
 is_hold_of i _ = false
 
 -- this caller's gate differs in the two worlds

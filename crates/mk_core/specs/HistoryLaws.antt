@@ -7,39 +7,20 @@ use Rattle.mk_core.specs.{NewPlaces.{object_of, is_small_object}, Decided.asked,
 use Rattle.mk_core.specs.History.{AreEnabledFrom, AreEnabled, calls_from, calls, never_first, never_behind}
 use Rattle.mk_core.specs.History.{CallsAreAdmitted, IsHistory}
 
--- What a list leaves is what its later part leaves after its earlier one.
-abbrev pub LeftInParts : Config → List Event → List Event → Type 0
-LeftInParts c es more = left c (es ++ more) ≡ left_from c (left c es) more
-
--- A list is enabled if its first part is, and its second part after that.
-abbrev pub EnabledInParts : Config → List Event → List Event → Type 0
-EnabledInParts c es more = AreEnabled c (es ++ more) ↔ (AreEnabled c es × AreEnabledFrom c (left c es) more)
-
--- Its calls are those of its first part and then those of its second.
-abbrev pub CallsInParts : Config → List Event → List Event → Type 0
-CallsInParts c es more = calls c (es ++ more) ≡ calls c es ++ calls_from c (left c es) more
-
--- The heap that never reuses storage after both is the one after the second part's calls.
-abbrev pub NeverInParts : Config → List Event → List Event → Type 0
-NeverInParts c es more = never_behind c (es ++ more)
-    ≡ after_calls (never_behind c es) (asked (calls_from c (left c es) more))
-
--- Its replies are those to the first part's calls and then those to the second's.
-abbrev pub NeverRepliesInParts : Config → List Event → List Event → Type 0
-NeverRepliesInParts c es more =
-    replies_of (never_first c) (asked (calls c (es ++ more)))
-    ≡ replies_of (never_first c) (asked (calls c es))
-    ++ replies_of (never_behind c es) (asked (calls_from c (left c es) more))
-
--- Its calls are admitted if the first part's are, and the second's after these.
-abbrev pub CallsAreAdmittedInParts : Config → List Event → List Event → Type 0
-CallsAreAdmittedInParts c es more =
-    CallsAreAdmitted c (es ++ more)
-    ↔ (CallsAreAdmitted c es × AreAdmitted c.globals (never_behind c es) (asked (calls_from c (left c es) more)))
-
--- The earlier part of a history is one.
-abbrev pub EarlierPartIsHistory : Config → List Event → List Event → Type 0
-EarlierPartIsHistory c es more = IsHistory c (es ++ more) → IsHistory c es
+-- A list of events in two parts: what it leaves, whether it is enabled, its calls, what they leave in the heap that
+-- never reuses storage, their replies, and whether they are admitted is as its earlier part has it, and then its later
+-- part after that. The earlier part of a history is a history.
+pub record IsOfTwoParts (c : Config) (es more : List Event) : Type 0 where
+  pub leaves : left c (es ++ more) ≡ left_from c (left c es) more
+  pub enabled : AreEnabled c (es ++ more) ↔ (AreEnabled c es × AreEnabledFrom c (left c es) more)
+  pub decides : calls c (es ++ more) ≡ calls c es ++ calls_from c (left c es) more
+  pub never : never_behind c (es ++ more) ≡ after_calls (never_behind c es) (asked (calls_from c (left c es) more))
+  pub replies : replies_of (never_first c) (asked (calls c (es ++ more)))
+      ≡ replies_of (never_first c) (asked (calls c es))
+      ++ replies_of (never_behind c es) (asked (calls_from c (left c es) more))
+  pub admitted : CallsAreAdmitted c (es ++ more)
+      ↔ (CallsAreAdmitted c es × AreAdmitted c.globals (never_behind c es) (asked (calls_from c (left c es) more)))
+  pub earlier : IsHistory c (es ++ more) → IsHistory c es
 
 -- A bit is in what is left of a word without another exactly if the word has it and the other hasn't.
 abbrev pub BitsWithout : Type 0

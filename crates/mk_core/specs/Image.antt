@@ -1,10 +1,10 @@
 -- The image of a reply of the heap that never reuses storage: that reply with a word in place of each value.
 use Rattle.std.specs.Prelude.{ℕ, ◌+◌, List, map, slice_index}
-use Rattle.mk_geom.specs.Addresses.{address_of}
 use Rattle.mk_never.specs.{declared.values.Value.Value, declared.values.Value.TheVariants.{Null, Num, Ptr}}
-use Rattle.mk_never.specs.{declared.operations.Reply.Reply, declared.operations.Reply.TheVariants.Double}
+use Rattle.mk_never.specs.{declared.operations.Reply.Reply, declared.operations.Reply.TheVariants.{Double, Done}}
+use Rattle.mk_never.specs.declared.operations.Reply.TheVariants.{Num as Number, Val, Full, Fault, Null as WasNull}
+use Rattle.mk_geom.specs.Addresses.{address_of}
 use Rattle.mk_core.specs.declared.events.Answer.{Answer}
-use Rattle.mk_never.specs.declared.operations.Reply.TheVariants.{Done, Num as Number, Val, Full, Fault, Null as WasNull}
 use Rattle.mk_core.specs.declared.events.Answer.TheVariants.{Done as IsDone, Num as IsNumber, Word, Full as IsFull}
 use Rattle.mk_core.specs.declared.events.Answer.TheVariants.{Fault as IsFault, Null as IsNull, Double as IsDouble}
 

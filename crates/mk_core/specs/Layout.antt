@@ -11,26 +11,25 @@ use Rattle.mk_core.specs.{declared.events.Word.Word, declared.accesses.TableWord
 use Rattle.mk_core.specs.{declared.accesses.TableWord.TheVariants.{Turn, Named}, declared.accesses.Access.Access}
 use Rattle.mk_core.specs.{declared.config.Config.Config, declared.events.Event.Event, History.left}
 use Rattle.mk_core.specs.Words.{Words, zero_words_of, quarantine_word, word_in, with_word_in, becomes, accessed}
-use Rattle.mk_core.specs.declared.events.Word.TheVariants as word
 
 -- the index of a word by its name, in a table of this many pages
 abbrev pub index_of_named : ℕ → Word → ℕ
-index_of_named pages word.Phase = 0
-index_of_named pages word.Held = 32
-index_of_named pages word.Fresh = 33
-index_of_named pages word.Cycles = 34
-index_of_named pages word.Released = 35
-index_of_named pages word.Full = 36
-index_of_named pages (word.Gate caller) = 48 + 16 * caller
-index_of_named pages (word.Reg caller r) = 304 + 16 * caller + r
-index_of_named pages (word.Global g) = 560 + g
-index_of_named pages (word.Head p) = 640 + p
-index_of_named pages (word.Used p) = 640 + pages + p
-index_of_named pages (word.Quar p) = 640 + 2 * pages + p
-index_of_named pages (word.Mark p) = 640 + 3 * pages + p
-index_of_named pages (word.Black p) = 640 + 4 * pages + p
-index_of_named pages (word.Dirty p) = 720 + 5 * pages + 72 * p
-index_of_named pages (word.Heap n) = 656 + 5 * pages + n + 8 * (n / 64)
+index_of_named pages Word.Phase = 0
+index_of_named pages Word.Held = 32
+index_of_named pages Word.Fresh = 33
+index_of_named pages Word.Cycles = 34
+index_of_named pages Word.Released = 35
+index_of_named pages Word.Full = 36
+index_of_named pages (Word.Gate caller) = 48 + 16 * caller
+index_of_named pages (Word.Reg caller r) = 304 + 16 * caller + r
+index_of_named pages (Word.Global g) = 560 + g
+index_of_named pages (Word.Head p) = 640 + p
+index_of_named pages (Word.Used p) = 640 + pages + p
+index_of_named pages (Word.Quar p) = 640 + 2 * pages + p
+index_of_named pages (Word.Mark p) = 640 + 3 * pages + p
+index_of_named pages (Word.Black p) = 640 + 4 * pages + p
+index_of_named pages (Word.Dirty p) = 720 + 5 * pages + 72 * p
+index_of_named pages (Word.Heap n) = 656 + 5 * pages + n + 8 * (n / 64)
 
 -- where the word is in the table
 abbrev pub index_of : ℕ → TableWord → ℕ
@@ -43,22 +42,18 @@ count_of_words pages = 656 + 77 * pages
 
 -- the name is one of a table of this many pages
 abbrev pub NamesWord : ℕ → Word → Type 0
-NamesWord pages word.Phase = ⊤
-NamesWord pages word.Held = ⊤
-NamesWord pages word.Fresh = ⊤
-NamesWord pages word.Cycles = ⊤
-NamesWord pages word.Released = ⊤
-NamesWord pages word.Full = ⊤
-NamesWord pages (word.Gate caller) = caller < 16
-NamesWord pages (word.Reg caller r) = (caller < 16) × (r < 8)
-NamesWord pages (word.Global g) = g < 64
-NamesWord pages (word.Head p) = p < pages
-NamesWord pages (word.Used p) = p < pages
-NamesWord pages (word.Quar p) = p < pages
-NamesWord pages (word.Mark p) = p < pages
-NamesWord pages (word.Black p) = p < pages
-NamesWord pages (word.Dirty p) = p < pages
-NamesWord pages (word.Heap n) = n < 64 * pages
+NamesWord pages (Word.Gate caller) = caller < 16
+NamesWord pages (Word.Reg caller r) = (caller < 16) × (r < 8)
+NamesWord pages (Word.Global g) = g < 64
+NamesWord pages (Word.Head p) = p < pages
+NamesWord pages (Word.Used p) = p < pages
+NamesWord pages (Word.Quar p) = p < pages
+NamesWord pages (Word.Mark p) = p < pages
+NamesWord pages (Word.Black p) = p < pages
+NamesWord pages (Word.Dirty p) = p < pages
+NamesWord pages (Word.Heap n) = n < 64 * pages
+-- words that there is one of
+NamesWord pages _ = ⊤
 
 -- The table has this word.
 abbrev pub IsOfTable : ℕ → TableWord → Type 0
@@ -173,24 +168,20 @@ pub data LineGroup : Type 0 where
   OfPage : (page : ℕ) → LineGroup
 
 -- the words that may share a cache line with this one
-abbrev pub line_group_of_named : Word → LineGroup
-line_group_of_named word.Phase = OfPhase
-line_group_of_named word.Held = OfTallies
-line_group_of_named word.Fresh = OfTallies
-line_group_of_named word.Cycles = OfTallies
-line_group_of_named word.Released = OfTallies
-line_group_of_named word.Full = OfTallies
-line_group_of_named (word.Gate caller) = OfGate caller
-line_group_of_named (word.Reg caller r) = OfRegisters caller
-line_group_of_named (word.Global g) = OfGlobals
-line_group_of_named (word.Dirty p) = OfPage p
-line_group_of_named (word.Heap n) = OfPage (n / 64)
-line_group_of_named _ = OfHeaders
-
--- the same of each word of the table
 abbrev pub line_group : TableWord → LineGroup
 line_group Turn = OfTurn
-line_group (Named name) = line_group_of_named name
+line_group (Named Word.Phase) = OfPhase
+line_group (Named Word.Held) = OfTallies
+line_group (Named Word.Fresh) = OfTallies
+line_group (Named Word.Cycles) = OfTallies
+line_group (Named Word.Released) = OfTallies
+line_group (Named Word.Full) = OfTallies
+line_group (Named (Word.Gate caller)) = OfGate caller
+line_group (Named (Word.Reg caller r)) = OfRegisters caller
+line_group (Named (Word.Global g)) = OfGlobals
+line_group (Named (Word.Dirty p)) = OfPage p
+line_group (Named (Word.Heap n)) = OfPage (n / 64)
+line_group (Named _) = OfHeaders
 
 -- Words of two groups stand at least eight words apart, so no line of eight has both, wherever the table begins.
 abbrev pub LineGroupsAreApart : Type 0

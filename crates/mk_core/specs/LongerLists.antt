@@ -2,15 +2,14 @@
 use Rattle.std.specs.Prelude.{◌≡◌, List, [], ◌∷◌, ◌++◌, is_some}
 use Rattle.mk_core.specs.{declared.config.Config.Config, declared.events.Event.Event, Accesses.{word_accessed, access}}
 use Rattle.mk_core.specs.{Layout.IsOfTable, Effects.answer_decided, History.{left, IsHistory}, Counts.IsTidy}
-use Rattle.mk_core.specs.Growing.{AreOfOthers}
-use Rattle.mk_core.specs.declared.events.Step.TheVariants as step
+use Rattle.mk_core.specs.{Growing.AreOfOthers, declared.events.Step.Step}
 
 -- What the event is after the one list, it is after the other.
 pub record IsStillTheSame (c : Config) (es fs : List Event) (e : Event) : Type 0 where
   pub word : word_accessed c (left c fs).now e ≡ word_accessed c (left c es).now e
   pub of_the_table : IsOfTable c.pages (word_accessed c (left c es).now e)
   pub access : access c (left c fs).now e ≡ access c (left c es).now e
-  pub decides : e.step ≡ step.Probe
+  pub decides : e.step ≡ Step.Probe
       → is_some (answer_decided c (left c fs).now e) ≡ is_some (answer_decided c (left c es).now e)
 
 -- An event that makes a history of the shorter list makes one of the longer one, whose further events are of other

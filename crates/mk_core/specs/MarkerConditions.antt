@@ -6,7 +6,6 @@ use Rattle.mk_core.specs.{declared.config.Config.Config, declared.events.Word.Wo
 use Rattle.mk_core.specs.{declared.seats.Presence.Presence, declared.seats.Presence.TheVariants.Out}
 use Rattle.mk_core.specs.{declared.seats.Scan.Scan, declared.seats.SeenHeader.SeenHeader, Cells.cells_under}
 use Rattle.mk_core.specs.{StopConditions.is_attending, Order.host_has_turn, Moments.{Moment, is_phase}}
-use Rattle.mk_core.specs.declared.events.Word.TheVariants as word
 
 -- the marker is out
 abbrev pub is_out : Presence → Bool
@@ -15,10 +14,10 @@ is_out _ = false
 
 -- the words that a marker looks at
 abbrev pub is_markers_word : Word → Bool
-is_markers_word word.Phase = true
-is_markers_word (word.Mark p) = true
-is_markers_word (word.Black p) = true
-is_markers_word (word.Head p) = true
+is_markers_word Word.Phase = true
+is_markers_word (Word.Mark p) = true
+is_markers_word (Word.Black p) = true
+is_markers_word (Word.Head p) = true
 is_markers_word _ = false
 
 -- the last look was at the page's header, and showed a cell of this index

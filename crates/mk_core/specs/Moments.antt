@@ -1,11 +1,10 @@
 -- A moment: the words of the table, and what each seat is in the middle of. It decides which event may come next.
 use Rattle.std.specs.Prelude.{ℕ, Bool, false, ◌||◌, not, ◌==◌, List, replicate, slice_index, slice_index_or, None}
-use Rattle.mk_core.specs.{declared.config.Config.Config, declared.events.Seat.Seat}
-use Rattle.mk_core.specs.{declared.events.Seat.TheVariants.{Caller, Marker, Host}, declared.seats.Flight.Flight}
+use Rattle.mk_core.specs.{Words.{Words, zero_words_of, phase_of}, declared.events.Seat.TheVariants.{Caller, Marker}}
+use Rattle.mk_core.specs.{declared.config.Config.Config, declared.events.Seat.Seat, declared.seats.Flight.Flight}
 use Rattle.mk_core.specs.{declared.seats.Holding.Holding, declared.seats.Placing.TheVariants.Unplaced}
 use Rattle.mk_core.specs.{declared.seats.OwnCycle.TheVariants.NotBegun, declared.seats.Presence.TheVariants.Out}
-use Rattle.mk_core.specs.{Words.{Words, zero_words_of, phase_of}, Calls.at_rest, Bounded.all_below}
-use Rattle.mk_core.specs.declared.seats.Marker.{Marker as MarkerState}
+use Rattle.mk_core.specs.{Calls.at_rest, Bounded.all_below, declared.seats.Marker.Marker as MarkerState}
 
 -- each caller's call, what the turn's holder has done, and the markers
 pub record Seats : Type 0 where
@@ -39,8 +38,7 @@ first_moment c =
 -- the call of a seat; a host and a marker have none
 abbrev pub flight_of : Moment → Seat → Flight
 flight_of m (Caller k) = slice_index_or m.seats.flights k at_rest
-flight_of m (Marker k) = at_rest
-flight_of m Host = at_rest
+flight_of m _ = at_rest
 
 -- what a marker is in the middle of
 abbrev pub marker_of : Moment → ℕ → MarkerState
@@ -54,14 +52,12 @@ marker_at m _ = outside
 -- the number by which the turn names its holder
 abbrev pub holder_number : Config → Seat → ℕ
 holder_number c (Caller k) = k
-holder_number c (Marker k) = c.callers
-holder_number c Host = c.callers
+holder_number c _ = c.callers
 
 -- the seat is the caller of this number
 abbrev pub is_number_of : Seat → ℕ → Bool
 is_number_of (Caller k) j = k == j
-is_number_of (Marker k) j = false
-is_number_of Host j = false
+is_number_of _ j = false
 
 -- the caller's gate is held
 abbrev pub is_held : Words → ℕ → Bool

@@ -10,7 +10,6 @@ use Rattle.mk_core.specs.{declared.seats.Stage.TheVariants.Turn, declared.seats.
 use Rattle.mk_core.specs.declared.seats.Placing.TheVariants.{Unplaced, Chosen, Used, Granted}
 use Rattle.mk_core.specs.{declared.seats.RunPages.RunPages, declared.seats.Object.Object, Words.{Words, header_at}}
 use Rattle.mk_core.specs.{Bounded.{all_below, is_none_or}, Cells.{pointed_cell, words_are_zero}}
-use Rattle.mk_never.specs.declared.operations.Op.TheVariants as op
 
 -- an object of these words
 abbrev pub object_of : List Kind → Object
@@ -18,7 +17,7 @@ object_of kinds = record { words = length kinds; leaf = is_leaf kinds }
 
 -- the object that a New creates
 abbrev pub object_made : Config → Op → Object
-object_made c (op.New d ty full) = object_of (kinds_of c.types ty)
+object_made c (Op.New d ty full) = object_of (kinds_of c.types ty)
 object_made c _ = object_of []
 
 -- where an object goes on pages by first fit, with this many of them resident at most
@@ -87,16 +86,14 @@ abbrev pub is_run_gone : Words → Option RunPages → Bool
 is_run_gone w freed =
     is_none_or (λ (run : RunPages). is_run_unmapped w run && words_are_zero w (64 * run.page) (64 * run.count)) freed
 
--- before the step that decides a New, or a Free whose register is loaded
-
--- a New that has the turn
+-- a New that has the turn, and isn't decided
 abbrev pub is_new_at : Stage → Op → Bool
-is_new_at Turn (op.New d ty full) = true
+is_new_at Turn (Op.New d ty full) = true
 is_new_at _ _ = false
 
--- a Free that has the turn
+-- a Free that has the turn, whose register is loaded, and that isn't decided
 abbrev pub is_free_at : Stage → Op → Bool
-is_free_at Turn (op.Free p) = true
+is_free_at Turn (Op.Free p) = true
 is_free_at _ _ = false
 
 -- the call is a New that isn't decided

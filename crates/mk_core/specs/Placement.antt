@@ -7,13 +7,12 @@ use Rattle.mk_core.specs.{Moments.{Moment, flight_of, is_phase}, NewPlaces.{obje
 use Rattle.mk_core.specs.{TurnConditions.{place_now, carves, takes_cell}, StopConditions.marks_place}
 use Rattle.mk_core.specs.{Accesses.granted_base, Allocations.{place_among_allocations, FitsAmongAllocations}}
 use Rattle.mk_core.specs.{History.{World, world_behind, left}, Cycles.{TurnOf, BeginsAndEndsIn}}
-use Rattle.mk_core.specs.declared.events.Step.TheVariants as step
 
 -- The step serves the object of an undecided New: it marks or carves pages of its place, or takes its cell.
 abbrev pub serves : Config → Moment → Flight → Step → Bool
-serves c m f (step.Head p v) = not (is_phase m.words 4) && carves m.words (object_made c f.op) (place_now c m f) p v
-serves c m f (step.Used p v) = not (is_phase m.words 4) && takes_cell m.words (object_made c f.op) (place_now c m f) p v
-serves c m f (step.Mark p v) = marks_place m.words (object_made c f.op) (place_now c m f) p v
+serves c m f (Step.Head p v) = not (is_phase m.words 4) && carves m.words (object_made c f.op) (place_now c m f) p v
+serves c m f (Step.Used p v) = not (is_phase m.words 4) && takes_cell m.words (object_made c f.op) (place_now c m f) p v
+serves c m f (Step.Mark p v) = marks_place m.words (object_made c f.op) (place_now c m f) p v
 serves c m f _ = false
 
 -- the event is a step that fixes a New's place
@@ -31,12 +30,12 @@ pub record FirstServed (c : Config) {s : Seat} {es : List Event} (t : TurnOf c s
   pub event : Event
   pub behind : List Event
   pub is : t.behind ≡ before ++ event ∷ behind
-  pub none_before : NoneServesFrom c (left c (t.before ++ record { seat = s; step = step.Take t.op } ∷ [])) before
-  pub serves : event_serves c (left c (t.before ++ record { seat = s; step = step.Take t.op } ∷ before)) event ≡ true
+  pub none_before : NoneServesFrom c (left c (t.before ++ record { seat = s; step = Step.Take t.op } ∷ [])) before
+  pub serves : event_serves c (left c (t.before ++ record { seat = s; step = Step.Take t.op } ∷ before)) event ≡ true
 
 -- the list up to there, from the first event of all on
 abbrev pub before_served : {c : Config} {s : Seat} {es : List Event} (t : TurnOf c s es) → FirstServed c t → List Event
-before_served {s = s} t first = t.before ++ record { seat = s; step = step.Take t.op } ∷ first.before
+before_served {s = s} t first = t.before ++ record { seat = s; step = Step.Take t.op } ∷ first.before
 
 -- the object of the New that a seat is in the middle of
 abbrev pub object_at : Config → List Event → Seat → Object
@@ -58,7 +57,7 @@ pub record StandsAtItsPlace (c : Config) (es : List Event) (s : Seat) : Type 0 w
 -- Each object is granted at its first-fit place.
 abbrev pub GrantsStandAtTheirPlaces : Config → List Event → Type 0
 GrantsStandAtTheirPlaces c es =
-    (before : List Event) (e : Event) (behind : List Event) → es ≡ before ++ e ∷ behind → e.step ≡ step.Grant
+    (before : List Event) (e : Event) (behind : List Event) → es ≡ before ++ e ∷ behind → e.step ≡ Step.Grant
     → StandsAtItsPlace c before e.seat
 
 -- A Full comes only if nothing fits, after a cycle that was begun and ended in its call.
@@ -70,5 +69,5 @@ pub record FindsNoPlace (c : Config) (es : List Event) (s : Seat) : Type 0 where
 -- Each Full has its cause.
 abbrev pub FullsFitNowhere : Config → List Event → Type 0
 FullsFitNowhere c es =
-    (before : List Event) (e : Event) (behind : List Event) → es ≡ before ++ e ∷ behind → e.step ≡ step.Full
+    (before : List Event) (e : Event) (behind : List Event) → es ≡ before ++ e ∷ behind → e.step ≡ Step.Full
     → FindsNoPlace c before e.seat

@@ -1,6 +1,6 @@
 -- What a look at a word of the table says: the reading laws.
-use Rattle.std.specs.Prelude.{◌≡◌, ◌≢◌, ◌↔◌, ℕ, ◌+◌, ◌-◌, ◌/◌, ◌<◌, ◌≤◌, Bool, true, false, not, ◌&&◌, ◌||◌, List}
-use Rattle.std.specs.{Prelude.{slice_index, Some, count_by}, List.list_any}
+use Rattle.std.specs.Prelude.{◌≡◌, ◌≢◌, ℕ, ◌+◌, ◌-◌, ◌<◌, ◌≤◌, Bool, true, false, not, ◌&&◌, ◌||◌, List, Some}
+use Rattle.std.specs.List.{list_any}
 use Rattle.mk_geom.specs.{declared.headers.Header.TheVariants.Later, Headers.IsHeaderWord, declared.addresses.Cell.Cell}
 use Rattle.mk_core.specs.{declared.config.Config.Config, declared.events.Seat.Seat, Counts.{IsTidy, TalliesAreExact}}
 use Rattle.mk_core.specs.{Counts.TalliesAreTidy, declared.events.Seat.TheVariants.{Caller, Marker, Host}}
@@ -9,22 +9,19 @@ use Rattle.mk_core.specs.{declared.seats.RunPages.RunPages, Words.{header_at, ph
 use Rattle.mk_core.specs.Cells.{header_in, cells_under, run_headed, is_freed, is_in_snapshot}
 use Rattle.mk_core.specs.{Moments.{Moment, flight_of, marker_of}, StopConditions.is_attending, MarkerConditions.is_out}
 use Rattle.mk_core.specs.{Allocations.{placed_at, stands_in, cell_of_allocation}, History.{World, left}}
-use Rattle.mk_core.specs.{HeldGates.is_gate_held, Cycles.{is_begin, is_release, At, is_quarantined}}
-use Rattle.mk_core.specs.declared.seats.Stage.TheVariants as stage
+use Rattle.mk_core.specs.Cycles.{is_begin, is_release, At, is_quarantined}
 use Rattle.mk_core.specs.declared.seats.Marker.{Marker as MarkerState}
-
--- what a caller is in: no call, a call between `enter` and `leave`, or one between `take` and `give`
 
 -- between two calls
 abbrev pub is_idle : Stage → Bool
-is_idle stage.Idle = true
+is_idle Stage.Idle = true
 is_idle _ = false
 
--- in a call that needs no turn
+-- in a call that needs no turn, between `enter` and `leave`
 abbrev pub is_in_call : Flight → Bool
 is_in_call f = not (is_idle f.stage) && not (is_under_turn f.op)
 
--- in a New or a Free
+-- in a New or a Free, between `take` and `give`
 abbrev pub is_in_turn : Flight → Bool
 is_in_turn f = not (is_idle f.stage) && is_under_turn f.op
 
@@ -41,36 +38,6 @@ is_in x = not (is_out x.presence)
 -- No marker attends.
 abbrev pub NoneAttends : Moment → Type 0
 NoneAttends m = (k : ℕ) → is_attending (marker_of m k).presence ≡ false
-
--- the turn word
-pub record TurnTells (c : Config) (m : Moment) : Type 0 where
-  pub least : m.words.turn ≤ 1 + c.callers
-  pub caller : (k : ℕ) → k < c.callers → (m.words.turn ≡ 1 + k) ↔ (is_in_turn (flight_of m (Caller k)) ≡ true)
-  pub nobody : (m.words.turn ≡ 0) ↔ ((s : Seat) → Holds c m s → ⊥)
-
--- a gate word
-pub record GateTells (c : Config) (es : List Event) (k : ℕ) : Type 0 where
-  pub least : slice_index (left c es).now.words.gates k ≤ 2
-  pub in_call : (slice_index (left c es).now.words.gates k ≡ 1)
-      ↔ (is_in_call (flight_of (left c es).now (Caller k)) ≡ true)
-  pub held : (slice_index (left c es).now.words.gates k ≡ 2) ↔ (is_gate_held c k es ≡ true)
-  pub by_another : slice_index (left c es).now.words.gates k ≡ 2
-      → ((left c es).now.words.turn ≢ 0) × ((left c es).now.words.turn ≢ 1 + k)
-
--- the phase word
-pub record PhaseTells (c : Config) (m : Moment) : Type 0 where
-  pub low : phase_of m.words ≤ 5
-  pub high : m.words.phase / 8 ≡ count_by is_in m.seats.markers
-  pub none_in : m.words.phase / 8 ≡ 0 → NoneAttends m
-  pub attends : phase_of m.words ≢ 1 → phase_of m.words ≢ 2 → NoneAttends m
-  pub under_the_turn : 2 ≤ phase_of m.words → phase_of m.words ≤ 4 → m.words.turn ≢ 0
-  pub stopped : phase_of m.words ≡ 3 → (k : ℕ) → k < c.callers → m.words.turn ≢ 1 + k → slice_index m.words.gates k ≡ 2
-
--- What turn, gates and phase say, after every enabled list within limits.
-pub record WordsTellWhoHoldsWhat (c : Config) (es : List Event) : Type 0 where
-  pub turn : TurnTells c (left c es).now
-  pub gates : (k : ℕ) → k < c.callers → GateTells c es k
-  pub phase : PhaseTells c (left c es).now
 
 -- The cell is one of its page's, and an unreleased allocation stands in it.
 pub record IsTaken (w : World) (cell : Cell) : Type 0 where

@@ -4,11 +4,10 @@ use Rattle.std.specs.Prelude.{Some}
 use Rattle.mk_never.specs.Types.{kinds_of}
 use Rattle.mk_geom.specs.{Storages.{Storage, stands_on, IsStorage}, StorageWords.{PointsInto, cell_of_storage}}
 use Rattle.mk_geom.specs.StorageWords.{ShowsStorage}
-use Rattle.mk_core.specs.{declared.config.Config.Config, declared.seats.Object.Object}
-use Rattle.mk_core.specs.{Config.{IsWithinLimits, IsBetween}, Words.{Words, header_at}}
-use Rattle.mk_core.specs.{Cells.{pointed_cell, first_word, cell_words}, NewPlaces.{object_of, pages_made}}
-use Rattle.mk_core.specs.{ObjectHeaders.{cells_made, words_made, IsHeaderOf}, Allocations.{PlacedAllocation, placed_at}}
-use Rattle.mk_core.specs.Allocations.{storage_words, storage_of, unreleased_storage}
+use Rattle.mk_core.specs.Allocations.{PlacedAllocation, placed_at, storage_words, storage_of, unreleased_storage}
+use Rattle.mk_core.specs.{Cells.{pointed_cell, first_word, cell_words}, Config.{IsWithinLimits, IsBetween}}
+use Rattle.mk_core.specs.{NewPlaces.{object_of, pages_made}, ObjectHeaders.{cells_made, words_made, IsHeaderOf}}
+use Rattle.mk_core.specs.{Words.{Words, header_at}, declared.config.Config.Config, declared.seats.Object.Object}
 
 -- the object of an allocation
 abbrev pub object_placed : Config → PlacedAllocation → Object

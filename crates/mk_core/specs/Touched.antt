@@ -24,9 +24,7 @@ IsWordOfAllocation c w n a =
     ((placed_at w.allocations a).released ≡ false) × ((storage_of c (placed_at w.allocations a)).leaf ≡ false)
     × IsWordOf (storage_of c (placed_at w.allocations a)) n
 
--- After the list a register of the never-reusing heap, a global or a heap word points into the allocation.
-
--- Register i points into allocation b after these events.
+-- Register i of the heap that never reuses storage points into allocation b after these events.
 abbrev pub RegisterPointsInto : Config → List Event → ℕ → ℕ → Type 0
 RegisterPointsInto c front i b =
     PointsIntoAllocation c (left c front)

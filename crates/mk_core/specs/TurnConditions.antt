@@ -1,19 +1,17 @@
 -- Condition 7 for the kinds of the turn's holder that change objects: each kind's own condition.
 use Rattle.std.specs.Prelude.{ℕ, ◌+◌, ◌-◌, ◌/◌, ◌%◌, ◌^◌, Bool, true, false, ◌&&◌, ◌||◌, not, ◌==◌, List, Option, None}
 use Rattle.std.specs.Prelude.{if◌then◌else◌, slice_index, bit_and, is_none}
-use Rattle.mk_core.specs.{declared.seats.Object.Object, declared.config.Config.Config, declared.seats.Flight.Flight}
-use Rattle.mk_core.specs.{declared.seats.Stage.Stage, declared.seats.Placing.Placing}
-use Rattle.mk_core.specs.{declared.seats.Placing.TheVariants.{Unplaced, Used}, declared.seats.OwnCycle.OwnCycle}
-use Rattle.mk_core.specs.{declared.seats.OwnCycle.TheVariants.Ended, declared.seats.RunPages.RunPages}
-use Rattle.mk_core.specs.{Words.{Words, used_at, quarantine_word}, Bits.{has_bit, without}}
-use Rattle.mk_core.specs.{Bounded.{all_below, is_some_and}, Cells.{head_page, pointed_cell, is_freed}}
-use Rattle.mk_core.specs.Cells.{are_left_unmarked, is_released_cell, words_are_zero, first_word, cell_words, is_in_run}
-use Rattle.mk_core.specs.NewPlaces.{object_made, place_on_pages, place_by_placing, pages_made, header_made, bits_made}
-use Rattle.mk_core.specs.NewPlaces.{is_next_header, place_stands, unmapped_header, is_run_unmapped, is_run_gone}
-use Rattle.mk_core.specs.{NewPlaces.{is_undecided_new, target}, Moments.{Moment, is_phase}}
 use Rattle.mk_geom.specs.{declared.addresses.Cell.Cell, declared.pages.Page.Page, declared.pages.Place.Place}
 use Rattle.mk_geom.specs.{PageUses.held_by_uses, PageWords.uses_of_pages, Addresses.address_of}
-use Rattle.mk_core.specs.declared.seats.Stage.TheVariants as stage
+use Rattle.mk_core.specs.NewPlaces.{object_made, place_on_pages, place_by_placing, pages_made, header_made, bits_made}
+use Rattle.mk_core.specs.NewPlaces.{is_next_header, place_stands, unmapped_header, is_run_unmapped, is_run_gone}
+use Rattle.mk_core.specs.{NewPlaces.{is_undecided_new, target}, Cells.{head_page, pointed_cell, is_freed}}
+use Rattle.mk_core.specs.Cells.{are_left_unmarked, is_released_cell, words_are_zero, first_word, cell_words, is_in_run}
+use Rattle.mk_core.specs.{Words.{Words, used_at, quarantine_word}, declared.seats.Placing.TheVariants.{Unplaced, Used}}
+use Rattle.mk_core.specs.{Bits.{has_bit, without}, Bounded.{all_below, is_some_and}, Moments.{Moment, is_phase}}
+use Rattle.mk_core.specs.{declared.seats.Object.Object, declared.config.Config.Config, declared.seats.Flight.Flight}
+use Rattle.mk_core.specs.{declared.seats.Stage.Stage, declared.seats.Placing.Placing, declared.seats.OwnCycle.OwnCycle}
+use Rattle.mk_core.specs.{declared.seats.OwnCycle.TheVariants.Ended, declared.seats.RunPages.RunPages}
 
 -- the place of an undecided New
 abbrev pub place_now : Config → Moment → Flight → Option Place
@@ -124,7 +122,7 @@ held_by_pages w = held_by_uses (uses_of_pages w.pages)
 
 -- no call of a caller's is undecided
 abbrev pub is_decided : Stage → Bool
-is_decided stage.Turn = false
+is_decided Stage.Turn = false
 is_decided _ = true
 
 -- `give`

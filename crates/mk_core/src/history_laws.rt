@@ -1,26 +1,15 @@
 //! Laws of histories: facts only, with no code.
 ghost use Rattle.std.specs.Prelude.{ℕ, Bool, List};
 ghost use Rattle.mk_core.specs.{declared.config.Config.Config, Enabled.EnabledEventsMeetAll};
-ghost use Rattle.mk_core.specs.HistoryLaws.{LeftInParts, EnabledInParts, CallsInParts, NeverInParts};
-ghost use Rattle.mk_core.specs.HistoryLaws.{NeverRepliesInParts, CallsAreAdmittedInParts, EarlierPartIsHistory};
-ghost use Rattle.mk_core.specs.{HistoryLaws.{BitsWithout, LargeIsNotSmall}, Cycles.Marking};
+ghost use Rattle.mk_core.specs.{HistoryLaws.{IsOfTwoParts, BitsWithout, LargeIsNotSmall}, Cycles.Marking};
 ghost use Rattle.mk_core.specs.Touched.{TouchedIsClosed, TouchedIsLeast};
 
 use crate::Event;
 
 /// A list of events leaves, decides and asks for what its earlier part does, and then its later part after that. The
 /// earlier part of a history is a history.
-
-/// A list in two parts: what it leaves, whether it is enabled, its calls and replies are those of its parts.
-#[tactic(auto, using(crate::proofs::HistoryParts::histories_are_of_two_parts_facts))]
 pub fn histories_are_of_two_parts()
-    ensures left { (c : Config) (es more : List Event) → LeftInParts c es more }
-    ensures enabled { (c : Config) (es more : List Event) → EnabledInParts c es more }
-    ensures calls { (c : Config) (es more : List Event) → CallsInParts c es more }
-    ensures never { (c : Config) (es more : List Event) → NeverInParts c es more }
-    ensures replies { (c : Config) (es more : List Event) → NeverRepliesInParts c es more }
-    ensures admitted { (c : Config) (es more : List Event) → CallsAreAdmittedInParts c es more }
-    ensures earlier { (c : Config) (es more : List Event) → EarlierPartIsHistory c es more }
+    ensures { (c : Config) (es more : List Event) → IsOfTwoParts c es more }
 {}
 
 /// An event is enabled exactly if it meets each condition.

@@ -1,6 +1,5 @@
-//! Conditions 4, 5 and 6 of an event: its arguments are in range, and the gates and the phase are as its kind asks. The
-//! definitions name every kind. Here `_` stands for those of which a condition asks nothing: if it stood for another,
-//! the proof would fail.
+//! Conditions 4, 5 and 6 of an event: its arguments are in range, and the gates and the phase are as its kind asks. As
+//! in the definitions, `_` stands for the kinds of which a condition asks nothing.
 ghost use Rattle.std.specs.Prelude.{◌≡◌, ◌*◌, ◌==◌, nat_lt};
 ghost use Rattle.mk_core.specs.{Moments.{is_number_of, is_held, others_are_held, none_is_held}, NewPlaces.target};
 ghost use Rattle.mk_core.specs.Ranges.{is_word, is_other_caller, is_word_met, is_in_range, is_run_cell, has_gates};

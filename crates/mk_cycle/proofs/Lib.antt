@@ -41,6 +41,7 @@ pub mod ReleasedStops
 pub mod Parts
 pub mod Steps
 pub mod Wants
+pub mod WipedPairs
 pub mod Stilled
 pub mod CellWords
 pub mod MaySteps

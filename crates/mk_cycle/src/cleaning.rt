@@ -99,11 +99,11 @@ fn clear_colours(turn: &mut Turn, words: &Words, pages: u64, page: u64)
 
 /// Whether both words are 0.
 #[inline(always)]
-fn are_zero(dirty: u64, quarantine: u64) -> bool
-    ensures dirty { result ≡ true → dirty ≡ 0 }
-    ensures quarantine { result ≡ true → quarantine ≡ 0 }
+pub(crate) fn are_zero(first: u64, second: u64) -> bool
+    ensures first { result ≡ true → first ≡ 0 }
+    ensures second { result ≡ true → second ≡ 0 }
 {
-    dirty | quarantine == 0
+    first | second == 0
 }
 
 /// Clears what is left of the cycle before on a page in use, and takes its snapshot. Most aren't dirty and have no

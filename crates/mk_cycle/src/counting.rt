@@ -14,6 +14,18 @@ use crate::turn_steps::look_among;
 use mk_core::{Word, without};
 use mk_words::{Turn, Words};
 
+/// How many bits of a word are 1. Most snapshots have one cell, the first, of which none is marked.
+#[inline(always)]
+fn count_bits(word: u64) -> u64
+    ensures exact { result ≡ count_ones word }
+    ensures few { result ≤ 64 }
+{
+    if word < 2 {
+        return word;
+    }
+    u64::from(word.count_ones())
+}
+
 /// What the words of a page say: its released cells, their words, and its marked cells of the snapshot.
 pub(crate) fn released_cells(snapshot: u64, marks: u64, header: &ReadHeader) -> Released
     ensures count { result.count ≡ count_ones (without snapshot marks) }
@@ -21,11 +33,11 @@ pub(crate) fn released_cells(snapshot: u64, marks: u64, header: &ReadHeader) -> 
     ensures kept { result.kept ≡ count_ones (bit_and snapshot marks) }
     ensures few { IsOfOnePage result }
 {
-    let count = u64::from(without(snapshot, marks).count_ones());
+    let count = count_bits(without(snapshot, marks));
     Released {
         count,
         words: count * header.size(),
-        kept: u64::from((snapshot & marks).count_ones()),
+        kept: count_bits(snapshot & marks),
     }
 }
 

@@ -65,13 +65,11 @@ pub(crate) fn release_cells(
         return Settled { released, held: 0 };
     }
     let marks = counting::look(turn, words, pages, Word::Mark(page));
+    let gone = without(snapshot, marks);
+    if gone != 0 {
+        give_back(turn, words, pages, page, header, quarantine, gone);
+    }
     let released = released_cells(snapshot, marks, header);
     let held = held_words(header, released.words);
-    let here = Settled { released, held };
-    let gone = without(snapshot, marks);
-    if gone == 0 {
-        return here;
-    }
-    give_back(turn, words, pages, page, header, quarantine, gone);
-    here
+    Settled { released, held }
 }

@@ -4,7 +4,7 @@ use Rattle.std.proofs.Common.{if◌then◌else◌, inl, inr, length, ne_eqb, ref
 use Rattle.std.proofs.{Common.{◌<◌, ◌∙◌, ◌∷◌, ◌≡◌, ◌≢◌, ◌≤◌}, lemmas.Bool.{cases_Bool, cond-false, cond-true}}
 use Rattle.std.proofs.{lemmas.Bool.{false_from_ne_true, false≢true}, lemmas.List.Elements.{All-head, All-tail}}
 use Rattle.std.{proofs.lemmas.List.Sums.{sum_by-cons, sum_by-set}, specs.List.{count_by}}
-use Rattle.mk_geom.proofs.{Bridge.{same_census, same_uses}, ListSearch.{Contains-head, Contains-tail, find_cases}}
+use Rattle.mk_geom.proofs.{Bridge.same_uses, ListSearch.{Contains-head, Contains-tail, find_cases}}
 use Rattle.mk_geom.proofs.PageSums.{sum_below, sum_below-add, sum_below-block, sum_below-zero, sum_by-range}
 use Rattle.mk_geom.proofs.Standing.{cell_stands_at, cell_within, class_of_cell, has_words, large_is_run, small_is_cell}
 use Rattle.mk_geom.proofs.Standing.{stands_from, stands_parts, storage_in}
@@ -240,5 +240,3 @@ pub pages_hold_mapped_words : (pages : List Page) (storages : List Storage) → 
 pages_hold_mapped_words pages storages stand =
     ap held_by_uses (same_uses pages storages stand) ∙ sum_by-range held_by_use (use_of_storages storages) _ ∙ held_sum
     _ storages stand.laid_out
-
-pub ruleset pages_show_what_stands_there_facts = (same_uses, same_census, pages_hold_mapped_words)

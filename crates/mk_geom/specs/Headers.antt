@@ -1,8 +1,8 @@
 -- Header words: what a page is, in one word. The low 4 bits are the kind, and the rest is a parameter.
 use Rattle.std.specs.Prelude.{ℕ, ◌+◌, ◌-◌, ◌*◌, ◌/◌, ◌%◌, ◌<◌, ◌≤◌, true, false, ◌&&◌, nat_le, ◌==◌, Option, Some, None}
 use Rattle.std.specs.Prelude.{Bool, IsSome, if◌then◌else◌, not}
-use Rattle.mk_geom.specs.declared.headers.Header.{Header}
-use Rattle.mk_geom.specs.declared.headers.Header.TheVariants.{Free, Block, Run, Later, LeafBlock, LeafRun}
+use Rattle.mk_geom.specs.{declared.headers.Header.Header, declared.headers.Header.TheVariants.{Free, Block, Run, Later}}
+use Rattle.mk_geom.specs.declared.headers.Header.TheVariants.{LeafBlock, LeafRun}
 
 -- The class is one of the 8, and a run has at most 64 pages.
 abbrev pub IsInRange : Header → Type 0

@@ -10,36 +10,15 @@ use Rattle.mk_geom.specs.{Places.{IsCellPlace, IsRunPlace}, Storages.{Storage, s
 use Rattle.mk_geom.specs.Storages.{place_among_storages, census_of, taken_cells, used_word, free_page, block_page}
 use Rattle.mk_geom.specs.Storages.{run_page, words_of_storages, IsStorage, AreLaidOut, PagesStandFor}
 
--- Pages show what stands on them,
-abbrev pub PagesShowUses : Type 0
-PagesShowUses =
-    (pages : List Page) (storages : List Storage)
-    → PagesStandFor pages storages → uses_of_pages pages ≡ uses_of_storages (length pages) storages
-
--- so first fit finds the place on them that it finds among the storages,
-abbrev pub PagesShowPlaces : Type 0
-PagesShowPlaces =
-    (pages : List Page) (storages : List Storage) (limit words : ℕ) (leaf : Bool)
-    → PagesStandFor pages storages
-    → place_on_uses limit words leaf (uses_of_pages pages)
-    ≡ place_among_storages (length pages) limit words leaf storages
-
--- and their counts are those of the storages.
-abbrev pub PagesShowCensus : Type 0
-PagesShowCensus =
-    (pages : List Page) (storages : List Storage)
-    → PagesStandFor pages storages → census_among (uses_of_pages pages) ≡ census_of (length pages) storages
-
--- The words that they hold are those of the mapped storages.
-abbrev pub PagesHoldMappedWords : Type 0
-PagesHoldMappedWords =
-    (pages : List Page) (storages : List Storage)
-    → PagesStandFor pages storages → held_by_uses (uses_of_pages pages) ≡ held_by_storages storages
-
--- Each header of such pages is a header word.
-abbrev pub StoragesHaveHeaderWords : Type 0
-StoragesHaveHeaderWords = (pages : List Page) (storages : List Storage) → PagesStandFor pages storages
-    → HaveHeaderWords pages
+-- Pages show what stands on them. So first fit finds the place on them that it finds among the storages, their counts
+-- are those of the storages, and the words that they hold are those of the mapped ones. Each header is a header word.
+pub record ShowWhatStands (pages : List Page) (storages : List Storage) : Type 0 where
+  pub uses : uses_of_pages pages ≡ uses_of_storages (length pages) storages
+  pub places : (limit words : ℕ) (leaf : Bool) → place_on_uses limit words leaf (uses_of_pages pages)
+      ≡ place_among_storages (length pages) limit words leaf storages
+  pub census : census_among (uses_of_pages pages) ≡ census_of (length pages) storages
+  pub held : held_by_uses (uses_of_pages pages) ≡ held_by_storages storages
+  pub header_words : HaveHeaderWords pages
 
 -- The words of the page of a cell that is one of storages that are laid out,
 abbrev pub CellPageHasWords : Type 0

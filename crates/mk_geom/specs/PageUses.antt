@@ -14,8 +14,7 @@ pub data PageUse : Type 0 where
 -- nothing stands on the page
 abbrev pub is_free_page : PageUse → Bool
 is_free_page Nothing = true
-is_free_page (Cells class leaf taken) = false
-is_free_page (PartOfRun mapped) = false
+is_free_page _ = false
 
 -- An unmapped run's pages are reserved and not resident.
 abbrev pub is_resident_page : PageUse → Bool
@@ -34,9 +33,8 @@ is_same_sort false leaf = not leaf
 
 -- the cells of a page of this class and sort, and none of another page
 abbrev pub cells_taken : ℕ → Bool → PageUse → List Bool
-cells_taken class leaf Nothing = []
 cells_taken class leaf (Cells class' leaf' taken) = if (class == class') && is_same_sort leaf leaf' then taken else []
-cells_taken class leaf (PartOfRun mapped) = []
+cells_taken class leaf _ = []
 
 -- the place of the first that passes
 abbrev pub first_where : {A : Type 0} → (A → Bool) → List A → Option ℕ

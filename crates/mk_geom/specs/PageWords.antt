@@ -1,10 +1,9 @@
 -- Pages as they are: what a header word and a used word say stands there.
 use Rattle.std.specs.{Prelude.{ℕ, Bool, true, false, ◌==◌, List, map, All, Option, Some, None}, Int.bit_at}
 use Rattle.std.specs.List.{range_with_len}
-use Rattle.mk_geom.specs.{declared.pages.Page.Page, declared.headers.Header.Header, PageUses.{PartOfRun, PageUse}}
-use Rattle.mk_geom.specs.{PageUses.{Nothing, Cells}, declared.headers.Header.TheVariants.{Free, Block, Run, Later}}
-use Rattle.mk_geom.specs.{declared.headers.Header.TheVariants.{LeafBlock, LeafRun}, Classes.cells_of}
-use Rattle.mk_geom.specs.Headers.{header_of, IsHeaderWord}
+use Rattle.mk_geom.specs.declared.headers.Header.TheVariants.{Free, Block, Run, Later, LeafBlock, LeafRun}
+use Rattle.mk_geom.specs.{PageUses.{PartOfRun, PageUse, Nothing, Cells}, Headers.{header_of, IsHeaderWord}}
+use Rattle.mk_geom.specs.{declared.pages.Page.Page, declared.headers.Header.Header, Classes.cells_of}
 
 -- the low bits of a used word, one a cell
 abbrev pub bits_of : ℕ → ℕ → List Bool

@@ -1,8 +1,7 @@
 -- Where an object may go, and what the place that first fit finds says of its pages.
 use Rattle.std.specs.{Prelude.{◌≡◌, ℕ, ◌+◌, ◌<◌, ◌≤◌, Bool, true, false, List, length, Some, slice_get}, List.AllWithin}
-use Rattle.mk_geom.specs.{declared.pages.Page.Page, declared.pages.Place.Place, Classes.cells_of}
-use Rattle.mk_geom.specs.PageUses.{PageUse, Nothing, Cells, PartOfRun, is_free_page, resident_pages}
-use Rattle.mk_geom.specs.PageWords.{use_of_page, uses_of_pages}
+use Rattle.mk_geom.specs.{Classes.cells_of, PageUses.{PageUse, Nothing, Cells, PartOfRun, is_free_page, resident_pages}}
+use Rattle.mk_geom.specs.{PageWords.{use_of_page, uses_of_pages}, declared.pages.Page.Page, declared.pages.Place.Place}
 
 -- An object of this class and sort may take the cell: the page is free, or a block of that class and sort in which the
 -- cell isn't taken.

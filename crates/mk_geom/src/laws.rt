@@ -1,19 +1,16 @@
 //! Laws of pages and the storages that they stand for: facts only, with no code. A proof that needs a law calls its
 //! function, or cites the lemma that proves it.
-ghost use Rattle.mk_geom.specs.Laws.{PagesShowUses, PagesShowPlaces, PagesShowCensus, PagesHoldMappedWords};
-ghost use Rattle.mk_geom.specs.Laws.{StoragesHaveHeaderWords, FreePagesStandForNothing, CellPageHasWords};
+ghost use Rattle.std.specs.Prelude.{List};
+ghost use Rattle.mk_geom.specs.{Storages.{Storage, PagesStandFor}, Laws.{ShowWhatStands, FreePagesStandForNothing}};
+ghost use Rattle.mk_geom.specs.{declared.pages.Page.Page, Laws.CellPageHasWords};
 ghost use Rattle.mk_geom.specs.Laws.{RunPageHasWords, BarePageIsFree, PointsIntoCell, CellHasPointers};
 ghost use Rattle.mk_geom.specs.Laws.{PointersHitCells, UsedCellHasStorage, CellsTellStoragesApart};
 ghost use Rattle.mk_geom.specs.Laws.{AddressesOfWordsPointIn, CellHasFirstWord, FoundCellIsPlace, FoundRunIsPlace};
 
 /// The place of an object, whether one fits, the census and the held words can be read off the pages as they are.
-#[tactic(auto, using(crate::proofs::HeldWords::pages_show_what_stands_there_facts))]
 pub fn pages_show_what_stands_there()
-    ensures uses { PagesShowUses }
-    ensures places { PagesShowPlaces }
-    ensures census { PagesShowCensus }
-    ensures held { PagesHoldMappedWords }
-    ensures header_words { StoragesHaveHeaderWords }
+    ensures { (pages : List Page) (storages : List Storage) → PagesStandFor pages storages
+        → ShowWhatStands pages storages }
 {}
 
 /// The words of a page can be read off any storage that is on it.

@@ -2,7 +2,7 @@
 use Rattle.mk_laws.proofs.Vocabulary.{AreAdmitted, Bool, Caller, Cell, Config, Event, Group, Host, ImagePremises}
 use Rattle.mk_laws.proofs.Vocabulary.{ImageScene, IsSafe, IsSafeSet, IsSound, IsTypedAllocation, Kind, List, Marker}
 use Rattle.mk_laws.proofs.Vocabulary.{MarksAreClosed, MeetsAll, Mirrors, NeverState, None, Null, Num, Number, Op}
-use Rattle.mk_laws.proofs.Vocabulary.{Option, PlacedAllocation, Ptr, Seat, Some, Stage, Step, Suits, Tally, To, Value}
+use Rattle.mk_laws.proofs.Vocabulary.{Option, PlacedAllocation, Ptr, Seat, Some, Stage, Step, Suits, To, Value}
 use Rattle.mk_laws.proofs.Vocabulary.{World, ℕ, address_of, allocation_at, and_from, and_parts, and_right}
 use Rattle.mk_laws.proofs.Vocabulary.{answer_decided, ap, arith, asked, at_rest, bases_of, call_decided, caller_number}
 use Rattle.mk_laws.proofs.Vocabulary.{cases_Bool, cases_eq, cases_lt, cell_of_allocation, changed_at, eqb-true, false}

@@ -1,9 +1,9 @@
 -- Who steps: the turn's holder, or a seat whose step no gate, phase or word of the turn's is asked for.
 use Rattle.std.proofs.Common.{arith}
-use Rattle.mk_laws.proofs.Vocabulary.{Caller, Config, Flight, Group, Holds, Marker, Moment, Seat, Step, ℕ, ap, false}
-use Rattle.mk_laws.proofs.Vocabulary.{group_of, has_gates, has_phase, holder_may, is_of_turn, refl, sym, true}
-use Rattle.mk_laws.proofs.{Vocabulary.{true≢false, ◌∙◌, ◌≡◌}, Basics.{Actor, AsHolder, AsMarker, HoldsTurn, InCallOf}}
-use Rattle.mk_laws.proofs.Basics.{Orderly, is_holders, not_astray, view_of}
+use Rattle.mk_laws.proofs.Vocabulary.{Caller, Config, Flight, Group, Holds, Moment, Seat, Step, ℕ, ap}
+use Rattle.mk_laws.proofs.Vocabulary.{group_of, has_gates, has_phase, holder_may, refl, sym, true}
+use Rattle.mk_laws.proofs.{Vocabulary.{◌∙◌, ◌≡◌}, Basics.{Actor, HoldsTurn}}
+use Rattle.mk_laws.proofs.Basics.{Orderly, not_astray, view_of}
 use Rattle.mk_laws.proofs.Standings.{in_turn_told, is_standing_under_turn}
 pub use Rattle.mk_laws.proofs.LayoutHolders.{acts_as_holder}
 

@@ -12,7 +12,7 @@ use Rattle.mk_laws.proofs.Vocabulary.{is_undecided_free, is_undecided_new, lengt
 use Rattle.mk_laws.proofs.Vocabulary.{or_else, p_of, placed_at, pointed_cell, progress, progress_freed, refl}
 use Rattle.mk_laws.proofs.Vocabulary.{register_at, run_begins, run_headed, run_of_cell, set_by, slice_index_or}
 use Rattle.mk_laws.proofs.Vocabulary.{slice_set, small_heads_none, still, subst, sym, true, typed_size, world_behind}
-use Rattle.mk_laws.proofs.Vocabulary.{◌%◌, ◌&&◌, ◌*◌, ◌+◌, ◌-◌, ◌/◌, ◌<◌, ◌∙◌, ◌≡◌, ◌≢◌, ◌⊎◌}
+use Rattle.mk_laws.proofs.Vocabulary.{◌%◌, ◌&&◌, ◌*◌, ◌+◌, ◌/◌, ◌<◌, ◌∙◌, ◌≡◌, ◌≢◌, ◌⊎◌}
 use Rattle.mk_never.specs.Laws.{AreNotBy}
 use Rattle.mk_core.specs.{Effects.holding_behind, Order.is_of_any_holder}
 use Rattle.mk_laws.proofs.Basics.{HoldsTurn, InCall, KnownWorld, Meets, Orderly, Ready, Stands, View, actor_of, base_at}

@@ -1,22 +1,22 @@
 -- What one event leaves of the allocations, and what it may do to what stands on the pages and to the quarantine, by
 -- the conditions under which it does so.
 use Rattle.std.proofs.Common.{length-append}
-use Rattle.mk_laws.proofs.Vocabulary.{Bool, Caller, Cell, Config, Flight, Granted, Ground, LeavesPlaces, List, Moment}
-use Rattle.mk_laws.proofs.Vocabulary.{None, Op, Option, Page, PlacedAllocation, Seat, Some, Stage, Step, Tally}
+use Rattle.mk_laws.proofs.Vocabulary.{Bool, Cell, Config, Flight, Granted, Ground, LeavesPlaces, List, Moment}
+use Rattle.mk_laws.proofs.Vocabulary.{None, Option, Page, PlacedAllocation, Seat, Stage, Step}
 use Rattle.mk_laws.proofs.Vocabulary.{Unplaced, Words, World, [], and_parts, ap, arith, carves, cases_Bool, cases_lt}
 use Rattle.mk_laws.proofs.Vocabulary.{cell_freed, changed_at, chosen, empties, eqb-false, eqb-true, false, flight_of}
 use Rattle.mk_laws.proofs.Vocabulary.{freed_leaves, freed_released, freed_where_it_stands, frees, fresh_leaves}
 use Rattle.mk_laws.proofs.Vocabulary.{get_or_past, gives_back, granted, ground_of, header_at, if◌then◌else◌, inl, inr}
 use Rattle.mk_laws.proofs.Vocabulary.{is_phase, is_release, is_undecided_new, is_used_once, length, length-map, map}
-use Rattle.mk_laws.proofs.Vocabulary.{marks_place, no_longer_fresh, not, not-true, nothing_done, object_made, or_cases}
+use Rattle.mk_laws.proofs.Vocabulary.{marks_place, no_longer_fresh, not-true, object_made, or_cases}
 use Rattle.mk_laws.proofs.Vocabulary.{or_else, or_parts, phase_of, place_now, placed_at, refl, released_leaves}
 use Rattle.mk_laws.proofs.Vocabulary.{run_of_cell, slice_set, sym, taken, takes_cell, target, true, unmaps, used_at}
-use Rattle.mk_laws.proofs.Vocabulary.{with_released, ℕ, ◌%◌, ◌&&◌, ◌++◌, ◌/◌, ◌<◌, ◌==◌, ◌^◌, ◌||◌, ◌∙◌, ◌∷◌, ◌≡◌, ◌≢◌}
+use Rattle.mk_laws.proofs.Vocabulary.{with_released, ℕ, ◌%◌, ◌++◌, ◌/◌, ◌<◌, ◌^◌, ◌∙◌, ◌∷◌, ◌≡◌, ◌≢◌}
 use Rattle.mk_laws.proofs.{Vocabulary.{◌≤◌, ◌⊎◌}, Actors.{Meets, give_phase, grants_new}}
 use Rattle.mk_laws.proofs.{NextSteps.{at_no_take, at_take}, OthersMoves.WorldBehind}
 use Rattle.mk_core.proofs.{ChangedAllocations.earlier_at, RegisterAccesses.{register_leaves, tally_leaves}}
-use Rattle.mk_core.specs.{Allocations.allocations_by, TurnConditions.{drops, may_give, may_head, may_quarantine}}
-use Rattle.mk_core.specs.TurnConditions.{may_use, takes_snapshot}
+use Rattle.mk_core.specs.{Allocations.allocations_by, TurnConditions.{drops, may_give}}
+use Rattle.mk_core.specs.TurnConditions.{takes_snapshot}
 pub use Rattle.mk_core.proofs.RegisterAccesses.{LeavesTable as KeepsGround}
 
 -- An unreleased allocation is one of the list.

@@ -1,7 +1,7 @@
 -- What a look at the turn, at a gate and at the phase says.
 use Rattle.std.specs.Prelude.{List}
 use Rattle.mk_core.specs.{declared.config.Config.Config, declared.events.Event.Event, Config.IsWithinLimits}
-use Rattle.mk_core.specs.{History.AreEnabled, Readings.WordsTellWhoHoldsWhat}
+use Rattle.mk_core.{proofs.WhoHoldsWhat.WordsTellWhoHoldsWhat, specs.History.AreEnabled}
 
 -- So it is after every enabled list within limits, whether its calls are admitted or not.
 abbrev pub WordsTell : Type 0

@@ -3,7 +3,7 @@ use Rattle.std.specs.Prelude.{◌≡◌, ℕ, false, List, ◌++◌}
 use Rattle.mk_never.specs.Reach.{IsReachable}
 use Rattle.mk_core.specs.{declared.config.Config.Config, declared.events.Event.Event, Allocations.placed_at}
 use Rattle.mk_core.specs.{History.{left, never_behind, IsHistory, RefinesNever}, Exchanges.ExchangesCompareValues}
-use Rattle.mk_laws.proofs.{ImagePremises.ImagePremises, Mirrors.Mirrors, ImagesSay.ImagesSay}
+use Rattle.mk_laws.proofs.{ImagePremises.ImagePremises, Mirrors.Mirrors}
 
 -- The layout, the quarantine, the zero words and the marks are as they should be after each front.
 abbrev pub ImagePremisesAlong : Config → List Event → Type 0

@@ -8,7 +8,7 @@ use Rattle.mk_laws.proofs.Vocabulary.{flight_of, header_at, header_in, header_of
 use Rattle.mk_laws.proofs.Vocabulary.{is_large, is_mapped, is_run_gone, is_small_object, is_unmapped}
 use Rattle.mk_laws.proofs.Vocabulary.{is_unmapped_header, kinds_of, large_count, large_is_not_small, large_words}
 use Rattle.mk_laws.proofs.Vocabulary.{length, made_is_mapped, not, not-true, object_placed, pages_made, placed_at}
-use Rattle.mk_laws.proofs.Vocabulary.{pointed_cell, run_begins, run_of_allocation, small_pages, stands, storage_holds}
+use Rattle.mk_laws.proofs.Vocabulary.{pointed_cell, run_begins, run_of_allocation, small_pages, storage_holds}
 use Rattle.mk_laws.proofs.Vocabulary.{storage_words, subst, sym, true, true≢false, typed_size, unmapped_header}
 use Rattle.mk_laws.proofs.Vocabulary.{unmapped_is_unmapped, word_points, words_of, [], ◌&&◌, ◌*◌, ◌+◌, ◌/◌, ◌<◌, ◌==◌}
 use Rattle.mk_laws.proofs.{Vocabulary.{◌∙◌, ◌≡◌, ◌≢◌, ◌≤◌}, ImagesKept.exists_placed, Known.operands_of}

@@ -1,10 +1,9 @@
 -- What is known of the last event of a history, and of what it leaves.
-use Rattle.std.proofs.Common.{arith}
-use Rattle.mk_laws.proofs.Vocabulary.{AreAdmitted, AreEnabledFrom, Config, Decided, Event, Invariant, IsEnabled}
-use Rattle.mk_laws.proofs.Vocabulary.{IsHistory, List, MeetsAll, admitted_in_parts, append-nil, asked, call_decided}
-use Rattle.mk_laws.proofs.Vocabulary.{calls_from, earlier_part_is_history, enabled_in_parts, enabled_meets, left}
-use Rattle.mk_laws.proofs.Vocabulary.{left_from, left_in_parts, never_behind, never_in_parts, world_behind, [], ◌++◌}
-use Rattle.mk_laws.proofs.{Vocabulary.{◌∙◌, ◌∷◌, ◌≡◌}, Basics.{KnownWorld, known_world}, FreedRuns.never_after}
+use Rattle.mk_laws.proofs.Vocabulary.{AreAdmitted, AreEnabledFrom, Config, Event, Invariant, IsEnabled}
+use Rattle.mk_laws.proofs.Vocabulary.{IsHistory, List, admitted_in_parts, append-nil, asked, call_decided}
+use Rattle.mk_laws.proofs.Vocabulary.{calls_from, enabled_in_parts, left}
+use Rattle.mk_laws.proofs.Vocabulary.{left_from, never_behind, [], ◌++◌}
+use Rattle.mk_laws.proofs.{Vocabulary.{◌∷◌, ◌≡◌}, Basics.{KnownWorld, known_world}}
 use Rattle.mk_laws.proofs.InvariantHistories.{histories_keep_the_invariant}
 pub use Rattle.mk_laws.proofs.InvariantHistories.{ComesLast, comes_last}
 

@@ -19,7 +19,7 @@ use Rattle.mk_laws.proofs.{LayoutByKind.off_at, QuarantineByKind.{quarantine_by_
 use Rattle.mk_laws.proofs.{QuarantineSteps.{none_released, unmarked}, Releasing.headed_here}
 use Rattle.mk_laws.proofs.{ResidentPages.{count_none, resident_few}, Rooms.room_behind, SnapshotKinds.snapshot_behind}
 use Rattle.mk_laws.proofs.{Unmapping.cells_at_claim, WholeRuns.whole_behind}
-use Rattle.mk_core.proofs.{EvaluatedHistories.enabled, ObjectHeaders.unmapped_shows}
+use Rattle.mk_core.proofs.{ObjectHeaders.unmapped_shows}
 use Rattle.mk_laws.proofs.LayoutLaws.{HistoriesAreLaidOut, LayoutHasFewResidentPages}
 use Rattle.mk_laws.proofs.{LayoutLaws.LayoutHasHeaderWords, Quarantine.FreedCellsAreKnown, Room.HasHeaderWords}
 

@@ -4,7 +4,7 @@ use Rattle.mk_laws.proofs.Vocabulary.{PlacedAllocation, StandsOnHeap, Words, ℕ
 use Rattle.mk_laws.proofs.Vocabulary.{cases_lt, cell_of_allocation, changed_at, false, fresh_leaves, get_or_past}
 use Rattle.mk_laws.proofs.Vocabulary.{is_large, is_left_unmarked, is_mapped, kinds_of, map, no_longer_fresh, not}
 use Rattle.mk_laws.proofs.Vocabulary.{not-true, placed_at, released_leaves, released_where_left, true, with_released}
-use Rattle.mk_laws.proofs.Vocabulary.{[], ◌&&◌, ◌++◌, ◌+◌, ◌∙◌, ◌∷◌, ◌≡◌}
+use Rattle.mk_laws.proofs.Vocabulary.{[], ◌&&◌, ◌++◌, ◌∙◌, ◌∷◌, ◌≡◌}
 use Rattle.mk_core.proofs.ChangedAllocations.{earlier_at}
 
 -- A mapped allocation isn't released, so it is there.

@@ -8,7 +8,7 @@ use Rattle.mk_laws.proofs.Vocabulary.{granted, granted_base, has_bit, header_at,
 use Rattle.mk_laws.proofs.Vocabulary.{is_some_and, is_unmarked, length, ltb-true, marker_of, marks_place, object_made}
 use Rattle.mk_laws.proofs.Vocabulary.{object_placed, part_not_free, place_now, placed_at, pointed_cell, refl, seen_bit}
 use Rattle.mk_laws.proofs.Vocabulary.{seen_page, shown, slice_index, slice_index_or, storage_of, subst, sym, true}
-use Rattle.mk_laws.proofs.Vocabulary.{words_within, zero, ◌%◌, ◌*◌, ◌+◌, ◌/◌, ◌<◌, ◌^◌, ◌||◌, ◌∙◌, ◌≡◌}
+use Rattle.mk_laws.proofs.Vocabulary.{words_within, ◌%◌, ◌*◌, ◌+◌, ◌/◌, ◌<◌, ◌^◌, ◌||◌, ◌∙◌, ◌≡◌}
 use Rattle.mk_laws.proofs.Basics.{Behind, Came, IsNew, Stayed, Table, WorldBehind, reg_table, same_cell, tally_table}
 use Rattle.mk_laws.proofs.Precise.{IsPrecise, PointsOnlyInto, Steps, came_behind, points_before}
 use Rattle.mk_laws.proofs.{Worlds.{comes_back, headers, sized, stands}, GuardHistories.{left_fails, seen_cell}}

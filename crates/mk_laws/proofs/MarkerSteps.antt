@@ -7,7 +7,7 @@ use Rattle.mk_laws.proofs.Vocabulary.{has_next_word, has_no_pointers, has_seen_c
 use Rattle.mk_laws.proofs.Vocabulary.{if◌then◌else◌, inl, inr, is_heap_address, is_marked, is_none, ltb-true}
 use Rattle.mk_laws.proofs.Vocabulary.{marker_behind, marker_of, nat_lt, next_word, none-some, page_at_address}
 use Rattle.mk_laws.proofs.Vocabulary.{placed_at, refl, same_Some, scan_begun, scan_claimed, scan_onward, slice_index}
-use Rattle.mk_laws.proofs.Vocabulary.{storage_of, subst, sym, true, ◌&&◌, ◌+◌, ◌-◌, ◌<◌, ◌==◌, ◌∙◌, ◌≡◌, ◌≢◌, ◌≤◌}
+use Rattle.mk_laws.proofs.Vocabulary.{storage_of, subst, sym, true, ◌&&◌, ◌+◌, ◌<◌, ◌==◌, ◌∙◌, ◌≡◌, ◌≢◌, ◌≤◌}
 use Rattle.mk_laws.proofs.{NoLeaves.{no_leaf_behind, scanned_has_none}, Precise.{HasNoLeaf, IsPrecise, MarkerIsPrecise}}
 use Rattle.mk_laws.proofs.{Precise.{PointsOnlyInto, PrecisionScene, Steps, precision_scene_of}, Worlds.{IsHeld, Told}}
 use Rattle.mk_laws.proofs.{Worlds.{headers, held, stands}, Basics.{WorldBehind, marker_set}, CoveredWords.has_cell}

@@ -1,7 +1,8 @@
 -- The frame law: what the events of other seats leave, for one event and for many.
 use Rattle.std.proofs.lemmas.List.Sums.{sum_by-append}
-use Rattle.mk_laws.proofs.Vocabulary.{AreEnabledFrom, AreOfOthers, Caller, Config, Event, Flight, Holds, IsInCall}
-use Rattle.mk_laws.proofs.Vocabulary.{IsLeft, List, Marker, Moment, Named, OnlyGrow, Protocol, Seat, Stage, Steady}
+use Rattle.mk_laws.proofs.Vocabulary.{AreEnabled, AreEnabledFrom, AreOfOthers, Caller, Config, Event, Flight, Holds}
+use Rattle.mk_laws.proofs.Vocabulary.{IsInCall, IsLeft, IsWithinLimits, List, Marker, Moment, Named, OnlyGrow}
+use Rattle.mk_laws.proofs.Vocabulary.{Protocol, Seat, Stage, Steady}
 use Rattle.mk_laws.proofs.Vocabulary.{Step, TurnIsLeft, Word, Words, World, ℕ, accessed, ap, arith, at_rest, calls_from}
 use Rattle.mk_laws.proofs.Vocabulary.{cases_lt, enabled_meets, enabled_parts, ends, eq-eqb, false, first_world}
 use Rattle.mk_laws.proofs.Vocabulary.{flight_of, get_or-set_other, get_or_past, header_in, inl, inr, is_one_of}
@@ -17,7 +18,7 @@ use Rattle.mk_laws.proofs.{HeaderSteps.{header_step, stays_mapped}, Known.{HaveO
 use Rattle.mk_laws.proofs.{OthersMoves.{OthersMove, gate_one, others_move}, ProtocolReadings.in_counts}
 use Rattle.mk_laws.proofs.{Protocols.protocol_of, Standings.{InCall, in_call_is}}
 use Rattle.mk_core.proofs.{Histories.calls_append, RegisterAccesses.tally_leaves_registers}
-use Rattle.mk_core.specs.Frames.{Attends, CountsAreLeft, HoldsAll, IsIn, OthersLeave, OwnIsLeft, written_of}
+use Rattle.mk_core.specs.Frames.{Attends, CountsAreLeft, HoldsAll, IsIn, OwnIsLeft, written_of}
 use Rattle.mk_core.specs.{Growing.is_same_seat, Readings.is_in_call}
 
 -- What an event may do to registers: each caller's are its own.
@@ -216,7 +217,9 @@ counts_left : {c : Config} (es : List Event) {more : List Event} → CountsNothi
     → CountsAreLeft c es (es ++ more)
 counts_left es h = grind (arith, sum_by-append, calls_append, fulls_append)
 
-pub others_leave : OthersLeave
+-- What other seats leave to a seat, in each enabled list.
+pub others_leave : (c : Config) (es more : List Event) (s : Seat) → IsWithinLimits c → AreEnabled c (es ++ more)
+    → AreOfOthers (s ∷ []) more → IsLeft c s es (es ++ more)
 others_leave c es more s limits on others =
     let parts = enabled_parts c (first_world c) es more on in
     let known = known_left c es limits parts.0 in

@@ -6,7 +6,7 @@ use Rattle.mk_laws.proofs.Vocabulary.{eqb-true, false, false≢true, flight_amon
 use Rattle.mk_laws.proofs.Vocabulary.{if◌then◌else◌, image_of, is_past_probe, is_put, is_same, length, one_if, onward}
 use Rattle.mk_laws.proofs.Vocabulary.{p_of, progress_p, progress_q, progress_reg, q_of, r_of, refl, refused}
 use Rattle.mk_laws.proofs.Vocabulary.{register_at, register_met, slice_set, stage_behind, steps_of, sym, true, ◌%◌, ◌*◌}
-use Rattle.mk_laws.proofs.{Vocabulary.{◌+◌, ◌<◌, ◌==◌, ◌^◌, ◌∙◌, ◌≡◌, ◌≢◌}, ImagesMoves.{Flies, Move, Pays, Stores}}
+use Rattle.mk_laws.proofs.{Vocabulary.{◌+◌, ◌<◌, ◌==◌, ◌^◌, ◌∙◌, ◌≡◌, ◌≢◌}, ImagesMoves.{Flies, Pays, Stores}}
 use Rattle.mk_laws.proofs.Ready.{Leads, LeadsBy, Ready, bit_is, either_leads, image_test, image_zero, one_right}
 use Rattle.mk_laws.proofs.{Refusals.{accesses, decides_nothing, owes_null, refuses}, Standings.{is_astray, standing_at}}
 use Rattle.mk_laws.proofs.{ImagesKept.base_at, Pairs.shows_plain, Stages.is_reg_stage}

@@ -2,7 +2,7 @@
 use Rattle.mk_laws.proofs.Vocabulary.{Bool, ByFit, Chosen, Config, HeadStep, IsClaimedRun, IsNextHeader, IsPlaced}
 use Rattle.mk_laws.proofs.Vocabulary.{IsSized, ItCarves, ItEmpties, ItUnmaps, LayoutStands, List, None, NoPlot, Object}
 use Rattle.mk_laws.proofs.Vocabulary.{Option, Page, Place, Placing, Plotted, RunPages, RunStands, Seat, Some, Step}
-use Rattle.mk_laws.proofs.Vocabulary.{Unplaced, Used, World, ℕ, and_from, ap, arith, cases_Bool, cases_eq, chosen}
+use Rattle.mk_laws.proofs.Vocabulary.{Unplaced, World, ℕ, and_from, ap, arith, cases_Bool, cases_eq, chosen}
 use Rattle.mk_laws.proofs.Vocabulary.{claims_of, false, flight_of, found, ground_of, has_place, head_step, header_at}
 use Rattle.mk_laws.proofs.Vocabulary.{header_made, header_of, if◌then◌else◌, inl, inr, is_phase, is_resident_page}
 use Rattle.mk_laws.proofs.Vocabulary.{is_unmapped_header, large_count, le-leb, length, lt-ltb, marks_is, marks_place}

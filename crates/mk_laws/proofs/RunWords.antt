@@ -5,7 +5,7 @@ use Rattle.mk_laws.proofs.Vocabulary.{Step, Words, World, ℕ, all_below-at, and
 use Rattle.mk_laws.proofs.Vocabulary.{false, flight_of, free_page, get_or-set_other, ground_of, head_page, head_step}
 use Rattle.mk_laws.proofs.Vocabulary.{header_at, header_of, is_heap_store, is_run_gone, is_run_unmapped}
 use Rattle.mk_laws.proofs.Vocabulary.{is_unmapped_header, large_count, made_is_mapped, object_now, object_placed}
-use Rattle.mk_laws.proofs.Vocabulary.{pages_made, placed_at, placed_now, refl, set_by, slice_index, stands, subst, sym}
+use Rattle.mk_laws.proofs.Vocabulary.{pages_made, placed_at, placed_now, refl, set_by, slice_index, subst, sym}
 use Rattle.mk_laws.proofs.Vocabulary.{true, true≢false, typed_size, undecided_new, unmapped_header}
 use Rattle.mk_laws.proofs.Vocabulary.{unmapped_is_unmapped, used_at, word_met, words_are_zero, ◌*◌, ◌+◌, ◌-◌, ◌/◌, ◌<◌}
 use Rattle.mk_laws.proofs.Vocabulary.{◌∙◌, ◌≡◌, ◌≢◌}

@@ -10,7 +10,7 @@ use Rattle.mk_laws.proofs.Vocabulary.{if◌then◌else◌, inl, inr, is_cycling,
 use Rattle.mk_laws.proofs.Vocabulary.{length, ltb-true, map, no_longer_fresh, none_freed, not, not-true, object_now}
 use Rattle.mk_laws.proofs.Vocabulary.{object_placed, pages_some, phase_of, place_claim, placed_at, quarantine_step}
 use Rattle.mk_laws.proofs.Vocabulary.{refl, released_leaves, set-get_or, slice_index, slice_set, stands_in, sym, true}
-use Rattle.mk_laws.proofs.Vocabulary.{true≢false, with_released, [], ◌&&◌, ◌++◌, ◌+◌, ◌-◌, ◌/◌, ◌<◌, ◌==◌, ◌^◌, ◌∙◌}
+use Rattle.mk_laws.proofs.Vocabulary.{true≢false, with_released, [], ◌&&◌, ◌++◌, ◌/◌, ◌<◌, ◌==◌, ◌^◌, ◌∙◌}
 use Rattle.mk_laws.proofs.{Vocabulary.{◌∷◌, ◌≡◌, ◌⊎◌}, Basics.{Before, LeavesCells, Meets, WorldBehind, all_stand}}
 use Rattle.mk_laws.proofs.Basics.{apart_left, bit_cases, freeing_leaves, grants_new, holding_object, new_has_turn}
 use Rattle.mk_laws.proofs.Basics.{placed_claim, reg_leaves_ground, releasing_leaves, tally_ground}

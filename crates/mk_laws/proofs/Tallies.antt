@@ -6,7 +6,7 @@ use Rattle.mk_laws.proofs.Vocabulary.{and_parts, ap, append_assoc, arith, calls_
 use Rattle.mk_laws.proofs.Vocabulary.{false_from_ne_true, first_world, flight_of, fresh_words_of, held_by_pages}
 use Rattle.mk_laws.proofs.Vocabulary.{histories_keep_lengths, in_a_word, is_decided, is_run_gone, is_undecided_new}
 use Rattle.mk_laws.proofs.Vocabulary.{left, left_from, left_more, ne_eqb, refl, subst, sym, true, true≢false}
-use Rattle.mk_laws.proofs.Vocabulary.{undecided_new, unreleased_storage, world_behind, [], ◌++◌, ◌+◌, ◌==◌, ◌∙◌, ◌∷◌}
+use Rattle.mk_laws.proofs.Vocabulary.{undecided_new, unreleased_storage, world_behind, [], ◌++◌, ◌==◌, ◌∙◌, ◌∷◌}
 use Rattle.mk_laws.proofs.{Vocabulary.{◌≡◌, ◌≤◌, ◌⊎◌}, Basics.{Before, KeptByEvents, Known, Meets, before_it}}
 use Rattle.mk_laws.proofs.Basics.{holds_of_histories, known_left, known_world, placed_undecided}
 use Rattle.mk_laws.proofs.InvariantHistories.{histories_keep_the_invariant, pages_show_the_storage, told_to_layout}

@@ -7,7 +7,7 @@ use Rattle.mk_laws.proofs.Vocabulary.{get_or_past, ground_of, head_page_under, h
 use Rattle.mk_laws.proofs.Vocabulary.{is_mapped, is_small_object, is_undecided_new, is_unmapping, kinds_of}
 use Rattle.mk_laws.proofs.Vocabulary.{large_is_not_small, left, lt-ltb, mode_of, ne_eqb, not, not-true, object_placed}
 use Rattle.mk_laws.proofs.Vocabulary.{pages_some, placed_at, placed_now, plot_of, refl, seat_exists, subst, sym, true}
-use Rattle.mk_laws.proofs.Vocabulary.{◌&&◌, ◌*◌, ◌+◌, ◌-◌, ◌/◌, ◌==◌, ◌∙◌, ◌≡◌, ◌⊎◌}
+use Rattle.mk_laws.proofs.Vocabulary.{◌&&◌, ◌*◌, ◌+◌, ◌/◌, ◌==◌, ◌∙◌, ◌≡◌, ◌⊎◌}
 use Rattle.mk_laws.proofs.{BarePages.{Unreleasing, bare_page, plot_page, shown_there}, Basics.{Known, KnownWorld, Laid}}
 use Rattle.mk_laws.proofs.Basics.{all_stand, first_header, holding_object, known_world, made_sized, mapped_stays}
 use Rattle.mk_laws.proofs.{Basics.new_has_turn, Serving.{OnChosen, OnFree, Stands, placed_for}}

@@ -1,7 +1,7 @@
 -- The scene of a world: what the allocations, the place of a New and the run of a Free claim.
 use Rattle.std.specs.Prelude.{◌≡◌, ℕ, ◌-◌, ◌/◌, ◌<◌, Bool, true, false, ◌&&◌, not, ◌==◌, List, [], ◌∷◌, ◌++◌, length}
 use Rattle.std.specs.Prelude.{Option, Some, None, if◌then◌else◌}
-use Rattle.mk_geom.specs.{declared.addresses.Cell.Cell, declared.pages.Page.Page, declared.pages.Place.Place}
+use Rattle.mk_geom.specs.{declared.addresses.Cell.Cell, declared.pages.Place.Place}
 use Rattle.mk_core.specs.{declared.config.Config.Config, declared.events.Seat.TheVariants.Caller}
 use Rattle.mk_core.specs.{declared.seats.Object.Object, declared.seats.Placing.Placing}
 use Rattle.mk_core.specs.{declared.seats.Placing.TheVariants.{Chosen, Used}, declared.seats.RunPages.RunPages}

@@ -6,7 +6,7 @@ use Rattle.mk_laws.proofs.Vocabulary.{first_page_shows, has_no_pointers, head_pa
 use Rattle.mk_laws.proofs.Vocabulary.{is_small_object, large_words, object_placed, or_parts, page_at_address}
 use Rattle.mk_laws.proofs.Vocabulary.{pages_made, part_has_no_pointers, phase_of, placed_at, pointed_cell, run_begins}
 use Rattle.mk_laws.proofs.Vocabulary.{run_count, shown, slice_index, standing_has_storage, stands_on, storage_of}
-use Rattle.mk_laws.proofs.Vocabulary.{storage_words, subst, sym, true, typed_size, ◌*◌, ◌-◌, ◌/◌, ◌<◌, ◌∙◌, ◌≡◌, ◌≢◌}
+use Rattle.mk_laws.proofs.Vocabulary.{storage_words, subst, sym, true, typed_size, ◌*◌, ◌/◌, ◌<◌, ◌∙◌, ◌≡◌, ◌≢◌}
 use Rattle.mk_laws.proofs.{Vocabulary.◌⊎◌, Unmapping.{part_count, small_count}, Basics.KnownWorld, FreeWords.of_one}
 use Rattle.mk_laws.proofs.InvariantHistories.{told_to_images}
 use Rattle.mk_geom.proofs.Standing.{stands_at_first, stands_from}

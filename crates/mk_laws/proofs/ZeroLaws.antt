@@ -2,9 +2,9 @@
 use Rattle.std.specs.Prelude.{◌≡◌, Bool, true, false, List, [], ◌∷◌, ⊤, Some}
 use Rattle.mk_geom.specs.declared.addresses.Cell.{Cell}
 use Rattle.mk_core.specs.{declared.config.Config.Config, declared.events.Step.Step, declared.events.Event.Event}
-use Rattle.mk_core.specs.{Config.IsWithinLimits, Calls.word_met, Moments.flight_of, NewPlaces.target}
+use Rattle.mk_core.specs.{Calls.word_met, Moments.flight_of, NewPlaces.target}
 use Rattle.mk_core.specs.History.{World, world_behind}
-use Rattle.mk_laws.proofs.{Terrain.{IsCellOf, LayoutStands}, Zeros.HasZeros}
+use Rattle.mk_laws.proofs.{Terrain.{IsCellOf, LayoutStands}}
 use Rattle.mk_laws.specs.FreeWords.{IsWordOfMapped}
 use Rattle.mk_core.specs.declared.events.Step.TheVariants as step
 

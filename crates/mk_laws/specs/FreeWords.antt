@@ -1,11 +1,9 @@
 -- Which words of the heap are 0 while the phase isn't releasing: all that are of no unreleased allocation.
 use Rattle.std.specs.Prelude.{◌≡◌, ◌≢◌, ℕ, ◌*◌, ◌/◌, ◌%◌, ◌<◌, ◌≤◌, true, false, List, slice_index, Option, Some}
-use Rattle.mk_geom.specs.declared.{addresses.Cell.Cell, headers.Header.Header}
-use Rattle.mk_geom.specs.declared.headers.Header.TheVariants.{Free, Block, LeafBlock}
-use Rattle.mk_geom.specs.{Classes.{cells_of, class_words_of}, StorageWords.IsWordOf}
-use Rattle.mk_core.specs.{declared.{config.Config.Config, events.Event.Event}, Words.phase_of}
-use Rattle.mk_core.specs.Cells.{cell_words, cells_under, first_word, header_in, words_are_zero}
-use Rattle.mk_core.specs.NewPlaces.{is_run_gone}
+use Rattle.mk_geom.specs.{Classes.{cells_of, class_words_of}, StorageWords.IsWordOf, declared.addresses.Cell.Cell}
+use Rattle.mk_geom.specs.{declared.headers.Header.Header, declared.headers.Header.TheVariants.{Free, Block, LeafBlock}}
+use Rattle.mk_core.specs.{declared.config.Config.Config, declared.events.Event.Event, Words.phase_of}
+use Rattle.mk_core.specs.{Cells.{cell_words, cells_under, first_word, header_in, words_are_zero}, NewPlaces.is_run_gone}
 use Rattle.mk_core.specs.{Allocations.{PlacedAllocation, placed_at, is_mapped, storage_of}, History.{World, left}}
 use Rattle.mk_core.specs.Readings.{IsTaken}
 

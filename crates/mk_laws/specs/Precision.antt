@@ -20,8 +20,6 @@ KeepsOnlyTheTouched c es =
     (k : Releasing es) → NoneSweeps c k.marking → (i : ℕ) → IsInSnapshot c k.marking i
     → (placed_at (left c (through_release k)).allocations i).released ≡ false → IsTouched c k.marking i
 
--- what isn't touched is released.
-
 -- This cycle releases each allocation of its snapshot that it didn't touch.
 abbrev pub ReleasesUntouched : Config → {es : List Event} → Releasing es → Type 0
 ReleasesUntouched c k =
@@ -40,8 +38,6 @@ pub record CountsAsFree (storages : List Storage) (s : Storage) : Type 0 where
   pub cell : (page words k : ℕ) → s.first ≡ 64 * page + k * words → is_cell_taken storages page words k ≡ false
   -- and that nothing stands on the pages of a large one.
   pub pages : is_small s ≡ false → (page : ℕ) → stands_on page s ≡ true → use_of_storages storages page ≡ Nothing
-
--- After the cycle's `end` its storage counts as free in place and fits.
 
 -- After this cycle's `end` what it didn't touch of its snapshot counts as free.
 abbrev pub FreesUntouched : Config → {es : List Event} → Cycle es → Type 0

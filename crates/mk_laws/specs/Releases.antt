@@ -4,7 +4,7 @@ use Rattle.mk_never.specs.Reach.{IsReachable}
 use Rattle.mk_core.specs.{declared.config.Config.Config, declared.events.Event.Event, declared.events.Seat.Seat}
 use Rattle.mk_core.specs.{Cells.is_marked, Allocations.{PlacedAllocation, placed_at, cell_of_allocation}}
 use Rattle.mk_core.specs.{Cycles.{Releasing, IsInSnapshot, before_release, is_release}, History.{left, never_behind}}
-use Rattle.mk_core.specs.declared.events.Step.TheVariants as step
+use Rattle.mk_core.specs.declared.events.Step.{Step}
 
 -- an allocation before a cycle's `release`, and after it
 
@@ -40,5 +40,5 @@ NoOthersRelease c es =
 -- Each `release` is that of a cycle.
 abbrev pub ReleasesAreOfCycles : Config → List Event → Type 0
 ReleasesAreOfCycles c es =
-    (front rest : List Event) (seat : Seat) → es ≡ front ++ record { seat = seat; step = step.Release } ∷ rest
+    (front rest : List Event) (seat : Seat) → es ≡ front ++ record { seat = seat; step = Step.Release } ∷ rest
     → (r : Releasing es) × (before_release r ≡ front)

@@ -1,6 +1,6 @@
 -- How many pages a run has, by its head page's header.
 use Rattle.std.specs.Prelude.{ℕ, Option, Some}
-use Rattle.mk_geom.specs.declared.headers.Header.{Header, TheVariants.{Run, LeafRun}}
+use Rattle.mk_geom.specs.{declared.headers.Header.Header, declared.headers.Header.TheVariants.{Run, LeafRun}}
 
 -- the pages of the run that is headed there
 abbrev pub run_count : Option Header → ℕ

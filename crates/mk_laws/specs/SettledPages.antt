@@ -1,8 +1,9 @@
 -- What stands of each unreleased allocation, and when nothing is on its way.
 use Rattle.std.specs.Prelude.{◌≡◌, Bool, true, false, Option}
-use Rattle.mk_core.specs.declared.{config.Config.Config, seats.Placing.{Placing, TheVariants.{Chosen, Used}}}
-use Rattle.mk_core.specs.{declared.seats.RunPages.RunPages, Bounded.is_none_or, Cells.is_used, Moments.is_phase}
-use Rattle.mk_core.specs.{NewPlaces.is_run_unmapped, Words.Words, Allocations.{PlacedAllocation, cell_of_allocation}}
+use Rattle.mk_core.specs.{declared.config.Config.Config, declared.seats.Placing.Placing}
+use Rattle.mk_core.specs.{declared.seats.Placing.TheVariants.{Chosen, Used}, declared.seats.RunPages.RunPages}
+use Rattle.mk_core.specs.{Bounded.is_none_or, Cells.is_used, Moments.is_phase, NewPlaces.is_run_unmapped, Words.Words}
+use Rattle.mk_core.specs.Allocations.{PlacedAllocation, cell_of_allocation}
 use Rattle.mk_core.specs.{StandingAllocations.{StandsOnHeap, HasItsHeaders}, History.World}
 
 -- the New has a place

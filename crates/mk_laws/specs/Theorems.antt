@@ -3,11 +3,10 @@ use Rattle.std.specs.Prelude.{◌≡◌, ℕ, false, List, ◌∷◌, ◌++◌, 
 use Rattle.mk_never.specs.Reach.{IsReachable}
 use Rattle.mk_geom.specs.{StorageWords.IsWordOf, Storages.PagesStandFor, PageUses.resident_pages}
 use Rattle.mk_geom.specs.PageWords.{uses_of_pages}
-use Rattle.mk_core.specs.declared.{config.Config.Config, events.{Event.Event, Seat.Seat}, seats.Object.Object}
-use Rattle.mk_core.specs.Allocations.{place_among_allocations, placed_at, storage_of, unreleased_storage}
-use Rattle.mk_core.specs.{ClosedMarks.{MarkingIsGuarded, MarksAreClosed}, History.{IsHistory, left, never_behind}}
-use Rattle.mk_core.specs.NewPlaces.{place_on_pages}
-use Rattle.mk_core.specs.declared.events.Step.TheVariants as step
+use Rattle.mk_core.specs.{declared.config.Config.Config, declared.events.Event.Event, declared.events.Seat.Seat}
+use Rattle.mk_core.specs.{declared.seats.Object.Object, Allocations.{place_among_allocations, placed_at, storage_of}}
+use Rattle.mk_core.specs.{Allocations.unreleased_storage, ClosedMarks.{MarkingIsGuarded, MarksAreClosed}}
+use Rattle.mk_core.specs.{History.{IsHistory, left, never_behind}, NewPlaces.place_on_pages, declared.events.Step.Step}
 use Rattle.mk_laws.specs.SettledPages.{IsSettled, StandsUsed}
 
 -- It holds of each history.
@@ -52,7 +51,7 @@ GuardsBlackCells c es = MarkingIsGuarded c (left c es).now
 -- Each `close` finds the marks closed.
 abbrev pub ClosesFindMarksClosed : Config → List Event → Type 0
 ClosesFindMarksClosed c es =
-    (before behind : List Event) (seat : Seat) → es ≡ before ++ record { seat = seat; step = step.Close } ∷ behind
+    (before behind : List Event) (seat : Seat) → es ≡ before ++ record { seat = seat; step = Step.Close } ∷ behind
     → MarksAreClosed c (left c before)
 
 -- At most this many pages are resident.

@@ -4,7 +4,6 @@ use Rattle.mk_geom.specs.{PageUses.is_resident_page, PageWords.use_of_page, Stor
 use Rattle.mk_core.specs.{declared.config.Config.Config, declared.events.Event.Event, declared.events.Step.Step}
 use Rattle.mk_core.specs.{declared.seats.RunPages.RunPages, Allocations.{is_mapped, placed_at, storage_of}}
 use Rattle.mk_core.specs.{History.{World, left}, NewPlaces.is_run_unmapped, Words.page_of}
-use Rattle.mk_core.specs.declared.events.Step.TheVariants as step
 
 -- whether the page takes memory, as `first_fit` counts it
 abbrev pub is_resident_in : World → ℕ → Bool
@@ -22,7 +21,7 @@ pub record IsOfUnmappedRun (c : Config) (w : World) (p : ℕ) : Type 0 where
 
 -- The step makes the page one of a block or a run: it stores a header word to it, and not 0.
 abbrev pub gives_header : ℕ → Step → Bool
-gives_header p (step.Head q value) = (q == p) && not (value == 0)
+gives_header p (Step.Head q value) = (q == p) && not (value == 0)
 gives_header p _ = false
 
 -- So it stays, whatever happens to the allocation, until a step makes the page one of a block or a run again.

@@ -8,8 +8,6 @@ use Rattle.mk_core.specs.{declared.seats.Stage.Stage, Calls.{at_rest, is_same_st
 use Rattle.mk_core.specs.{History.{IsHistory, left, never_behind}, Order.{group_of, is_in_order, is_open_to}}
 use Rattle.mk_core.specs.{Order.seat_exists, Moments.{Moment, flight_of, marker_at, marker_of, outside}}
 use Rattle.mk_core.specs.Readings.{Holds, is_in, is_in_call}
-use Rattle.mk_core.specs.declared.events.Step.TheVariants as step
-use Rattle.mk_core.specs.declared.seats.Stage.TheVariants as stage
 
 -- The seat is in the middle of nothing: it has no call in flight, and as a marker it is out.
 pub record Rests (m : Moment) (s : Seat) : Type 0 where
@@ -24,19 +22,19 @@ pub record ComesTo (c : Config) (m : Moment) (s : Seat) (x : Step) : Type 0 wher
 
 -- the steps of the turn's holder that come only while no marker attends
 abbrev pub needs_markers_out : Step → Bool
-needs_markers_out step.Close = true
-needs_markers_out (step.Undirty p) = true
-needs_markers_out (step.Black p v) = true
-needs_markers_out (step.Unblack p) = true
+needs_markers_out Step.Close = true
+needs_markers_out (Step.Undirty p) = true
+needs_markers_out (Step.Black p v) = true
+needs_markers_out (Step.Unblack p) = true
 needs_markers_out _ = false
 
 -- This step of a seat has to wait, since another must do something first: the other has the turn; or it has the turn,
 -- and holds the gate of the seat; or it is in a call, so that its gate can't be held; or it is a marker that is in.
 pub data IsKeptBy (c : Config) (m : Moment) : Seat → Step → Seat → Type 0 where
-  Turn : (s t : Seat) (o : Option Op) → Holds c m t → IsKeptBy c m s (step.Take o) t
+  Turn : (s t : Seat) (o : Option Op) → Holds c m t → IsKeptBy c m s (Step.Take o) t
   Gate : (k : ℕ) (t : Seat) (o : Op) → slice_index m.words.gates k ≡ 2 → Holds c m t
-      → IsKeptBy c m (Caller k) (step.Enter o) t
-  Call : (s : Seat) (k : ℕ) → slice_index m.words.gates k ≡ 1 → IsKeptBy c m s (step.Hold k) (Caller k)
+      → IsKeptBy c m (Caller k) (Step.Enter o) t
+  Call : (s : Seat) (k : ℕ) → slice_index m.words.gates k ≡ 1 → IsKeptBy c m s (Step.Hold k) (Caller k)
   Mark : (s : Seat) (x : Step) (k : ℕ) → needs_markers_out x ≡ true → is_in (marker_of m k) ≡ true
       → IsKeptBy c m s x (Marker k)
 
@@ -69,7 +67,7 @@ StepsAside c es t = RestsWithin 7 c es t
 -- The call has still to be decided.
 abbrev pub is_undecided : Stage → Bool
 is_undecided s =
-    not (list_any (is_same_stage s) (stage.Idle ∷ stage.Put ∷ stage.Dirty ∷ stage.Leave ∷ stage.Give ∷ []))
+    not (list_any (is_same_stage s) (Stage.Idle ∷ Stage.Put ∷ Stage.Dirty ∷ Stage.Leave ∷ Stage.Give ∷ []))
 
 -- The operations of calls that aren't decided yet are admitted, as those of a checked program are.
 abbrev pub CallsInFlightAreAdmitted : Config → List Event → Type 0

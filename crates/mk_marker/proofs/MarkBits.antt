@@ -1,8 +1,8 @@
 -- What an event leaves of the marks while a cycle marks: each is of a cell, or of one that a New is to carve.
 use Rattle.mk_words.proofs.Below.Laws.Vocabulary.{Bool, Chosen, Config, HeaderGoesOn, Holding, IsMarking, IsPlaced}
 use Rattle.mk_words.proofs.Below.Laws.Vocabulary.{IsSized, IsWithinLimits, ItGivesBack, ItTakes, Moment, Object, Place}
-use Rattle.mk_words.proofs.Below.Laws.Vocabulary.{Placing, Seat, Stage, Step, Unplaced, Used, UsedStep, World, ℕ}
-use Rattle.mk_words.proofs.Below.Laws.Vocabulary.{and_parts, ap, arith, cells_made, cells_under, chosen, eqb-true}
+use Rattle.mk_words.proofs.Below.Laws.Vocabulary.{Placing, Seat, Stage, Step, Unplaced, UsedStep, World, ℕ}
+use Rattle.mk_words.proofs.Below.Laws.Vocabulary.{and_parts, ap, arith, cells_made, cells_under, eqb-true}
 use Rattle.mk_words.proofs.Below.Laws.Vocabulary.{false, flight_of, has_bit, has_place, header_at, header_in}
 use Rattle.mk_words.proofs.Below.Laws.Vocabulary.{header_made, header_of, held_by_pages, if◌then◌else◌, inl, inr}
 use Rattle.mk_words.proofs.Below.Laws.Vocabulary.{is_decided, is_run_gone, made_shows, ne_eqb, nothing_done}

@@ -2,8 +2,8 @@
 use Rattle.std.specs.Prelude.{◌≡◌, ◌⊎◌, ℕ, ◌<◌, Bool, true, None, Option}
 use Rattle.mk_core.specs.{declared.events.Seat.TheVariants.Marker, declared.seats.Presence.TheVariants.Attending}
 use Rattle.mk_core.specs.{declared.seats.SeenHeader.SeenHeader, StopConditions.is_attending, MarkerConditions.is_out}
-use Rattle.mk_words.specs.{States.{WordsState, PassState}, Markers.marker_in}
 use Rattle.mk_core.specs.declared.seats.Marker.{Marker as MarkerState}
+use Rattle.mk_words.specs.{States.{WordsState, PassState}, Markers.marker_in}
 
 -- the marker attends
 abbrev pub attends : PassState → Bool

@@ -3,14 +3,11 @@ use Rattle.std.specs.Prelude.{◌≡◌, ℕ, ◌-◌, ◌<◌, ◌≤◌, true,
 use Rattle.mk_core.specs.{declared.events.Step.Step, declared.seats.Presence.TheVariants.Attending}
 use Rattle.mk_core.specs.{declared.seats.Scan.Scan, declared.seats.SeenHeader.SeenHeader}
 use Rattle.mk_core.specs.{Accesses.{scan_page, scan_bit}, Bits.{has_bit, bit_for}, Effects.marker_behind}
-use Rattle.mk_core.specs.{Frames.OnlyGrow, Growing.Finding}
-use Rattle.mk_words.specs.{States.{WordsState, PassState, IsPass, now_of}, Markers.marker_in}
-use Rattle.mk_words.specs.Doing.{are_of}
+use Rattle.mk_core.specs.{Frames.OnlyGrow, Growing.Finding, declared.seats.Marker.Marker as MarkerState}
+use Rattle.mk_words.specs.{States.{WordsState, PassState, IsPass, now_of}, Markers.marker_in, Doing.are_of}
 use Rattle.mk_marker.specs.{declared.cells.MarkedCell.MarkedCell, Markers.{IsMarkers, IsBetweenScans, between_scans}}
 use Rattle.mk_marker.specs.{Markers.attends, Doing.{Did, finding, is_markers_look, is_of_scan, count_loads}}
 use Rattle.mk_marker.specs.{Scanning.Scans, Working.{SeesNoWork, SeesACell}}
-use Rattle.mk_core.specs.declared.events.Step.TheVariants as step
-use Rattle.mk_core.specs.declared.seats.Marker.{Marker as MarkerState}
 
 -- The pass is a marker's, of this table.
 pub record IsOf (w : WordsState) (p : PassState) : Type 0 where
@@ -71,7 +68,7 @@ pub record IsHolding (x : MarkerState) (value : ℕ) : Type 0 where
 -- The pass claimed the cell, and found it marked.
 pub record ClaimsMarked (p : PassState) (cell : MarkedCell) (q : PassState) : Type 0 where
   pub found : ℕ
-  pub moves : MovesMarker p (step.Claim cell.page cell.index) found q
+  pub moves : MovesMarker p (Step.Claim cell.page cell.index) found q
   pub marked : has_bit found cell.index ≡ true
 
 -- The pass made these steps of a scan, with this many loads, and is still scanning.

@@ -2,18 +2,16 @@
 use Rattle.std.specs.Prelude.{◌≡◌, ◌≢◌, ◌⊎◌, ℕ, ◌<◌, ◌%◌, true, false, List, [], ◌∷◌, ◌++◌, slice_index}
 use Rattle.mk_geom.specs.Headers.{header_of}
 use Rattle.mk_core.specs.{declared.events.Seat.Seat, declared.phases.Phase.Phase, Phases.phase_number}
-use Rattle.mk_core.specs.{Bits.{has_bit, without}, Cells.cells_under, Growing.Finding}
-use Rattle.mk_words.specs.States.{PassState, now_of}
-use Rattle.mk_words.specs.Doing.{are_of}
+use Rattle.mk_core.specs.{Bits.{has_bit, without}, Cells.cells_under, Growing.Finding, declared.events.Word.Word}
+use Rattle.mk_core.specs.declared.events.Step.{Step}
+use Rattle.mk_words.specs.{States.{PassState, now_of}, Doing.are_of}
 use Rattle.mk_marker.specs.{declared.markers.Work.Work, declared.markers.Work.TheVariants.{Worked, Idle, Wanted}}
 use Rattle.mk_marker.specs.{Markers.{attends, IsOut}, Doing.{Did, finding, looking, is_markers_look}, Scanning.Scans}
-use Rattle.mk_core.specs.declared.events.Word.TheVariants as word
-use Rattle.mk_core.specs.declared.events.Step.TheVariants as step
 
 -- `attend` found the phase marking.
 pub record ComesIn (p q : PassState) : Type 0 where
   pub found : ℕ
-  pub did : Did p (finding p.seat step.Attend found ∷ []) q
+  pub did : Did p (finding p.seat Step.Attend found ∷ []) q
   pub marking : found % 8 ≡ 1
   pub attends : attends q ≡ true
 
@@ -21,7 +19,7 @@ pub record ComesIn (p q : PassState) : Type 0 where
 pub record FindsPhase (p : PassState) (phase : Phase) (q : PassState) : Type 0 where
   pub found : ℕ
   pub left : ℕ
-  pub did : Did p (finding p.seat step.Attend found ∷ finding p.seat step.Quit left ∷ []) q
+  pub did : Did p (finding p.seat Step.Attend found ∷ finding p.seat Step.Quit left ∷ []) q
   pub low_bits : phase_number phase ≡ found % 8
   pub other : phase_number phase ≢ 1
   pub out : IsOut q
@@ -33,14 +31,14 @@ pub record SeesNoWork (s : Seat) (page : ℕ) (xs : List Finding) : Type 0 where
   pub behind : List Finding
   pub marks : ℕ
   pub blacks : ℕ
-  pub is : xs ≡ before ++ looking s (word.Mark page) marks ∷ looking s (word.Black page) blacks ∷ behind
-  pub no_work : (without marks blacks ≡ 0) ⊎ ((rest : List Finding) × (behind ≡ looking s (word.Head page) 0 ∷ rest))
+  pub is : xs ≡ before ++ looking s (Word.Mark page) marks ∷ looking s (Word.Black page) blacks ∷ behind
+  pub no_work : (without marks blacks ≡ 0) ⊎ ((rest : List Finding) × (behind ≡ looking s (Word.Head page) 0 ∷ rest))
 
 -- The call found the phase not wanted, looked at every page, and saw no work.
 pub record FindsNoWork (p q : PassState) : Type 0 where
   pub phase : ℕ
   pub steps : List Finding
-  pub did : Did p (looking p.seat word.Phase phase ∷ steps) q
+  pub did : Did p (looking p.seat Word.Phase phase ∷ steps) q
   pub not_wanted : phase % 8 ≢ 2
   pub looks : are_of is_markers_look steps ≡ true
   pub pages : (page : ℕ) → page < p.table.config.pages → SeesNoWork p.seat page steps
@@ -50,8 +48,8 @@ pub record SeesACell (s : Seat) (page index header : ℕ) (xs : List Finding) : 
   pub looks : List Finding
   pub marks : ℕ
   pub blacks : ℕ
-  pub is : xs ≡ looks ++ looking s (word.Mark page) marks ∷ looking s (word.Black page) blacks ∷ looking s
-      (word.Head page) header ∷ []
+  pub is : xs ≡ looks ++ looking s (Word.Mark page) marks ∷ looking s (Word.Black page) blacks ∷ looking s
+      (Word.Head page) header ∷ []
   pub are_looks : are_of is_markers_look looks ≡ true
   pub marked : has_bit marks index ≡ true
   pub not_black : has_bit blacks index ≡ false
@@ -69,7 +67,7 @@ pub record ScansACell (p q : PassState) : Type 0 where
   pub header : ℕ
   pub search : List Finding
   pub scan : List Finding
-  pub did : Did p (looking p.seat word.Phase phase ∷ search ++ scan) q
+  pub did : Did p (looking p.seat Word.Phase phase ∷ search ++ scan) q
   pub not_wanted : phase % 8 ≢ 2
   pub sees : SeesACell p.seat page index header search
   pub scans : Scans p.seat page index header scan
@@ -78,7 +76,7 @@ pub record ScansACell (p q : PassState) : Type 0 where
 -- The call's one step found the phase wanted for closing.
 pub record FindsWanted (p q : PassState) : Type 0 where
   pub phase : ℕ
-  pub did : Did p (looking p.seat word.Phase phase ∷ []) q
+  pub did : Did p (looking p.seat Word.Phase phase ∷ []) q
   pub wanted : phase % 8 ≡ 2
 
 -- Each answer of `work` has its cause.
@@ -90,5 +88,5 @@ WorksSo Wanted p q = FindsWanted p q
 -- The marker went out.
 pub record GoesOut (p q : PassState) : Type 0 where
   pub left : ℕ
-  pub did : Did p (finding p.seat step.Quit left ∷ []) q
+  pub did : Did p (finding p.seat Step.Quit left ∷ []) q
   pub out : IsOut q

@@ -6,8 +6,7 @@ use Rattle.mk_never.specs.{declared.values.Value.TheVariants.{Null, Num, Ptr}, d
 use Rattle.mk_never.specs.declared.operations.Op.TheVariants.{New, Free, GetNum, SetNum, GetPtr, SetPtr, CasPtr, Lea}
 use Rattle.mk_never.specs.declared.operations.Op.TheVariants.{Move, Clear, GetGlobal, SetGlobal, Same, IsNull}
 use Rattle.mk_never.specs.{Types.{kinds_of, is_number}, NeverHeap.{NeverState, Call, register_at, allocation_at}}
-use Rattle.mk_never.specs.NeverHeap.{words_of, after_op}
-use Rattle.mk_never.specs.declared.types.Kind.TheVariants.{Num as Number, To}
+use Rattle.mk_never.specs.{NeverHeap.{words_of, after_op}, declared.types.Kind.TheVariants.{Num as Number, To}}
 
 -- The operation's registers, global and type are in range.
 abbrev pub OperandsAreInRange : NeverState → Op → Type 0
@@ -32,11 +31,10 @@ IsCaller n caller = 8 * caller + 7 < length n.registers
 
 -- If the value is a pointer, the word i words on is inside its allocation, and P holds of the word's kind.
 abbrev pub Meets : NeverState → Value → ℕ → (Kind → Type 0) → Type 0
-Meets n Null i P = Unit {0}
-Meets n (Num m) i P = Unit {0}
 Meets n (Ptr number ty offset) i P =
     (offset + i < length (words_of n number))
     × P (slice_index_or (kinds_of n.types (allocation_at n number).ty) (offset + i) Number)
+Meets n _ i P = Unit {0}
 
 -- It is a number.
 abbrev pub IsNumber : Kind → Type 0
@@ -48,28 +46,20 @@ IsPointer kind = is_number kind ≡ false
 
 -- The access is admitted by the type and the offset of the pointer in its register, if that isn't null.
 abbrev pub AccessIsAdmitted : NeverState → ℕ → Op → Type 0
-AccessIsAdmitted n c (New d ty full) = Unit {0}
-AccessIsAdmitted n c (Free p) = Unit {0}
 AccessIsAdmitted n c (GetNum q i) = Meets n (register_at n c q) i IsNumber
 AccessIsAdmitted n c (SetNum q i m) = Meets n (register_at n c q) i IsNumber
 AccessIsAdmitted n c (GetPtr d q i) = Meets n (register_at n c q) i IsPointer
 AccessIsAdmitted n c (SetPtr q i p) = Meets n (register_at n c q) i IsPointer
 AccessIsAdmitted n c (CasPtr q i p r) = Meets n (register_at n c q) i IsPointer
 AccessIsAdmitted n c (Lea d q i) = Meets n (register_at n c q) i (λ kind. Unit {0})
-AccessIsAdmitted n c (Move d q) = Unit {0}
-AccessIsAdmitted n c (Clear d) = Unit {0}
-AccessIsAdmitted n c (GetGlobal d g) = Unit {0}
-AccessIsAdmitted n c (SetGlobal g p) = Unit {0}
-AccessIsAdmitted n c (Same p q) = Unit {0}
-AccessIsAdmitted n c (IsNull p) = Unit {0}
+-- the others access no word
+AccessIsAdmitted n c _ = Unit {0}
 
 -- Null, or a pointer of the word's type and offset
 abbrev pub IsOfKind : Value → Kind → Type 0
-IsOfKind Null Number = ⊥
 IsOfKind Null (To ty offset) = Unit {0}
-IsOfKind (Num m) kind = ⊥
-IsOfKind (Ptr number ty offset) Number = ⊥
 IsOfKind (Ptr number ty offset) (To ty' offset') = (ty ≡ ty') × (offset ≡ offset')
+IsOfKind _ _ = ⊥
 
 -- Null, or a pointer to its allocation's first word
 abbrev pub IsBase : Value → Type 0
@@ -80,22 +70,14 @@ IsBase (Ptr number ty offset) = offset ≡ 0
 -- What the operation stores has the type and the offset of the place, and what it frees is a whole allocation.
 -- Global g has the type at place g of the list; a global after the list has none.
 abbrev pub StoreIsAdmitted : List ℕ → NeverState → ℕ → Op → Type 0
-StoreIsAdmitted globals n c (New d ty full) = Unit {0}
 StoreIsAdmitted globals n c (Free p) = IsBase (register_at n c p)
-StoreIsAdmitted globals n c (GetNum q i) = Unit {0}
-StoreIsAdmitted globals n c (SetNum q i m) = Unit {0}
-StoreIsAdmitted globals n c (GetPtr d q i) = Unit {0}
 StoreIsAdmitted globals n c (SetPtr q i p) = Meets n (register_at n c q) i (IsOfKind (register_at n c p))
 StoreIsAdmitted globals n c (CasPtr q i p r) =
     Meets n (register_at n c q) i (λ kind. IsOfKind (register_at n c p) kind × IsOfKind (register_at n c r) kind)
-StoreIsAdmitted globals n c (Lea d q i) = Unit {0}
-StoreIsAdmitted globals n c (Move d q) = Unit {0}
-StoreIsAdmitted globals n c (Clear d) = Unit {0}
-StoreIsAdmitted globals n c (GetGlobal d g) = Unit {0}
 StoreIsAdmitted globals n c (SetGlobal g p) =
     IfSome (slice_get globals g) (λ ty. IsOfKind (register_at n c p) (To ty 0))
-StoreIsAdmitted globals n c (Same p q) = Unit {0}
-StoreIsAdmitted globals n c (IsNull p) = Unit {0}
+-- Of the others, and of a number that is stored, nothing is asked.
+StoreIsAdmitted globals n c _ = Unit {0}
 
 -- what is asked of an operation at its place
 pub record IsAdmitted (globals : List ℕ) (n : NeverState) (caller : ℕ) (op : Op) : Type 0 where

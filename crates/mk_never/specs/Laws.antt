@@ -2,11 +2,11 @@
 use Rattle.std.specs.Prelude.{◌≡◌, ◌≢◌, ◌↔◌, ℕ, ◌+◌, ◌<◌, ◌≤◌, List, [], ◌∷◌, ◌++◌, length, false, IsTrue}
 use Rattle.mk_never.specs.{declared.values.Value.Value, declared.values.Value.TheVariants.{Null, Num, Ptr}}
 use Rattle.mk_never.specs.{declared.values.Target.TheVariants.WordOf, declared.operations.Op.Op}
-use Rattle.mk_never.specs.declared.operations.Op.TheVariants.{New, Free, GetNum, SetNum, GetPtr, SetPtr, CasPtr, Lea}
-use Rattle.mk_never.specs.declared.operations.Op.TheVariants.{Move, Clear, GetGlobal, SetGlobal, Same, IsNull}
-use Rattle.mk_never.specs.{Types.{kinds_of, zero_words}, NeverHeap.{NeverState, Call, register_at, allocation_at}}
-use Rattle.mk_never.specs.NeverHeap.{words_of, word_at, target_of, number_of, reply_of, after_op, after_calls}
-use Rattle.mk_never.specs.{NeverHeap.replies_of, Admitted.{IsCaller, AccessIsAdmitted, AreAdmitted}}
+use Rattle.mk_never.specs.declared.operations.Op.TheVariants.{New, GetNum, SetNum, GetPtr, SetPtr, CasPtr, Lea, Move}
+use Rattle.mk_never.specs.{declared.operations.Op.TheVariants.{Clear, GetGlobal, Same}, Types.{kinds_of, zero_words}}
+use Rattle.mk_never.specs.NeverHeap.{NeverState, Call, register_at, allocation_at, words_of, word_at, target_of}
+use Rattle.mk_never.specs.NeverHeap.{number_of, reply_of, after_op, after_calls, replies_of}
+use Rattle.mk_never.specs.Admitted.{IsCaller, AccessIsAdmitted, AreAdmitted}
 use Rattle.mk_never.specs.declared.operations.Reply.TheVariants.{Num as Number, Val}
 
 -- Each allocation of n is in m, with its type and its number of words, and what is freed in n is freed in m. m has the
@@ -49,19 +49,12 @@ NewAdds n caller d ty = IsCaller n caller → d < 8 → AddsNew n (after_op n ca
 -- The register that the operation sets, if any, is one of its caller's eight.
 abbrev pub DestinationIsInRange : Op → Type 0
 DestinationIsInRange (New d ty full) = d < 8
-DestinationIsInRange (Free p) = Unit {0}
-DestinationIsInRange (GetNum q i) = Unit {0}
-DestinationIsInRange (SetNum q i m) = Unit {0}
 DestinationIsInRange (GetPtr d q i) = d < 8
-DestinationIsInRange (SetPtr q i p) = Unit {0}
-DestinationIsInRange (CasPtr q i p r) = Unit {0}
 DestinationIsInRange (Lea d q i) = d < 8
 DestinationIsInRange (Move d q) = d < 8
 DestinationIsInRange (Clear d) = d < 8
 DestinationIsInRange (GetGlobal d g) = d < 8
-DestinationIsInRange (SetGlobal g p) = Unit {0}
-DestinationIsInRange (Same p q) = Unit {0}
-DestinationIsInRange (IsNull p) = Unit {0}
+DestinationIsInRange _ = Unit {0}
 
 -- No call is the caller's, and each sets registers only of its own caller.
 abbrev pub AreByOthers : ℕ → List Call → Type 0
@@ -83,38 +76,18 @@ Reaches n value i number place = target_of n value i ≡ WordOf number place
 
 -- The operation stores to this word: a compare and exchange only if it exchanges.
 abbrev pub StoresTo : NeverState → ℕ → Op → ℕ → ℕ → Type 0
-StoresTo n c (New d ty full) number place = ⊥
-StoresTo n c (Free p) number place = ⊥
-StoresTo n c (GetNum q i) number place = ⊥
 StoresTo n c (SetNum q i m) number place = Reaches n (register_at n c q) i number place
-StoresTo n c (GetPtr d q i) number place = ⊥
 StoresTo n c (SetPtr q i p) number place = Reaches n (register_at n c q) i number place
 StoresTo n c (CasPtr q i p r) number place =
     Reaches n (register_at n c q) i number place × (word_at n number place ≡ register_at n c p)
-StoresTo n c (Lea d q i) number place = ⊥
-StoresTo n c (Move d q) number place = ⊥
-StoresTo n c (Clear d) number place = ⊥
-StoresTo n c (GetGlobal d g) number place = ⊥
-StoresTo n c (SetGlobal g p) number place = ⊥
-StoresTo n c (Same p q) number place = ⊥
-StoresTo n c (IsNull p) number place = ⊥
+StoresTo n c _ number place = ⊥
 
 -- what a storing operation stores
 abbrev pub stored_value : NeverState → ℕ → Op → Value
-stored_value n c (New d ty full) = Null
-stored_value n c (Free p) = Null
-stored_value n c (GetNum q i) = Null
 stored_value n c (SetNum q i m) = Num m
-stored_value n c (GetPtr d q i) = Null
 stored_value n c (SetPtr q i p) = register_at n c p
 stored_value n c (CasPtr q i p r) = register_at n c r
-stored_value n c (Lea d q i) = Null
-stored_value n c (Move d q) = Null
-stored_value n c (Clear d) = Null
-stored_value n c (GetGlobal d g) = Null
-stored_value n c (SetGlobal g p) = Null
-stored_value n c (Same p q) = Null
-stored_value n c (IsNull p) = Null
+stored_value n c _ = Null
 
 -- No call stores to this word.
 abbrev pub NoneStoresTo : NeverState → List Call → ℕ → ℕ → Type 0

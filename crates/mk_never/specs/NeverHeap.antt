@@ -6,9 +6,9 @@ use Rattle.mk_never.specs.{declared.values.Value.TheVariants.{Null, Num, Ptr}, d
 use Rattle.mk_never.specs.{declared.values.Target.TheVariants.{Nothing, Unmapped, WordOf}, declared.operations.Op.Op}
 use Rattle.mk_never.specs.declared.operations.Op.TheVariants.{New, Free, GetNum, SetNum, GetPtr, SetPtr, CasPtr, Lea}
 use Rattle.mk_never.specs.declared.operations.Op.TheVariants.{Move, Clear, GetGlobal, SetGlobal, Same, IsNull}
-use Rattle.mk_never.specs.{declared.operations.Reply.Reply, declared.operations.Reply.TheVariants.Double}
+use Rattle.mk_never.specs.{declared.operations.Reply.Reply, declared.operations.Reply.TheVariants.{Double, Done}}
+use Rattle.mk_never.specs.declared.operations.Reply.TheVariants.{Num as Number, Val, Full, Fault, Null as WasNull}
 use Rattle.mk_never.specs.Types.{kinds_of, is_large, zero_words}
-use Rattle.mk_never.specs.declared.operations.Reply.TheVariants.{Done, Num as Number, Val, Full, Fault, Null as WasNull}
 
 -- an allocation: the type that it was made for, its words, and whether it was freed
 pub record Allocation : Type 0 where
@@ -90,28 +90,21 @@ is_unmapped a = a.freed && is_large a.words
 
 -- what an access through a value reaches
 abbrev pub target_of : NeverState → Value → ℕ → Target
-target_of n Null i = Nothing
-target_of n (Num m) i = Nothing
 target_of n (Ptr number ty offset) i = if is_unmapped (allocation_at n number) then Unmapped
     else WordOf number (offset + i)
+target_of n _ i = Nothing
 
 -- the number that a load of this value gives
 abbrev pub number_of : Value → ℕ
-number_of Null = 0
 number_of (Num m) = m
-number_of (Ptr number ty offset) = 0
+number_of _ = 0
 
 -- the two values are equal
 abbrev pub is_same : Value → Value → Bool
 is_same Null Null = true
 is_same (Num m) (Num k) = m == k
 is_same (Ptr number ty offset) (Ptr number' ty' offset') = (number == number') && (ty == ty') && (offset == offset')
-is_same Null (Num k) = false
-is_same Null (Ptr number' ty' offset') = false
-is_same (Num m) Null = false
-is_same (Num m) (Ptr number' ty' offset') = false
-is_same (Ptr number ty offset) Null = false
-is_same (Ptr number ty offset) (Num k) = false
+is_same _ _ = false
 
 -- 1 if it is so, otherwise 0
 abbrev pub bit : Bool → ℕ
@@ -126,33 +119,28 @@ reply_at (WordOf number place) at = at number place
 
 -- what an access leaves, given what it leaves if it is refused, and what at the word that it reaches
 abbrev pub left_at : Target → NeverState → (ℕ → ℕ → NeverState) → NeverState
-left_at Nothing refused at = refused
-left_at Unmapped refused at = refused
 left_at (WordOf number place) refused at = at number place
+left_at _ refused at = refused
 
 -- the reply to a Free of this value
 abbrev pub free_reply : NeverState → Value → Reply
-free_reply n Null = Done
-free_reply n (Num m) = Done
 free_reply n (Ptr number ty offset) = if (allocation_at n number).freed then Double else Done
+free_reply n _ = Done
 
 -- what the Free leaves
 abbrev pub after_free : NeverState → Value → NeverState
-after_free n Null = n
-after_free n (Num m) = n
 after_free n (Ptr number ty offset) = with_freed n number
+after_free n _ = n
 
 -- the reply to a Lea from this value
 abbrev pub lea_reply : Value → Reply
-lea_reply Null = WasNull
-lea_reply (Num m) = WasNull
 lea_reply (Ptr number ty offset) = Done
+lea_reply _ = WasNull
 
 -- a pointer i words on
 abbrev pub moved_on : Value → ℕ → Value
-moved_on Null i = Null
-moved_on (Num m) i = Null
 moved_on (Ptr number ty offset) i = Ptr number ty (offset + i)
+moved_on _ i = Null
 
 -- what the operation of a caller replies
 abbrev pub reply_of : NeverState → ℕ → Op → Reply
@@ -176,7 +164,6 @@ reply_of n c (IsNull p) = Number (bit (is_same (register_at n c p) Null))
 abbrev pub after_op : NeverState → ℕ → Op → NeverState
 after_op n c (New d ty full) = if full then n else with_register (with_new n ty) c d (Ptr (length n.allocations) ty 0)
 after_op n c (Free p) = after_free n (register_at n c p)
-after_op n c (GetNum q i) = n
 after_op n c (SetNum q i m) = left_at (target_of n (register_at n c q) i) n (λ a w. with_word n a w (Num m))
 after_op n c (GetPtr d q i) =
     left_at (target_of n (register_at n c q) i) (with_register n c d Null) (λ a w. with_register n c d (word_at n a w))
@@ -189,8 +176,8 @@ after_op n c (Move d q) = with_register n c d (register_at n c q)
 after_op n c (Clear d) = with_register n c d Null
 after_op n c (GetGlobal d g) = with_register n c d (global_at n g)
 after_op n c (SetGlobal g p) = with_global n g (register_at n c p)
-after_op n c (Same p q) = n
-after_op n c (IsNull p) = n
+-- the others leave all as it was
+after_op n c _ = n
 
 -- an operation of a caller
 pub record Call : Type 0 where

@@ -1,15 +1,13 @@
 -- What a program can still get to: the allocations that pointers lead to, from registers and globals along words.
 use Rattle.std.specs.Prelude.{◌≡◌, ◌⊎◌, ℕ, ◌<◌, Bool, false, IsTrue, List, length, slice_index_or}
-use Rattle.mk_never.specs.{declared.values.Value.Value, declared.values.Value.TheVariants.{Null, Num, Ptr}}
-use Rattle.mk_never.specs.{declared.operations.Op.Op, NeverHeap.{NeverState, Call, register_at, allocation_at}}
-use Rattle.mk_never.specs.NeverHeap.{global_at, word_at, is_unmapped, after_op, after_calls, grants_object}
-use Rattle.mk_never.specs.Laws.{Reaches}
+use Rattle.mk_never.specs.{Laws.Reaches, NeverHeap.{NeverState, Call, register_at, allocation_at, global_at, word_at}}
+use Rattle.mk_never.specs.{NeverHeap.{is_unmapped, after_op, after_calls, grants_object}, declared.operations.Op.Op}
+use Rattle.mk_never.specs.{declared.values.Value.Value, declared.values.Value.TheVariants.{Null, Ptr}}
 
 -- The value is a pointer into the allocation.
 abbrev pub LeadsTo : Value → ℕ → Type 0
-LeadsTo Null number = ⊥
-LeadsTo (Num m) number = ⊥
 LeadsTo (Ptr number' ty offset) number = number' ≡ number
+LeadsTo _ number = ⊥
 
 -- The word is a pointer into the allocation. The words of a freed large allocation lead nowhere, as its pages are
 -- unmapped.

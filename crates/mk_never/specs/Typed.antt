@@ -3,8 +3,7 @@ use Rattle.std.specs.Prelude.{◌≡◌, ◌⊎◌, ℕ, ◌<◌, List, length, 
 use Rattle.mk_never.specs.{declared.types.Kind.Kind, declared.values.Value.Value}
 use Rattle.mk_never.specs.{declared.values.Value.TheVariants.{Null, Num, Ptr}, Types.kinds_of}
 use Rattle.mk_never.specs.NeverHeap.{NeverState, Allocation, Call, allocation_at, global_at, start_of, after_calls}
-use Rattle.mk_never.specs.Admitted.{IsOfKind, AreAdmitted}
-use Rattle.mk_never.specs.declared.types.Kind.TheVariants.{Num as Number, To}
+use Rattle.mk_never.specs.{Admitted.{IsOfKind, AreAdmitted}, declared.types.Kind.TheVariants.{Num as Number, To}}
 
 -- The first word of a type, which may have none, or one of its words
 abbrev pub IsPlaceIn : List Kind → ℕ → Type 0
@@ -19,9 +18,8 @@ IsSound n (Ptr number ty offset) =
 
 -- It is a number.
 abbrev pub IsNum : Value → Type 0
-IsNum Null = ⊥
 IsNum (Num m) = Unit {0}
-IsNum (Ptr number ty offset) = ⊥
+IsNum _ = ⊥
 
 -- what a word of the kind holds: a number, or a sound pointer of the kind's type and offset
 abbrev pub Suits : NeverState → Value → Kind → Type 0

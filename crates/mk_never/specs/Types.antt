@@ -1,8 +1,7 @@
 -- Types: lists of kinds, one kind a word.
 use Rattle.std.specs.{Prelude.{ℕ, Bool, true, false, List, [], length, nat_lt, slice_index_or, map}, List.list_all}
 use Rattle.mk_never.specs.{declared.types.Kind.Kind, declared.types.Kind.TheVariants.{Num, To}}
-use Rattle.mk_never.specs.declared.values.Value.{Value}
-use Rattle.mk_never.specs.declared.values.Value.TheVariants.{Null, Num as Number}
+use Rattle.mk_never.specs.{declared.values.Value.Value, declared.values.Value.TheVariants.{Null, Num as Number}}
 
 -- the kinds of a type's words
 abbrev pub kinds_of : List (List Kind) → ℕ → List Kind

@@ -1,8 +1,10 @@
 -- A fault of a line that a `?` hands on.
 use Rattle.std.{proofs.Common.Result, specs.Result.IsErrAnd}
-use Rattle.mk_script.proofs.Vocabulary.{Err, LineFault, arith, ◌≡◌}
-use Rattle.mk_script.specs.{Stops.Gives, declared.faults.LineStop.LineStop, declared.faults.LineStop.TheVariants.Fault}
+use Rattle.mk_script.proofs.Vocabulary.{Err, Item, LineFault, List, arith, ◌≡◌}
+use Rattle.mk_script.specs.{ScopeOf.Reads, declared.faults.LineStop.LineStop}
+use Rattle.mk_script.specs.{declared.faults.LineStop.TheVariants.Fault, declared.scope.Scope.Scope}
 
-pub gives_fault : {A : Type 0} (expected : Result A LineFault) (found : Result A LineStop) (fault : LineFault)
-    → expected ≡ Err fault → IsErrAnd found (λ stop. stop ≡ Fault fault) → Gives expected found
-gives_fault expected x1 fault is handed = grind arith
+pub hands_fault : {A : Type 0} (before : List Item) (expected : Result Item LineFault) (found : Result A LineStop)
+    (items : List Item) (scope : Scope) (fault : LineFault) → expected ≡ Err fault
+    → IsErrAnd found (λ stop. stop ≡ Fault fault) → Reads before expected found items scope
+hands_fault before expected x2 items scope fault is handed = grind arith

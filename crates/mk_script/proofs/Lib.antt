@@ -24,3 +24,5 @@ mod Reading
 mod ScopeAfter
 pub mod Vocabulary
 mod FirstAndOperands
+mod FirstLine
+mod WordsOfFirst

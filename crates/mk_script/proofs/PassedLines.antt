@@ -45,6 +45,12 @@ checks : (twice ends : Bool) (first last : LineFault) (fault : Option LineFault)
     → Checks twice ends fault found item
 checks x0 ends first last fault found item h = grind arith
 
+-- an item that may stand next declares no name twice
+pub fresh_if : (before : List Item) (item found : Item) → checked_item before item ≡ Ok found
+    → is_twice before item ≡ false
+fresh_if before item found h = (checks (is_twice before item) (ends_rightly (open_blocks before) item) _ _
+    (limit_fault before item) item found h).fresh
+
 pub passed : (before : List Item) (words : List (List ℕ)) (item : Item) → line_of before words ≡ Ok item
     → IsPassed before item
 passed before words item h = by_found (line_item before words) refl h

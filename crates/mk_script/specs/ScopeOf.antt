@@ -2,8 +2,10 @@
 -- Private functions alone cite these words.
 use Rattle.std.specs.{Prelude.{◌≡◌, ℕ, Bool, true, false, List, [], ◌∷◌, ◌++◌, reverse, Ok, Err}, List.list_any}
 use Rattle.std.specs.List.Sorted.{IsPermutation}
-use Rattle.mk_script.specs.{declared.items.Item.Item, declared.scope.Scope.Scope, declared.faults.LineStop.LineStop}
-use Rattle.mk_script.specs.{declared.faults.LineStop.TheVariants.{Fault, NoMemory}, Lines.{has_script, line_of}}
+use Rattle.std.specs.declared.result.Result.{Result}
+use Rattle.mk_script.specs.{declared.faults.LineFault.LineFault, declared.faults.LineStop.LineStop}
+use Rattle.mk_script.specs.{declared.items.Item.Item, declared.scope.Scope.Scope}
+use Rattle.mk_script.specs.{declared.faults.LineStop.TheVariants.{Fault, NoMemory}, Lines.has_script}
 use Rattle.mk_script.specs.Scopes.{type_names, global_names, script_names, pointer_names, number_names, this_script}
 use Rattle.mk_script.specs.Scopes.{is_instruction, open_blocks}
 
@@ -32,13 +34,19 @@ pub record BeginsScript (old : Scope) (name : List ℕ) (new : Scope) : Type 0 w
       ≡ record old { has_script = true; has_instruction = false; scripts = new.scripts; pointers = []; numbers = [] }
 
 -- a line was read after others: there is its item more, and the scope is of all of them
-pub record ReadsLine (before : List Item) (words : List (List ℕ)) (items : List Item) (scope : Scope) : Type 0 where
+pub record ReadsLine (before : List Item) (found : Result Item LineFault) (items : List Item) (scope : Scope)
+    : Type 0 where
   pub item : Item
-  pub is_item : line_of before words ≡ Ok item
+  pub is_item : found ≡ Ok item
   pub items_are : items ≡ before ++ item ∷ []
   pub scope_of : IsScopeOf scope items
 
 -- a line has no item, or there was no memory
-abbrev pub IsStopOfLine : List Item → List (List ℕ) → LineStop → Type 0
-IsStopOfLine before words (Fault fault) = line_of before words ≡ Err fault
-IsStopOfLine before words NoMemory = Unit {0}
+abbrev pub IsStopOfLine : Result Item LineFault → LineStop → Type 0
+IsStopOfLine found (Fault fault) = found ≡ Err fault
+IsStopOfLine found NoMemory = Unit {0}
+
+-- a line of which this was found is read, or it is said why not
+abbrev pub Reads : {A : Type 0} → List Item → Result Item LineFault → Result A LineStop → List Item → Scope → Type 0
+Reads before found (Ok read) items scope = ReadsLine before found items scope
+Reads before found (Err stop) items scope = IsStopOfLine found stop

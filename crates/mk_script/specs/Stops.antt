@@ -1,16 +1,10 @@
 -- What a call gives, unless memory runs out.
 -- Private functions alone cite these words.
-use Rattle.std.specs.{Prelude.{◌≡◌, ℕ, List, Ok, Err}, declared.result.Result.Result}
+use Rattle.std.specs.{Prelude.{ℕ, List, Ok, Err}, declared.result.Result.Result}
 use Rattle.mk_script.specs.{declared.faults.LineFault.LineFault, declared.faults.LineStop.LineStop}
 use Rattle.mk_script.specs.{declared.faults.LineStop.TheVariants.{Fault, NoMemory}, declared.faults.TextStop.TextStop}
 use Rattle.mk_script.specs.{Grammar.fault_at, declared.items.Item.Item, Lines.checked_item, Operands.◌>>=◌}
 use Rattle.mk_script.specs.declared.faults.TextStop.TheVariants as stop
-
--- what was expected, or no memory
-abbrev pub Gives : {A : Type 0} → Result A LineFault → Result A LineStop → Type 0
-Gives expected (Ok item) = expected ≡ Ok item
-Gives expected (Err (Fault fault)) = expected ≡ Err fault
-Gives expected (Err NoMemory) = Unit {0}
 
 -- what is found, where it may stand after these
 abbrev pub checked_behind : List Item → Result Item LineFault → Result Item LineFault

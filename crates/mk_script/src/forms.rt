@@ -27,6 +27,7 @@ pub fn item(keyword: Keyword, words: &[&[u8]]) -> Result<Item, LineFault>
     }
 }
 
+#[inline(never)]
 #[tactic(auto, unfolding(crate::specs::Operands::item_from))]
 fn with_none(keyword: Keyword) -> Result<Item, LineFault>
     requires { keyword ≢ Keyword.TypeLine }
@@ -39,6 +40,7 @@ fn with_none(keyword: Keyword) -> Result<Item, LineFault>
     }
 }
 
+#[inline(never)]
 #[tactic(auto, unfolding(crate::specs::Operands::item_from))]
 fn with_one(keyword: Keyword, only: &[u8]) -> Result<Item, LineFault>
     requires { keyword ≢ Keyword.TypeLine }
@@ -57,6 +59,7 @@ fn with_one(keyword: Keyword, only: &[u8]) -> Result<Item, LineFault>
     }
 }
 
+#[inline(never)]
 #[tactic(auto, unfolding(crate::specs::Operands::item_from))]
 fn with_two(keyword: Keyword, first: &[u8], second: &[u8]) -> Result<Item, LineFault>
     requires { keyword ≢ Keyword.TypeLine }
@@ -76,6 +79,7 @@ fn with_two(keyword: Keyword, first: &[u8], second: &[u8]) -> Result<Item, LineF
     }
 }
 
+#[inline(never)]
 #[tactic(auto, unfolding(crate::specs::Operands::item_from))]
 fn with_three(
     keyword: Keyword,
@@ -99,6 +103,7 @@ fn with_three(
     }
 }
 
+#[inline(never)]
 #[tactic(auto, unfolding(crate::specs::Operands::item_from))]
 fn with_five(
     keyword: Keyword,

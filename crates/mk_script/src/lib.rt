@@ -21,6 +21,7 @@ mod program;
 mod scope;
 mod sorts;
 mod splitting;
+mod taking;
 
 pub use faults::{LineFault, TEXT_LIMIT, TOO_LONG, TextKind, TextStop, Which};
 pub use items::{At, Item, TypeWord, TypeWords};

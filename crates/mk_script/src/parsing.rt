@@ -1,12 +1,12 @@
 //! The reader.
 ghost use Rattle.std.specs.Prelude.{◌≡◌, ◌≢◌, IfOk, IfErr, MatchResult, Ok, Err};
-ghost use Rattle.mk_script.specs.{Grammar.{program_of, items_of_lines}, ScopeOf.{IsScopeOf, ReadsLine, IsStopOfLine}};
-ghost use Rattle.mk_script.specs.Words.{lines_of, words_of_line};
+ghost use Rattle.mk_script.specs.{Grammar.{program_of, items_of_lines}, ScopeOf.{IsScopeOf, Reads}};
+ghost use Rattle.mk_script.specs.{Lines.line_of, Words.{first_line, later_lines, lines_of, words_of_line}};
 ghost use Rattle.mk_script.specs.Grammar as spec;
 
 use crate::faults::{LineStop, TEXT_LIMIT, TOO_LONG, TextKind, TextStop, Which};
 use crate::scope::Scope;
-use crate::splitting::{replace_words, split_lines};
+use crate::splitting::{after_line, next_line};
 use crate::{Item, Program, line};
 use std::alloc::Global;
 
@@ -28,8 +28,7 @@ fn items(alloc: Global, text: &[u8]) -> Result<Vec<Item>, TextStop>
     ensures items { IfOk result (λ items. items_of_lines (lines_of text.now) ≡ Ok items.items) }
     ensures fault { IfErr result (λ stop. stop ≢ TextStop.NoMemory → items_of_lines (lines_of text.now) ≡ Err stop) }
 {
-    let lines = split_lines(alloc, text)?;
-    if lines.is_empty() {
+    if text.is_empty() {
         return Err(TextStop::Text {
             line: 1,
             kind: TextKind::Header,
@@ -38,30 +37,33 @@ fn items(alloc: Global, text: &[u8]) -> Result<Vec<Item>, TextStop>
     let mut scope = Scope::new(alloc);
     let mut items = Vec::new(alloc);
     let mut words = Vec::new(alloc);
-    for (index, line) in lines.iter().enumerate() {
-        if let Err(stop) = read_line(alloc, &mut scope, &mut items, &mut words, line) {
-            return Err(stop.at(index as u64 + 1));
+    let mut rest = text;
+    while !rest.is_empty() {
+        let line = items.len() as u64 + 1;
+        match read_line(alloc, &mut scope, &mut items, &mut words, rest) {
+            Ok(later) => rest = later,
+            Err(stop) => return Err(stop.at(line)),
         }
     }
     at_end(&scope, items)
 }
 
-/// Reads a line after those of the items and their scope. Its words take the place of those of another.
+/// Reads the first line of what is left, after those of the items and their scope, and gives what is left then. Its
+/// words take the place of those of another.
 fn read_line<'a>(
     alloc: Global,
     scope: &mut Scope,
     items: &mut Vec<Item>,
     words: &mut Vec<&'a [u8]>,
-    line: &'a [u8],
-) -> Result<(), LineStop>
-    ensures { IsScopeOf scope.old items.old.items
-        → MatchResult result (λ _. ReadsLine items.old.items (words_of_line line.now) items.new.items scope.new)
-        (IsStopOfLine items.old.items (words_of_line line.now)) }
+    left: &'a [u8],
+) -> Result<&'a [u8], LineStop>
+    ensures line { IsScopeOf scope.old items.old.items → Reads items.old.items
+        (line_of items.old.items (words_of_line (first_line left.now))) result items.new.items scope.new }
+    ensures later { IfOk result (λ later. later.now ≡ later_lines left.now) }
 {
-    replace_words(words, line)?;
-    let item = line::item(alloc, scope, words.as_slice())?;
-    scope.add(&item)?;
-    Ok(items.push(item)?)
+    let end = next_line(words, left)?;
+    line::take_line(alloc, scope, items, words.as_slice())?;
+    Ok(after_line(left, end))
 }
 
 /// The items, where the text may end after them.

@@ -1,6 +1,7 @@
 //! Lines and words.
-ghost use Rattle.std.specs.{Prelude.{◌≡◌, ◌==◌, IfOk, OnOk}, List.slice_split};
+ghost use Rattle.std.specs.{Prelude.{◌≡◌, ◌==◌, ◌++◌, IfOk, OnOk}, List.slice_split};
 ghost use Rattle.mk_script.specs.Words.{lines_of, words_of_line, texts_of};
+ghost use Rattle.mk_script.specs.Words.{first_line, kept_word, later_lines, newline_or_end};
 
 use std::alloc::{AllocError, Global};
 
@@ -44,4 +45,55 @@ pub fn replace_words<'a>(words: &mut Vec<&'a [u8]>, line: &'a [u8]) -> Result<()
         }
     }
     Ok(())
+}
+
+/// Puts the words of the text's first line in the place of those of another, and gives the line's length. Most bytes
+/// are above both a newline and a space, so that one comparison passes them by.
+#[inline(always)]
+pub(crate) fn next_line<'a>(found: &mut Vec<&'a [u8]>, text: &'a [u8]) -> Result<usize, AllocError>
+    ensures words { OnOk result (texts_of found.new.items ≡ words_of_line (first_line text.now)) }
+    ensures end { IfOk result (λ end. end ≡ newline_or_end text.now) }
+{
+    found.clear();
+    let mut start = 0;
+    for (place, byte) in text.iter().enumerate() {
+        if *byte > b' ' {
+            continue;
+        }
+        if *byte == b'\n' {
+            put_word(found, &text[start..place])?;
+            return Ok(place);
+        }
+        if *byte != b' ' {
+            continue;
+        }
+        put_word(found, &text[start..place])?;
+        start = place + 1;
+    }
+    put_word(found, &text[start..])?;
+    Ok(text.len())
+}
+
+/// Appends the word, unless it has no byte.
+#[inline(always)]
+fn put_word<'a>(words: &mut Vec<&'a [u8]>, word: &'a [u8]) -> Result<(), AllocError>
+    ensures { OnOk result (texts_of words.new.items ≡ texts_of words.old.items ++ kept_word word.now) }
+{
+    if !word.is_empty() {
+        words.push(word)?;
+    }
+    Ok(())
+}
+
+/// What stands after the line that ends here.
+#[inline(always)]
+pub(crate) fn after_line(text: &[u8], end: usize) -> &[u8]
+    requires { end ≡ newline_or_end text.now }
+    ensures { result.now ≡ later_lines text.now }
+{
+    if end < text.len() {
+        &text[end + 1..]
+    } else {
+        &[]
+    }
 }

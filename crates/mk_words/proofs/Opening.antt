@@ -12,8 +12,12 @@ use Rattle.mk_core.proofs.{Conditions.meets_enabled, Histories.last_enabled}
 use Rattle.mk_core.specs.{Frames.{CountsAreLeft, steady_of}, Counts.full_answers, Effects.moment_behind}
 use Rattle.mk_core.specs.{Growing.AreOfOthers, Moments.none_is_held}
 use Rattle.mk_words.proofs.{Made.{made, pass_before}, LongerLists.longer_lists, Owed.history_more, TurnSteps.all_from}
-use Rattle.mk_words.specs.{Opening.{AreOpened, OnlyOpen, Opens, OthersMayOpen}, States.{IsTurn, PassState, event_of}}
+use Rattle.mk_words.specs.{Opening.{OnlyOpen, Opens, OthersMayOpen}, States.{IsTurn, PassState, event_of}}
 use Rattle.mk_words.specs.{States.now_of, Steps.IsEnabledTo, TurnSteps.{Acts, world_at}}
+
+-- The gates of the callers below this one aren't held, but for the holder's.
+abbrev pub AreOpened : PassState → ℕ → Type 0
+AreOpened p end = (j : ℕ) → j < end → is_number_of p.seat j ≡ false → is_held (now_of p).words j ≡ false
 
 -- one gate that is opened leaves the others to be opened
 

@@ -10,7 +10,7 @@ use Rattle.mk_books.specs.KnownPages.{KnownPages, Shows, is_bare, is_uncleaned, 
 use Rattle.mk_books.specs.{KnownPages.with_header, Members.page_at, Runs.{RunIsTold, with_headers}}
 use Rattle.mk_words.proofs.MapSteps.{map_goes_on, shows_told}
 use Rattle.mk_words.specs.PageMaps.{HeaderIsTold, IsMapOf}
-use Rattle.mk_words.specs.{RunSteps.StoresHeads, States.{PassState, now_of}, TurnSteps.{HasMap}}
+use Rattle.mk_words.specs.{RunSteps.StoresHeads, States.{PassState, WordsState, now_of}, TurnSteps.{HasMap}}
 
 -- which pages a map has as uncleaned after it was told of one header word
 abbrev uncleaned_then : KnownPages → ℕ → ℕ → ℕ → Bool
@@ -125,7 +125,7 @@ inside_then known first (suc n) d headers within inside =
     ]
 
 -- A map that was told of all at once knows as much.
-pub told_at_once : (old new : KnownPages) (first n : ℕ) (headers : ℕ → ℕ) (w : Words)
+told_at_once : (old new : KnownPages) (first n : ℕ) (headers : ℕ → ℕ) (w : Words)
     → first + n ≤ length old.pages → RunIsTold old first n headers new
     → IsMapOf (told_first old first n headers) w → IsMapOf new w
 told_at_once old new first n headers w within told m =
@@ -149,7 +149,7 @@ told_at_once old new first n headers w within told m =
     }
 
 -- The map goes with the stores of the header words.
-pub heads_go_on : (held : Bool) (p : PassState) (first n : ℕ) (headers : ℕ → ℕ) (q : PassState) (old : KnownPages)
+heads_go_on : (held : Bool) (p : PassState) (first n : ℕ) (headers : ℕ → ℕ) (q : PassState) (old : KnownPages)
     → first + n ≤ length old.pages → StoresHeads p first n headers q → HasMap held p old
     → HasMap held q (told_first old first n headers)
 heads_go_on held p first zero headers q old within same has = subst (λ (x : PassState). HasMap held x old) same has
@@ -159,17 +159,23 @@ heads_go_on held p first (suc n) headers q old within (r, before, acts) has =
     map_goes_on (λ _. refl) acts earlier (shows_told (Step.Head (first + n) (headers n)) refl acts
     (told_one_is (told_first old first n headers) (first + n) (headers n) long) long earlier.shows)
 
-pub run_goes_on : {held : Bool} {p : PassState} (first n : ℕ) (headers : ℕ → ℕ) {q : PassState} {old new : KnownPages}
-    → first + n ≤ length old.pages → StoresHeads p first n headers q → HasMap held p old
-    → RunIsTold old first n headers new → HasMap held q new
-run_goes_on {held} {p} first n headers {q} {old} {new} within stores has told =
+-- The map has all pages of the heap.
+pub run_within : {held : Bool} {p : PassState} {w : WordsState} {map : KnownPages} (first n : ℕ)
+    → first + n ≤ w.config.pages → p.table ≡ w → HasMap held p map → first + n ≤ length map.pages
+run_within {p = p} first n within same has = omega (
+  arith,
+  within,
+  ap (λ (w : WordsState). w.config.pages) same,
+  ap (λ (ps : List Page). length ps) has.shows.words.page_by_page,
+  (histories_keep_lengths p.table.config p.seen).pages,
+)
+
+pub run_goes_on : {held : Bool} {p : PassState} {w : WordsState} (first n : ℕ) (headers : ℕ → ℕ) {q : PassState}
+    {old new : KnownPages} → first + n ≤ w.config.pages → p.table ≡ w → StoresHeads p first n headers q
+    → HasMap held p old → RunIsTold old first n headers new → HasMap held q new
+run_goes_on {held} {p} first n headers {q} {old} {new} in_table same stores has told =
+    let within = run_within first n in_table same has in
     let then = heads_go_on held p first n headers q old within stores has in record {
       shows = told_at_once old new first n headers (now_of q).words within told then.shows;
       gates = then.gates;
     }
-
--- The map has all pages of the heap.
-pub pages_known : (p : PassState) (map : KnownPages) → IsMapOf map (now_of p).words
-    → length map.pages ≡ p.table.config.pages
-pages_known p map m = ap (λ (ps : List Page). length ps) m.words.page_by_page
-    ∙ (histories_keep_lengths p.table.config p.seen).pages

@@ -2,8 +2,8 @@
 use Rattle.std.specs.Prelude.{◌≡◌, ◌≢◌, ℕ, ◌<◌, true, ◌++◌}
 use Rattle.mk_never.specs.declared.operations.Op.{Op}
 use Rattle.mk_core.specs.{Words.register_word, Accesses.caller_number, HeldGates.is_gate_held}
+use Rattle.mk_core.specs.declared.events.Step.{Step}
 use Rattle.mk_words.specs.{States.{PassState, now_of}, Steps.{Makes, found_by}}
-use Rattle.mk_core.specs.declared.events.Step.TheVariants as step
 
 -- a register of the pass's seat
 abbrev pub register_of : PassState → ℕ → ℕ
@@ -19,6 +19,6 @@ KeepsOtherRegisters stored p q = (r : ℕ) → r < 8 → r ≢ stored → regist
 
 -- `enter` found the gate held.
 pub record FindsHeld (p : PassState) (o : Op) (q : PassState) : Type 0 where
-  pub makes : Makes p (step.Enter o) q
+  pub makes : Makes p (Step.Enter o) q
   pub found : found_by makes ≡ 2
   pub held : is_gate_held p.table.config (caller_number p.seat) (p.seen ++ makes.others) ≡ true

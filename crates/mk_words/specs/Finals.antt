@@ -1,9 +1,8 @@
 -- What is known of a table that has ended.
 use Rattle.std.specs.Prelude.{◌≡◌, ℕ, zero, suc, ◌+◌, ◌%◌, ◌^◌, List, slice_index, count_ones}
 use Rattle.mk_core.specs.{declared.config.Config.Config, declared.events.Event.Event, Layout.index_of_named}
-use Rattle.mk_core.specs.Words.{Words}
+use Rattle.mk_core.specs.{Words.Words, declared.events.Word.Word}
 use Rattle.mk_words.specs.declared.finals.Final.{Final}
-use Rattle.mk_core.specs.declared.events.Word.TheVariants as word
 
 -- the history of the table, and what it was made for
 
@@ -20,7 +19,7 @@ config_of f = f.memory.me.0.config
 abbrev pub freed_bits_in : List ℕ → ℕ → ℕ → ℕ
 freed_bits_in words pages zero = 0
 freed_bits_in words pages (suc n) =
-    freed_bits_in words pages n + count_ones (slice_index words (index_of_named pages (word.Quar n)) % 2 ^ 32)
+    freed_bits_in words pages n + count_ones (slice_index words (index_of_named pages (Word.Quar n)) % 2 ^ 32)
 
 -- and by the freed cells of these words
 abbrev pub freed_cells : Words → ℕ → ℕ

@@ -1,18 +1,17 @@
 -- What is asked and left where all gates are opened.
 use Rattle.std.specs.Prelude.{◌≡◌, ◌⊎◌, ℕ, ◌<◌, ◌≤◌, Bool, true, false, List, [], ◌∷◌, ◌++◌, ⊤}
 use Rattle.mk_core.specs.{declared.events.Seat.Seat, declared.events.Step.Step, declared.events.Event.Event}
-use Rattle.mk_core.specs.{Moments.{is_number_of, is_held}, Growing.is_one_of, Frames.{steady_of, CountsAreLeft}}
+use Rattle.mk_core.specs.{Moments.is_number_of, Growing.is_one_of, Frames.{steady_of, CountsAreLeft}}
 use Rattle.mk_words.specs.{States.{PassState, world_of, now_of, call_of}, Steps.IsEnabledTo}
-use Rattle.mk_core.specs.declared.events.Step.TheVariants as step
 
 -- The gates of all callers from this one on may be opened, but for the holder's.
 abbrev pub OthersMayOpen : PassState → ℕ → Type 0
 OthersMayOpen p first =
-    (j : ℕ) → first ≤ j → j < p.table.config.callers → is_number_of p.seat j ≡ false → IsEnabledTo p (step.Open j)
+    (j : ℕ) → first ≤ j → j < p.table.config.callers → is_number_of p.seat j ≡ false → IsEnabledTo p (Step.Open j)
 
 -- it opens a gate
 abbrev pub is_open : Step → Bool
-is_open (step.Open j) = true
+is_open (Step.Open j) = true
 is_open _ = false
 
 -- Each event is of another, or opens a gate.
@@ -29,7 +28,3 @@ pub record Opens (p q : PassState) : Type 0 where
   pub holding : (now_of q).seats.holding ≡ (now_of p).seats.holding
   pub call : call_of q ≡ call_of p
   pub counts : CountsAreLeft p.table.config p.seen q.seen
-
--- The gates of the callers below this one aren't held, but for the holder's.
-abbrev pub AreOpened : PassState → ℕ → Type 0
-AreOpened p end = (j : ℕ) → j < end → is_number_of p.seat j ≡ false → is_held (now_of p).words j ≡ false

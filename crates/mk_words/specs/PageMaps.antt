@@ -5,7 +5,6 @@ use Rattle.mk_geom.specs.declared.pages.Page.{Page}
 use Rattle.mk_books.specs.KnownPages.{KnownPages, Shows, is_bare, is_uncleaned, is_uncleaned_under, with_header}
 use Rattle.mk_books.specs.KnownPages.{with_used}
 use Rattle.mk_core.specs.{declared.events.Step.Step, Words.{Words, header_at}}
-use Rattle.mk_core.specs.declared.events.Step.TheVariants as step
 
 -- No mark is on the page, and nothing of it is black.
 pub record HasNoMarks (w : Words) (page : ℕ) : Type 0 where
@@ -38,24 +37,24 @@ IsNextUncleaned w from count None =
 
 -- the steps by which the turn, and the map with it, changes hands
 abbrev pub is_handing : Step → Bool
-is_handing (step.Take o) = true
-is_handing step.Give = true
+is_handing (Step.Take o) = true
+is_handing Step.Give = true
 is_handing _ = false
 
 -- the steps that a map is told of
 abbrev pub is_told : Step → Bool
-is_told (step.Head p v) = true
-is_told (step.Used p v) = true
-is_told (step.Quar p v) = true
-is_told (step.Mark p v) = true
+is_told (Step.Head p v) = true
+is_told (Step.Used p v) = true
+is_told (Step.Quar p v) = true
+is_told (Step.Mark p v) = true
 is_told _ = false
 
 -- the page that it stores to
 abbrev pub page_told : Step → ℕ
-page_told (step.Head p v) = p
-page_told (step.Used p v) = p
-page_told (step.Quar p v) = p
-page_told (step.Mark p v) = p
+page_told (Step.Head p v) = p
+page_told (Step.Used p v) = p
+page_told (Step.Quar p v) = p
+page_told (Step.Mark p v) = p
 page_told _ = 0
 
 -- What a map shows after it was told of a step: of each of the four.
@@ -88,8 +87,8 @@ pub record MarkIsTold (old : KnownPages) (page : ℕ) (new : KnownPages) : Type 
 
 -- The map was told of this step.
 abbrev pub IsToldOf : Step → KnownPages → KnownPages → Type 0
-IsToldOf (step.Head page header) old new = HeaderIsTold old page header new
-IsToldOf (step.Used page used) old new = UsedIsTold old page used new
-IsToldOf (step.Quar page now_freed) old new = QuarantineIsTold old page (now_freed % 2 ^ 32) new
-IsToldOf (step.Mark page cells) old new = MarkIsTold old page new
+IsToldOf (Step.Head page header) old new = HeaderIsTold old page header new
+IsToldOf (Step.Used page used) old new = UsedIsTold old page used new
+IsToldOf (Step.Quar page now_freed) old new = QuarantineIsTold old page (now_freed % 2 ^ 32) new
+IsToldOf (Step.Mark page cells) old new = MarkIsTold old page new
 IsToldOf _ old new = Unit {0}

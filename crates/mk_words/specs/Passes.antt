@@ -1,8 +1,8 @@
 -- What a pass is made of, and what always holds of it.
 use Rattle.std.specs.Prelude.{◌≡◌, ℕ, List, [], ◌∷◌}
-use Rattle.atomic_table.specs.Seated.{TableId}
 use Rattle.mk_books.specs.KnownPages.{KnownPages}
 use Rattle.mk_core.specs.{declared.events.Seat.Seat, History.IsHistory, Counts.IsTidy}
+use Rattle.atomic_table.specs.Seated.{TableId}
 use Rattle.mk_words.specs.{Seats.{CallersAreBeforeOver, Has}, States.PassState, Rule.{Mine, no_part}}
 
 -- a pass, from the view of its token and its seat

@@ -4,7 +4,6 @@ use Rattle.std.specs.List.{list_any}
 use Rattle.mk_core.specs.{declared.config.Config.Config, declared.events.Seat.Seat}
 use Rattle.mk_core.specs.{declared.events.Seat.TheVariants.{Caller, Marker, Host}, declared.events.Step.Step}
 use Rattle.mk_core.specs.{declared.events.Event.Event, Order.seat_exists, Growing.{is_same_seat, is_one_of}}
-use Rattle.mk_core.specs.declared.events.Step.TheVariants as step
 
 -- The seat is one of these.
 abbrev pub Has : List Seat → Seat → Type 0
@@ -42,7 +41,7 @@ is_caller _ = false
 
 -- it is an `over`
 abbrev pub is_over : Step → Bool
-is_over step.Over = true
+is_over Step.Over = true
 is_over _ = false
 
 -- An `over` stands in the list.

@@ -1,9 +1,9 @@
 -- What contracts see of the shared words, of a pass and of a turn.
 use Rattle.std.specs.Prelude.{List}
-use Rattle.atomic_table.specs.Seated.{TableId}
 use Rattle.mk_core.specs.{declared.config.Config.Config, declared.events.Seat.Seat, declared.events.Step.Step}
 use Rattle.mk_core.specs.{declared.events.Event.Event, declared.seats.Flight.Flight, Moments.{Moment, flight_of}}
 use Rattle.mk_core.specs.{History.{World, left, IsHistory}, Readings.Holds}
+use Rattle.atomic_table.specs.Seated.{TableId}
 use Rattle.mk_words.specs.Seats.{Has}
 
 -- which table it is, and the configuration that it was made for

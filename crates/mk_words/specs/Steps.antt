@@ -4,25 +4,23 @@ use Rattle.mk_core.specs.{declared.events.Step.Step, declared.events.Event.Event
 use Rattle.mk_core.specs.{declared.accesses.Access.Access, declared.accesses.TableWord.TableWord}
 use Rattle.mk_core.specs.{Accesses.{access, found, word_accessed}, Moments.Moment, Effects.answer_decided}
 use Rattle.mk_core.specs.{History.{left, IsEnabledBehind, IsAdmittedBehind}, Cycles.is_give, Counts.TalliesAreTidy}
-use Rattle.mk_core.specs.Growing.{AreOfOthers}
+use Rattle.mk_core.specs.{Growing.AreOfOthers, declared.events.Word.Word}
 use Rattle.mk_words.specs.{Seats.{HasCallers, is_over}, States.{PassState, IsPass, now_of, call_of, event_of}}
 use Rattle.mk_words.specs.Rule.{told_by}
-use Rattle.mk_core.specs.declared.events.Word.TheVariants as word
-use Rattle.mk_core.specs.declared.events.Step.TheVariants as step
 
 -- the kinds by which a call may be decided
 abbrev pub may_decide : Step → Bool
-may_decide step.Reg = true
-may_decide step.Probe = true
-may_decide step.Read = true
-may_decide step.Write = true
-may_decide step.Cas = true
-may_decide step.Getg = true
-may_decide step.Setg = true
-may_decide (step.Look (word.Quar p)) = true
-may_decide (step.Quar p v) = true
-may_decide step.Grant = true
-may_decide step.Full = true
+may_decide Step.Reg = true
+may_decide Step.Probe = true
+may_decide Step.Read = true
+may_decide Step.Write = true
+may_decide Step.Cas = true
+may_decide Step.Getg = true
+may_decide Step.Setg = true
+may_decide (Step.Look (Word.Quar p)) = true
+may_decide (Step.Quar p v) = true
+may_decide Step.Grant = true
+may_decide Step.Full = true
 may_decide _ = false
 
 -- After what the pass has seen the step is enabled, and admitted.

@@ -3,9 +3,7 @@ use Rattle.std.specs.Prelude.{◌≡◌, Bool, true, false, List, [], ◌∷◌,
 use Rattle.mk_core.specs.{declared.config.Config.Config, declared.events.Seat.Seat, declared.events.Event.Event}
 use Rattle.mk_core.specs.{declared.events.Step.Step, Cycles.sweeps, Growing.is_same_seat, History.{World, world_behind}}
 use Rattle.mk_core.specs.Moments.{flight_of}
-use Rattle.mk_words.specs.{States.{PassState, world_of}, Steps.{Makes, moment_of}}
-use Rattle.mk_words.specs.Doing.{Does}
-use Rattle.mk_core.specs.declared.events.Step.TheVariants as step
+use Rattle.mk_words.specs.{States.{PassState, world_of}, Steps.{Makes, moment_of}, Doing.Does}
 
 -- No step of the seat in the list makes a sweeping mark.
 unfoldable pub SweepsNothingFrom : Config → Seat → World → List Event → Type 0
@@ -22,7 +20,7 @@ pub record SweepsNothing (p q : PassState) : Type 0 where
 
 -- the only kind of step that may be a sweeping mark
 abbrev pub is_mark : Step → Bool
-is_mark (step.Mark p v) = true
+is_mark (Step.Mark p v) = true
 is_mark _ = false
 
 -- These kinds of step have no mark among them.

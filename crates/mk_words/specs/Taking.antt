@@ -4,11 +4,10 @@ use Rattle.mk_never.specs.declared.operations.Op.{Op}
 use Rattle.mk_core.specs.{declared.events.Event.Event, declared.events.Step.Step}
 use Rattle.mk_core.specs.{Counts.{TalliesAreExact, TalliesAreTidy}, Growing.{is_one_of, is_same_seat}}
 use Rattle.mk_words.specs.{States.{PassState, TurnState}, Steps.Finds, TurnSteps.IsFresh}
-use Rattle.mk_core.specs.declared.events.Step.TheVariants as step
 
 -- it is a `take`
 abbrev pub is_take : Step → Bool
-is_take (step.Take o) = true
+is_take (Step.Take o) = true
 is_take _ = false
 
 -- an event of another, or a try to take the turn
@@ -25,7 +24,7 @@ pub record Waits (p q : PassState) : Type 0 where
 pub record TakesTurn (p : PassState) (o : Option Op) (q : PassState) : Type 0 where
   pub waited : PassState
   pub waits : Waits p waited
-  pub takes : Finds waited (step.Take o) 0 q
+  pub takes : Finds waited (Step.Take o) 0 q
 
 -- So it has the turn, as one has it directly after its `take`.
 pub record HasTakenTurn (p : PassState) (o : Option Op) (t : TurnState) : Type 0 where

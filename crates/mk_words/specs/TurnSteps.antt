@@ -1,16 +1,15 @@
 -- What the steps of the turn's holder leave.
 use Rattle.std.specs.Prelude.{◌≡◌, ℕ, ◌%◌, ◌^◌, ◌++◌, Option, Some, None, Bool, true, false}
-use Rattle.mk_geom.specs.Addresses.{address_of}
 use Rattle.mk_never.specs.declared.operations.Op.{Op}
+use Rattle.mk_geom.specs.Addresses.{address_of}
+use Rattle.mk_books.specs.KnownPages.{KnownPages}
 use Rattle.mk_core.specs.{declared.events.Seat.TheVariants.Caller, declared.events.Step.Step}
 use Rattle.mk_core.specs.{declared.seats.Flight.Flight, Accesses.granted_base, Calls.{at_rest, begun}}
 use Rattle.mk_core.specs.{Moments.{nothing_done, none_is_held, others_are_held}, Words.phase_of, Ranges.has_phase}
 use Rattle.mk_core.specs.{TurnConditions.held_by_pages, Readings.Holds, History.{World, world_behind, left}}
 use Rattle.mk_core.specs.{Frames.{OwnIsLeft, HoldsAll, TurnIsLeft, CountsAreLeft, written_of}, Effects.progress}
-use Rattle.mk_books.specs.KnownPages.{KnownPages}
 use Rattle.mk_words.specs.{PageMaps.{IsMapOf, is_told}, States.{PassState, world_of, now_of, call_of, event_of}}
 use Rattle.mk_words.specs.Steps.{Makes, found_by}
-use Rattle.mk_core.specs.declared.events.Step.TheVariants as step
 
 -- the call that a `take` with this operation begins
 abbrev pub begun_for : Option Op → Flight
@@ -23,16 +22,16 @@ pub record IsFresh (p : PassState) (o : Option Op) : Type 0 where
   pub call : call_of p ≡ begun_for o
   pub holding : (now_of p).seats.holding ≡ nothing_done
   pub gates : none_is_held p.table.config.callers (now_of p).words ≡ true
-  pub phase : has_phase (phase_of (now_of p).words) step.Give ≡ true
+  pub phase : has_phase (phase_of (now_of p).words) Step.Give ≡ true
   pub held : (now_of p).words.held ≡ held_by_pages (now_of p).words
   pub fresh : (now_of p).words.fresh ≡ (now_of p).fresh_words
 
 -- A turn goes on after every step but these.
 abbrev pub turn_stays : Step → Bool
-turn_stays (step.Take o) = false
-turn_stays step.Give = false
-turn_stays (step.Enter o) = false
-turn_stays step.Leave = false
+turn_stays (Step.Take o) = false
+turn_stays Step.Give = false
+turn_stays (Step.Enter o) = false
+turn_stays Step.Leave = false
 turn_stays _ = true
 
 -- what is left where the step is made
@@ -55,8 +54,8 @@ pub record Acts (p : PassState) (s : Step) (q : PassState) : Type 0 where
 
 -- No gate is changed but by these.
 abbrev pub gates_stay : Step → Bool
-gates_stay (step.Hold j) = false
-gates_stay (step.Open j) = false
+gates_stay (Step.Hold j) = false
+gates_stay (Step.Open j) = false
 gates_stay s = turn_stays s
 
 -- After the step the turn goes on as it is: with its gates, where they are known to be held, and with a page map that

@@ -1,8 +1,7 @@
 -- Who waits for the turn marks nothing.
 use Rattle.std.specs.Prelude.{Option}
 use Rattle.mk_never.specs.declared.operations.Op.{Op}
-use Rattle.mk_words.specs.{Seats.Has, States.PassState}
-use Rattle.mk_words.specs.{Sweeping.SweepsNothing, Taking.TakesTurn}
+use Rattle.mk_words.specs.{Seats.Has, States.PassState, Sweeping.SweepsNothing, Taking.TakesTurn}
 
 -- Taking the turn sweeps nothing.
 abbrev pub TakingSweepsNothing : Type 0

@@ -18,12 +18,8 @@ impl MarkerPass {
         requires enabled { IsEnabledTo self.old step.Attend }
         ensures { Marks self.old step.Attend result self.new }
     {
-        self.perform_marking(
-            words,
-            Step::Attend,
-            TableWord::Named(Word::Phase),
-            Access::Add(8),
-        )
+        let phase = TableWord::Named(Word::Phase);
+        self.perform_marking(words, Step::Attend, phase, Access::Add(8))
     }
 
     /// Goes out, and drops what it was at.
@@ -33,12 +29,8 @@ impl MarkerPass {
         ensures makes { Makes self.old step.Quit self.new }
         ensures out { marker_in self.new ≡ outside }
     {
-        self.perform_marking(
-            words,
-            Step::Quit,
-            TableWord::Named(Word::Phase),
-            Access::Sub(8),
-        );
+        let phase = TableWord::Named(Word::Phase);
+        self.perform_marking(words, Step::Quit, phase, Access::Sub(8));
     }
 
     /// Looks at the phase, or at a mark, black or header word.

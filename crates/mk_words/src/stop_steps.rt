@@ -40,12 +40,8 @@ impl Turn {
         requires enabled { IsEnabledTo self.old.pass (step.Open caller) }
         ensures { Acts self.old.pass (step.Open caller) self.new.pass }
     {
-        self.perform(
-            words,
-            Step::Open(caller),
-            TableWord::Named(Word::Gate(caller)),
-            Access::Store(0),
-        );
+        let gate = TableWord::Named(Word::Gate(caller));
+        self.perform(words, Step::Open(caller), gate, Access::Store(0));
     }
 
     /// Decides a New for which there is no room, after a cycle of its own.
@@ -64,12 +60,8 @@ impl Turn {
         requires enabled { IsEnabledTo self.old.pass step.Begin }
         ensures { Acts self.old.pass step.Begin self.new.pass }
     {
-        self.perform(
-            words,
-            Step::Begin,
-            TableWord::Named(Word::Phase),
-            Access::Add(1),
-        );
+        let phase = TableWord::Named(Word::Phase);
+        self.perform(words, Step::Begin, phase, Access::Add(1));
         words.wake_markers();
     }
 
@@ -80,12 +72,8 @@ impl Turn {
         requires home { HasCallers self.old.pass.table.config self.old.pass.seats }
         ensures { Acts self.old.pass step.Over self.new.pass }
     {
-        self.perform(
-            words,
-            Step::Over,
-            TableWord::Named(Word::Phase),
-            Access::Add(5),
-        );
+        let phase = TableWord::Named(Word::Phase);
+        self.perform(words, Step::Over, phase, Access::Add(5));
         words.wake_markers();
     }
 

@@ -102,12 +102,8 @@ impl<G: Gates> TurnAt<G> {
         requires enabled { IsEnabledTo self.old.pass (step.Clear page) }
         ensures { Acts self.old.pass (step.Clear page) self.new.pass }
     {
-        self.perform(
-            words,
-            Step::Clear(page),
-            TableWord::Named(Word::Mark(page)),
-            Access::Store(0),
-        );
+        let mark = TableWord::Named(Word::Mark(page));
+        self.perform(words, Step::Clear(page), mark, Access::Store(0));
     }
 
     /// Marks cells of a page.
@@ -142,12 +138,8 @@ impl<G: Gates> TurnAt<G> {
         requires enabled { IsEnabledTo self.old.pass (step.Wipe word) }
         ensures { Acts self.old.pass (step.Wipe word) self.new.pass }
     {
-        self.perform(
-            words,
-            Step::Wipe(word),
-            TableWord::Named(Word::Heap(word)),
-            Access::Store(0),
-        );
+        let heap = TableWord::Named(Word::Heap(word));
+        self.perform(words, Step::Wipe(word), heap, Access::Store(0));
     }
 
     /// Ends the cycle.
@@ -156,12 +148,8 @@ impl<G: Gates> TurnAt<G> {
         requires enabled { IsEnabledTo self.old.pass step.End }
         ensures { Acts self.old.pass step.End self.new.pass }
     {
-        self.perform(
-            words,
-            Step::End,
-            TableWord::Named(Word::Phase),
-            Access::Sub(4),
-        );
+        let phase = TableWord::Named(Word::Phase);
+        self.perform(words, Step::End, phase, Access::Sub(4));
     }
 
     /// Clears a page's dirty word.
@@ -170,12 +158,8 @@ impl<G: Gates> TurnAt<G> {
         requires enabled { IsEnabledTo self.old.pass (step.Undirty page) }
         ensures { Acts self.old.pass (step.Undirty page) self.new.pass }
     {
-        self.perform(
-            words,
-            Step::Undirty(page),
-            TableWord::Named(Word::Dirty(page)),
-            Access::Store(0),
-        );
+        let dirty = TableWord::Named(Word::Dirty(page));
+        self.perform(words, Step::Undirty(page), dirty, Access::Store(0));
     }
 
     /// Clears a page's black word.
@@ -184,12 +168,8 @@ impl<G: Gates> TurnAt<G> {
         requires enabled { IsEnabledTo self.old.pass (step.Unblack page) }
         ensures { Acts self.old.pass (step.Unblack page) self.new.pass }
     {
-        self.perform(
-            words,
-            Step::Unblack(page),
-            TableWord::Named(Word::Black(page)),
-            Access::Store(0),
-        );
+        let black = TableWord::Named(Word::Black(page));
+        self.perform(words, Step::Unblack(page), black, Access::Store(0));
     }
 
     /// Stores a tally: words for `Held` and `Fresh`, and how often it came for the others.
@@ -198,12 +178,9 @@ impl<G: Gates> TurnAt<G> {
         requires enabled { IsEnabledTo self.old.pass (step.Tally n v) }
         ensures { Acts self.old.pass (step.Tally n v) self.new.pass }
     {
-        self.perform(
-            words,
-            Step::Tally { tally: n, value: v },
-            TableWord::Named(tally_word(n)),
-            Access::Store(v),
-        );
+        let word = TableWord::Named(tally_word(n));
+        let step = Step::Tally { tally: n, value: v };
+        self.perform(words, step, word, Access::Store(v));
     }
 
     /// Stores a page's used word.

@@ -1,7 +1,8 @@
 use Rattle.std.proofs.lemmas.Grind.{div_ceil_times}
 use Rattle.mk_books.proofs.Vocabulary.{AreSets, List, ℕ, arith, replicate, subst, sym, ◌+◌, ◌≡◌}
+use Rattle.mk_books.proofs.{Showing.sets_written}
 use Rattle.mk_books.proofs.sorting.free_sets.Goals as goal
-use Rattle.mk_books.proofs.FreeSets.{HaveFreeBelow, all_free, none_free, one_word_more, written, zero_sets}
+use Rattle.mk_books.proofs.FreeSets.{HaveFreeBelow, all_free, none_free, one_word_more, zero_sets}
 
 pub loop-word-init : goal.loop-word-init
 loop-word-init c =
@@ -14,13 +15,8 @@ loop-word-init c =
 
 pub loop-word-preserved : goal.loop-word-preserved
 loop-word-preserved c =
-    let held = c.loop-word.sets.items in
-    let is = written c.store_word.new.sets held c.loop-word.sets.len (omega (
-      arith,
-      c.store_word.ensures.are_sets.long,
-      c.loop-word.invariant.are_sets.long,
-      c.loop-word.sets.ok.0,
-    )) in
+    let is = sets_written c.store_word.new.sets c.loop-word.sets.ok.0 c.loop-word.invariant.are_sets
+    c.store_word.ensures.are_sets in
     let before = subst (λ (xs : List ℕ). HaveFreeBelow xs c.loop-word.word c.args.pages)
     (sym c.deref_mut.ensures.value) c.loop-word.invariant.free in
     record {

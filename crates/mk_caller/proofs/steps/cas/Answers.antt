@@ -1,5 +1,5 @@
 use Rattle.mk_words.proofs.Below.Laws.Vocabulary.{Stage, Step, ap, refl}
-use Rattle.mk_caller.{proofs.{Onward.{moves, write_next}, Stepping.{may_access, met}}, specs.Moves.{is_written}}
+use Rattle.mk_caller.proofs.{Onward.{is_written, moves, write_next}, Stepping.{may_access, met}}
 use Rattle.mk_caller.proofs.steps.cas.Goals as goal
 
 pub cas-requires-clause-enabled : goal.cas-requires-clause-enabled

@@ -1,5 +1,5 @@
 use Rattle.mk_words.proofs.Below.Laws.Vocabulary.{Stage, Step, ap, refl}
-use Rattle.mk_caller.{proofs.{Onward.{moves, write_next}, Stepping.{may_access, met}}, specs.Moves.{is_written}}
+use Rattle.mk_caller.proofs.{Onward.{is_written, moves, write_next}, Stepping.{may_access, met}}
 use Rattle.mk_caller.proofs.steps.write.Goals as goal
 
 pub write-requires-clause-enabled : goal.write-requires-clause-enabled

@@ -27,9 +27,9 @@ returns-then-are_zero-clause-ready c =
     record {
       clean = clean_bare (cleans_then c.look_before-dirty.ensures.cleans last.cleans) c.clear_colours.ensures.bare
           (no_quarantine _ _ c.look_before-quarantine.new.turn.in_order last.reads
-          (found.quarantine c.if-are_zero.true));
+          (found.second c.if-are_zero.true));
       undirty = undirty_later (undirty (goal.at.returns-then-are_zero-clause-ready c).After-look_before-quarantine
-          (found.dirty c.if-are_zero.true)) last.cleans;
+          (found.first c.if-are_zero.true)) last.cleans;
     }
 
 pub returns-clause-cleans : goal.returns-clause-cleans

@@ -1,10 +1,10 @@
 -- A page's quarantine and mark words are looked at once each, and say what is released on it.
 use Rattle.mk_words.proofs.Below.Laws.Vocabulary.{ap, header_at, sym, without, ℕ, ◌∙◌, ◌≡◌}
-use Rattle.mk_cycle.proofs.Vocabulary.{GivesNothingBack, PassState, Released, left_unmarked, now_of, released_on}
+use Rattle.mk_cycle.proofs.Vocabulary.{GivesNothingBack, Released, left_unmarked, now_of, released_on}
 use Rattle.mk_cycle.proofs.CountedPages.{counted_on, held_by_header, snapshot_told, told_none}
 use Rattle.mk_cycle.proofs.SettledPages.{free_cells_stay, gives_none, gives_then, marked_gone, none_left_on}
 use Rattle.mk_cycle.proofs.{FreeingSteps.freed_turn, GivingSteps.{none_at_once, none_then}, PageSteps.same_header}
-use Rattle.mk_cycle.{proofs.freeing.release_cells.Goals.{After-without-gone}, specs.ReleasedPages.{WasReleasedOn}}
+use Rattle.mk_cycle.proofs.freeing.release_cells.Goals.{After-without-gone, else-gone-ne0, then-gone-ne0}
 use Rattle.mk_cycle.proofs.freeing.release_cells.Goals as goal
 
 pub returns-then-snapshot-eq0-clause-told : goal.returns-then-snapshot-eq0-clause-told
@@ -39,42 +39,33 @@ gone c =
     ∙ marked_gone _ c.look-quarantine.result c.look-marks.result c.look-quarantine.new.turn.in_order y.frees x.reads
     y.reads
 
-counted : (c : After-without-gone)
-    → c.released_cells-released.result ≡ released_on (now_of c.args.turn.now.pass).words c.args.page
-counted c =
-    let b : PassState = c.look-marks.new.turn.pass in
-    let x = c.look-quarantine.ensures in
-    let y = c.look-marks.ensures in
+pub returns-clause-told : goal.returns-clause-told
+returns-clause-told c =
+    let x = (goal.at.returns-clause-told c).After-without-gone in
     let r = c.released_cells-released.ensures in
-    counted_on c.args.page c.of-snapshot.result.snapshot c.look-marks.result c.args.header.now
-    c.released_cells-released.result (both c) (none_at_once b)
-    (c.of-snapshot.ensures.snapshot
-    ∙ snapshot_told c.args.page c.look-quarantine.result c.look-quarantine.new.turn.in_order x.frees x.reads) y.reads
-    (header c) r.count r.words r.kept
-
-told : (c : After-without-gone) → WasReleasedOn (now_of c.args.turn.now.pass).words c.args.page
-    c.released_cells-released.result c.held_words-held.result
-told c =
     let words = c.held_words-held.ensures in
+    let counted : c.released_cells-released.result ≡ released_on (now_of c.args.turn.now.pass).words c.args.page =
+    counted_on c.args.page c.of-snapshot.result.snapshot c.look-marks.result c.args.header.now
+    c.released_cells-released.result (both x) (none_at_once c.look-marks.new.turn.pass)
+    (c.of-snapshot.ensures.snapshot
+    ∙ snapshot_told c.args.page c.look-quarantine.result c.look-quarantine.new.turn.in_order
+    c.look-quarantine.ensures.frees c.look-quarantine.ensures.reads) c.look-marks.ensures.reads (header x) r.count
+    r.words r.kept in
     record {
-      released = counted c;
+      released = counted;
       held = words.is ∙ held_by_header (now_of c.args.turn.now.pass).words c.args.page c.args.header.now
-          c.released_cells-released.result.words c.requires.may.is_header
-          (ap (λ (r : Released). r.words) (counted c));
-      few = c.released_cells-released.ensures.few;
+          c.released_cells-released.result.words c.requires.may.is_header (ap (λ (r : Released). r.words) counted);
+      few = r.few;
       part = words.part;
     }
 
-pub returns-then-gone-eq0-clause-told : goal.returns-then-gone-eq0-clause-told
-returns-then-gone-eq0-clause-told c = told (goal.at.returns-then-gone-eq0-clause-told c).After-without-gone
-
-pub returns-clause-told : goal.returns-clause-told
-returns-clause-told c = told (goal.at.returns-clause-told c).After-without-gone
-
-pub returns-then-gone-eq0-clause-gives : goal.returns-then-gone-eq0-clause-gives
-returns-then-gone-eq0-clause-gives c =
-    let x = goal.at.returns-then-gone-eq0-clause-gives c in
-    gives_none c.args.page (both x.After-without-gone) (sym (gone x.After-without-gone) ∙ c.if-gone-eq0.true)
+pub returns-clause-gives : goal.returns-clause-gives
+returns-clause-gives c =
+    let x = (goal.at.returns-clause-gives c).After-without-gone in
+    elim c.if-gone-ne0.branch [
+      | then-gone-ne0 w ↦ rw w.turn-is (gives_then (both x) w.give_back.ensures)
+      | else-gone-ne0 w ↦ rw w.turn-is (gives_none c.args.page (both x) (sym (gone x) ∙ w.if-gone-ne0.false))
+    ]
 
 pub give_back-requires-clause-may : goal.give_back-requires-clause-may
 give_back-requires-clause-may c =
@@ -89,6 +80,3 @@ give_back-requires-clause-may c =
 
 pub give_back-requires-clause-gone : goal.give_back-requires-clause-gone
 give_back-requires-clause-gone c = gone (goal.at.give_back-requires-clause-gone c).After-without-gone
-
-pub returns-clause-gives : goal.returns-clause-gives
-returns-clause-gives c = gives_then (both (goal.at.returns-clause-gives c).After-without-gone) c.give_back.ensures

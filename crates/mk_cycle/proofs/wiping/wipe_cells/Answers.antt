@@ -1,7 +1,6 @@
-use Rattle.std.proofs.Math.Nat.{mul_left_comm}
-use Rattle.mk_words.proofs.Below.Laws.Vocabulary.{ℕ, ap, arith, cases_Bool, false, has_bit, inl, inr, no_bit, subst}
+use Rattle.mk_words.proofs.Below.Laws.Vocabulary.{ℕ, ap, cases_Bool, false, has_bit, inl, inr, no_bit, subst}
 use Rattle.mk_words.proofs.Below.Laws.Vocabulary.{sym, true, true≢false, without, ◌*◌, ◌+◌, ◌<◌, ◌^◌, ◌∙◌, ◌≡◌, ◌⊎◌}
-use Rattle.mk_cycle.proofs.{Vocabulary.{IsUnmappedWord, IsZero}, GivingSteps.{none_at_once, none_then}}
+use Rattle.mk_cycle.proofs.{Vocabulary.IsZero, GivingSteps.{none_at_once, none_then}}
 use Rattle.mk_cycle.proofs.{GivingSteps.still_unmapped_word, RestBits.{fewer_left, left_among, taken_or_gone}}
 use Rattle.mk_cycle.proofs.wiping.wipe_cells.Goals as goal
 
@@ -12,16 +11,10 @@ loop-rest-init c = record {
   zeros = λ j none i has lt. absurd (true≢false (sym has ∙ none));
 }
 
--- a word of a cell, by the pairs before it
-same_word : (page index pairs i : ℕ) → 64 * page + index * (2 * pairs) + i ≡ 2 * (32 * page + index * pairs) + i
-same_word page index pairs i = omega (arith, mul_left_comm index 2 pairs)
-
 pub wipe_cell-requires-clause-unmapped : goal.wipe_cell-requires-clause-unmapped
 wipe_cell-requires-clause-unmapped c i lt =
-    subst (λ (n : ℕ). IsUnmappedWord c.loop-rest.turn.pass n)
-    (same_word c.args.page c.lowest_bit-index.result c.args.pairs i)
-    (still_unmapped_word c.loop-rest.invariant.frees.frees (c.requires.unmapped c.lowest_bit-index.result i
-    (c.loop-rest.invariant.among c.lowest_bit-index.result c.lowest_bit-index.ensures.one) lt))
+    still_unmapped_word c.loop-rest.invariant.frees.frees (c.requires.unmapped c.lowest_bit-index.result i
+    (c.loop-rest.invariant.among c.lowest_bit-index.result c.lowest_bit-index.ensures.one) lt)
 
 pub loop-rest-smaller : goal.loop-rest-smaller
 loop-rest-smaller c =
@@ -51,8 +44,7 @@ loop-rest-preserved c =
     by j gone i has lt (inl one) =
         subst (λ (k : ℕ). IsZero c.wipe_cell.new.turn.pass (64 * c.args.page + k * (2 * c.args.pairs) + i))
         (sym (taken_or_gone c.loop-rest.rest c.lowest_bit-index.result j gone one))
-        (subst (λ (n : ℕ). IsZero c.wipe_cell.new.turn.pass n)
-        (sym (same_word c.args.page c.lowest_bit-index.result c.args.pairs i)) (c.wipe_cell.ensures.zeros i lt))
+        (c.wipe_cell.ensures.zeros i lt)
     by j gone i has lt (inr none) =
         c.wipe_cell.ensures.frees.frees.zeros (64 * c.args.page + j * (2 * c.args.pairs) + i)
         (still_unmapped_word c.loop-rest.invariant.frees.frees (c.requires.unmapped j i has lt)).unmapped

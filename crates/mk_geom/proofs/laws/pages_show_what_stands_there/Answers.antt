@@ -1,8 +1,12 @@
-use Rattle.mk_geom.proofs.Bridge.{have_header_words, same_places}
+use Rattle.mk_geom.proofs.{Bridge.{have_header_words, same_census, same_places, same_uses}}
+use Rattle.mk_geom.proofs.HeldWords.{pages_hold_mapped_words}
 use Rattle.mk_geom.proofs.laws.pages_show_what_stands_there.Goals as goal
 
-pub returns-clause-places : goal.returns-clause-places
-returns-clause-places c = same_places
-
-pub returns-clause-header_words : goal.returns-clause-header_words
-returns-clause-header_words c = have_header_words
+pub returns : goal.returns
+returns c pages storages stand = record {
+  uses = same_uses pages storages stand;
+  places = λ limit words leaf. same_places pages storages limit words leaf stand;
+  census = same_census pages storages stand;
+  held = pages_hold_mapped_words pages storages stand;
+  header_words = have_header_words pages storages stand;
+}

@@ -1,19 +1,27 @@
-use Rattle.mk_books.proofs.Vocabulary.{List, Page, ℕ, ap, arith, drop, is_resident_page, length, length-set, page_at}
-use Rattle.mk_books.proofs.Vocabulary.{set, take, ◌++◌, ◌+◌, ◌<◌, ◌∙◌, ◌≡◌, ◌≤◌}
+use Rattle.mk_books.proofs.Vocabulary.{Page, ℕ, ap, arith, is_resident_page, length, length-set, page_at, set}
+use Rattle.mk_books.proofs.Vocabulary.{◌+◌, ◌<◌, ◌∙◌, ◌≡◌, ◌≤◌, List}
 use Rattle.mk_books.proofs.{Uncleaned.{header_uncleaned, others_kept, this_uncleaned}, FitStays.resident_one}
-use Rattle.mk_books.proofs.{FreeSets.written, Storing.{Stores, counted_anew, page_read, page_within, resident_byte}}
+use Rattle.mk_books.proofs.{Showing.{sets_written, written_in}}
+use Rattle.mk_books.proofs.Storing.{Stores, counted_anew, page_read, page_within, resident_byte, store_fits}
+use Rattle.mk_books.proofs.Storing.{store_shows}
 use Rattle.mk_books.proofs.page_map.PageMap.header_stored.Goals as goal
-use Rattle.mk_books.proofs.{Storing.{store_fits, store_shows}, page_map.PageMap.header_stored.Goals.After-from}
+use Rattle.mk_books.proofs.page_map.PageMap.header_stored.Goals.{After-from}
 
 abbrev now : After-from → Page
 now c = record { header = c.args.header; used = c.index.result.now.used }
 
 within : (c : After-from) → c.args.page < length c.self.inside.pages.items
-within c = grind (arith, page_within)
+within c = page_within c.args.self.now c.self.inside.pages.items c.self.inside.sets.items c.args.page c.self.view_is
+    c.requires
 
 stores : (c : After-from) → Stores c.self.inside.pages.items c.self.inside.sets.items c.deref_mut.result.now
     c.sort_by_header-is_resident.new.sets c.self.inside.resident c.args.page (now c)
-stores c = grind (arith, within)
+stores c = record {
+  fit = c.self.invariant;
+  within = within c;
+  is_slice = c.deref_mut.ensures.value;
+  sorts = c.sort_by_header-is_resident.ensures.sorts;
+}
 
 was_counted : (c : After-from)
     → c.from-was_resident.result ≡ resident_one (page_at c.self.inside.pages.items c.args.page)
@@ -23,7 +31,7 @@ was_counted c =
     ∙ ap resident_one (page_read c.self.inside.pages.items c.args.page c.index.result.now (within c) c.index.ensures)
 
 is_counted : (c : After-from) → c.from.result ≡ resident_one (now c)
-is_counted c = grind (arith, resident_byte, now)
+is_counted c = resident_byte (now c) _ _ c.sort_by_header-is_resident.ensures.resident c.from.ensures
 
 enough : (c : After-from) → c.from-was_resident.result ≤ c.self.inside.resident + c.from.result
 enough c = counted_anew c.self.inside.pages.items c.args.page c.self.inside.resident c.from-was_resident.result
@@ -32,9 +40,12 @@ enough c = counted_anew c.self.inside.pages.items c.args.page c.self.inside.resi
 pub overflow_sub-self : goal.overflow_sub-self
 overflow_sub-self c = enough c
 
-same_sets : (c : After-from) → take c.self.inside.sets.len (c.sort_by_header-is_resident.new.sets ++ drop
-    (length c.sort_by_header-is_resident.new.sets) c.self.inside.sets.items) ≡ c.sort_by_header-is_resident.new.sets
-same_sets c = grind (arith, written, within)
+same_sets : (c : After-from)
+    → written_in c.sort_by_header-is_resident.new.sets c.self.inside.sets.items c.self.inside.sets.len
+    ≡ c.sort_by_header-is_resident.new.sets
+same_sets c = sets_written c.sort_by_header-is_resident.new.sets c.self.inside.sets.ok.0
+    (c.self.invariant.are_sets (omega (arith, within c)))
+    c.sort_by_header-is_resident.ensures.sorts.are_sets
 
 pub invariant_of-self : goal.invariant_of-self
 invariant_of-self c =

@@ -1,27 +1,35 @@
-use Rattle.mk_books.proofs.Vocabulary.{FitPages, KnownPages, List, PutsPage, Shows, ℕ, arith, drop, length, nat_eq, not}
-use Rattle.mk_books.proofs.Vocabulary.{refl, set, subst, sym, take, ◌++◌, ◌<◌, ◌≡◌}
-use Rattle.mk_books.proofs.Showing.{known_by, quarantine_shows}
-use Rattle.mk_books.proofs.{page_map.PageMap.quarantine_stored.Goals.After-sort_by_quarantine, FitStays.fit_again}
+use Rattle.mk_books.proofs.Vocabulary.{KnownPages, List, Shows, ℕ, arith, length, nat_eq, not, refl, set, subst, sym}
+use Rattle.mk_books.proofs.Vocabulary.{◌<◌, ◌≡◌}
+use Rattle.mk_books.proofs.Showing.{known_by, quarantine_shows, sets_written, written_in}
+use Rattle.mk_books.proofs.{Storing.page_within, Uncleaned.{PutsInto, all_kept, puts_it, still_fits}}
+use Rattle.mk_books.proofs.page_map.PageMap.quarantine_stored.Goals.{After-sort_by_quarantine}
 use Rattle.mk_books.proofs.page_map.PageMap.quarantine_stored.Goals as goal
-use Rattle.mk_books.proofs.{FreeSets.written, Storing.page_within, Uncleaned.all_kept}
 
 within : (c : After-sort_by_quarantine) → c.args.page < length c.self.inside.pages.items
-within c = grind (arith, page_within)
+within c = page_within c.args.self.now c.self.inside.pages.items c.self.inside.sets.items c.args.page c.self.view_is
+    c.requires
 
-same_sets : (c : After-sort_by_quarantine) → take c.self.inside.sets.len (c.sort_by_quarantine.new.sets ++ drop
-    (length c.sort_by_quarantine.new.sets) c.self.inside.sets.items) ≡ c.sort_by_quarantine.new.sets
-same_sets c = grind (arith, written, within)
+same_sets : (c : After-sort_by_quarantine)
+    → written_in c.sort_by_quarantine.new.sets c.self.inside.sets.items c.self.inside.sets.len
+    ≡ c.sort_by_quarantine.new.sets
+same_sets c = sets_written c.sort_by_quarantine.new.sets c.self.inside.sets.ok.0
+    (c.self.invariant.are_sets (omega (arith, within c)))
+    c.sort_by_quarantine.ensures.are_sets
 
-puts : (c : After-sort_by_quarantine) → PutsPage c.self.inside.sets.items c.sort_by_quarantine.new.sets 18 c.args.page
+puts : (c : After-sort_by_quarantine) → PutsInto c.self.inside.pages.items c.self.inside.sets.items
+    c.deref_mut.result.now c.sort_by_quarantine.new.sets c.self.inside.resident 18 c.args.page
     (not (nat_eq c.args.freed 0))
-puts c = subst (λ (xs : List ℕ). PutsPage xs c.sort_by_quarantine.new.sets 18 c.args.page
-    (not (nat_eq c.args.freed 0))) c.deref_mut.ensures.value c.sort_by_quarantine.ensures
+puts c = record {
+  fit = c.self.invariant;
+  within = within c;
+  is_slice = c.deref_mut.ensures.value;
+  puts = c.sort_by_quarantine.ensures;
+}
 
 pub invariant_of-self : goal.invariant_of-self
 invariant_of-self c =
     let x = (goal.at.invariant_of-self c).After-sort_by_quarantine in
-    subst (λ (xs : List ℕ). FitPages c.self.inside.pages.items xs c.self.inside.resident) (sym (same_sets x))
-    (fit_again (omega arith) (within x) (puts x) c.self.invariant)
+    still_fits _ (omega arith) (puts x) (same_sets x)
 
 pub returns-clause-shows : goal.returns-clause-shows
 returns-clause-shows c pages freed_words shows =
@@ -30,7 +38,7 @@ returns-clause-shows c pages freed_words shows =
     subst (λ (xs : List ℕ). Shows (known_by c.self.inside.pages.items xs) pages
     (set freed_words c.args.page c.args.freed)) (sym (same_sets x))
     (quarantine_shows c.self.inside.pages.items c.self.inside.sets.items c.sort_by_quarantine.new.sets c.args.freed
-    c.self.invariant.few (within x) (puts x) before)
+    c.self.invariant.few (within x) (puts_it (puts x)) before)
 
 pub returns-clause-uncleaned : goal.returns-clause-uncleaned
 returns-clause-uncleaned c number =

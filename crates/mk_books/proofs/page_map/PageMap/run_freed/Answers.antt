@@ -1,68 +1,21 @@
-use Rattle.mk_books.proofs.Vocabulary.{KnownPages, List, Page, PartOfRun, ap, arith, drop, false, length}
-use Rattle.mk_books.proofs.Vocabulary.{subst, sym, take, true, Nothing, ℕ, ◌++◌, ◌+◌, ◌∙◌, ◌≡◌, ◌≤◌}
-use Rattle.mk_books.proofs.{FreeSets.written, RunPages.{length-with_headers, pages_written}}
-use Rattle.mk_books.proofs.RunsTold.{StoresRun, fits_written, freed_stored, run_fits, run_told, told_written}
-use Rattle.mk_books.proofs.RunsTold.{freed_count}
+use Rattle.mk_books.proofs.Vocabulary.{List, Nothing, Page, PartOfRun, false}
+use Rattle.mk_books.proofs.RunsTold.{MapIsTold, freed_stored, moved_map_told}
+use Rattle.mk_books.proofs.Showing.{written_in}
 use Rattle.mk_books.proofs.page_map.PageMap.run_freed.Goals as goal
 use Rattle.mk_books.proofs.page_map.PageMap.run_freed.Goals.{After-move_pages}
-use Rattle.mk_books.specs.{PageSets.{MovesPages, is_between}, Runs.{StandsOn, with_headers}}
+use Rattle.mk_books.specs.Runs.{StandsOn}
 
-abbrev held : After-move_pages → List Page
-held c = c.self.inside.pages.items
-
-abbrev headers : After-move_pages → ℕ → ℕ
-headers c = λ _. 0
-
-same_pages : (c : After-move_pages) → held c ≡ c.args.self.now.pages
-same_pages c = ap (λ (k : KnownPages). k.pages) c.self.view_is
-
-within : (c : After-move_pages) → c.args.first + c.args.count ≤ length (held c)
-within c = omega (arith, c.requires.within, ap length (same_pages c))
-
-before : (c : After-move_pages) → StandsOn (PartOfRun false) (held c) c.args.first c.args.count
-before c = subst (λ (ps : List Page). StandsOn (PartOfRun false) ps c.args.first c.args.count) (sym (same_pages c))
-    c.requires.before
-
-now_pages : (c : After-move_pages) → take c.self.inside.pages.len (c.clear_headers.new.pages ++ drop
-    (length c.clear_headers.new.pages) (held c)) ≡ with_headers (held c) c.args.first c.args.count (headers c)
-now_pages c =
-    let is : c.clear_headers.new.pages ≡ with_headers (held c) c.args.first c.args.count (headers c)
-    = c.clear_headers.ensures ∙ ap (λ (ps : List Page). with_headers ps c.args.first c.args.count (headers c))
-    c.deref_mut.ensures.value in
-    pages_written c.clear_headers.new.pages (held c) c.self.inside.pages.len (omega (
-      arith,
-      c.self.inside.pages.ok.0,
-      ap length is,
-      length-with_headers (held c) c.args.first c.args.count (headers c),
-    )) ∙ is
-
-now_sets : (c : After-move_pages) → take c.self.inside.sets.len
-    (c.move_pages.new.sets ++ drop (length c.move_pages.new.sets) c.self.inside.sets.items) ≡ c.move_pages.new.sets
-now_sets c = written c.move_pages.new.sets c.self.inside.sets.items c.self.inside.sets.len (omega (
-  arith,
-  c.self.inside.sets.ok.0,
-  c.move_pages.ensures.are_sets.long,
-  (c.self.invariant.are_sets (omega (arith, within c, c.requires.some))).long,
-))
-
-moves : (c : After-move_pages) → MovesPages c.self.inside.sets.items c.move_pages.new.sets
-    (is_between c.args.first (c.args.first + c.args.count)) true
-moves c = subst (λ (xs : List ℕ). MovesPages xs c.move_pages.new.sets
-    (is_between c.args.first (c.args.first + c.args.count)) true) c.deref_mut-2.ensures.value
-    c.move_pages.ensures
-
-stored : (c : After-move_pages) → StoresRun (held c) c.self.inside.sets.items c.move_pages.new.sets c.args.first
-    c.args.count (headers c) Nothing
-stored c = freed_stored c.move_pages.new.sets c.args.first c.args.count c.self.invariant (within c) (before c)
-    (moves c)
+told : (c : After-move_pages) → MapIsTold c.args.self.now c.args.first c.args.count (λ _. 0)
+    (written_in c.clear_headers.new.pages c.self.inside.pages.items c.self.inside.pages.len)
+    (written_in c.move_pages.new.sets c.self.inside.sets.items c.self.inside.sets.len) c.self.inside.resident
+told c =
+    moved_map_told (λ (ps : List Page). StandsOn (PartOfRun false) ps c.args.first c.args.count) (λ _. 0) Nothing
+    c.self.view_is c.self.invariant c.self.inside.pages.ok.0 c.deref_mut.ensures.value c.clear_headers.ensures
+    c.self.inside.sets.ok.0 c.deref_mut-2.ensures.value c.move_pages.ensures c.requires.within c.requires.some
+    c.requires.before (freed_stored c.move_pages.new.sets c.args.first c.args.count c.self.invariant)
 
 pub invariant_of-self : goal.invariant_of-self
-invariant_of-self c =
-    let x = (goal.at.invariant_of-self c).After-move_pages in
-    fits_written (now_pages x) (now_sets x) (run_fits _ c.self.invariant (stored x)
-    (freed_count c.args.first c.args.count c.self.invariant (within x) (before x)))
+invariant_of-self c = (told (goal.at.invariant_of-self c).After-move_pages).fits
 
 pub returns : goal.returns
-returns c =
-    let x = (goal.at.returns c).After-move_pages in
-    told_written c.self.view_is (now_pages x) (now_sets x) (run_told c.self.invariant (stored x))
+returns c = (told (goal.at.returns c).After-move_pages).told

@@ -1,6 +1,7 @@
-use Rattle.mk_books.proofs.Vocabulary.{List, Page, ℕ, ap, arith, drop, length, length-set, page_at, set, take, ◌++◌}
-use Rattle.mk_books.proofs.{Vocabulary.{◌<◌, ◌∙◌, ◌≡◌}, FreeSets.written, Storing.{Stores, page_read, page_within}}
-use Rattle.mk_books.proofs.{Storing.{same_count, store_fits, store_shows}, Uncleaned.all_kept}
+use Rattle.mk_books.proofs.Vocabulary.{List, Page, PageUse, SortsPage, ℕ, ap, arith, length, length-set, page_at, set}
+use Rattle.mk_books.proofs.Vocabulary.{subst, sym, ◌<◌, ◌∙◌, ◌≡◌}
+use Rattle.mk_books.proofs.{Showing.{sets_written, written_in}, Uncleaned.all_kept}
+use Rattle.mk_books.proofs.Storing.{Stores, page_read, page_within, same_count, store_fits, store_shows}
 use Rattle.mk_books.proofs.page_map.PageMap.used_stored.Goals as goal
 use Rattle.mk_books.proofs.page_map.PageMap.used_stored.Goals.{After-sort_by_used}
 
@@ -8,7 +9,8 @@ abbrev now : After-sort_by_used → Page
 now c = record { header = c.index.result.now.header; used = c.args.used }
 
 within : (c : After-sort_by_used) → c.args.page < length c.self.inside.pages.items
-within c = grind (arith, page_within)
+within c = page_within c.args.self.now c.self.inside.pages.items c.self.inside.sets.items c.args.page c.self.view_is
+    c.requires
 
 read : (c : After-sort_by_used) → c.index.result.now ≡ page_at c.self.inside.pages.items c.args.page
 read c = page_read c.self.inside.pages.items c.args.page c.index.result.now (within c) c.index.ensures
@@ -16,12 +18,19 @@ read c = page_read c.self.inside.pages.items c.args.page c.index.result.now (wit
 stores : (c : After-sort_by_used)
     → Stores c.self.inside.pages.items c.self.inside.sets.items c.deref_mut.result.now c.sort_by_used.new.sets
     c.self.inside.resident c.args.page (now c)
-stores c = grind (arith, within)
+stores c = record {
+  fit = c.self.invariant;
+  within = within c;
+  is_slice = c.deref_mut.ensures.value;
+  sorts = subst (λ (u : PageUse). SortsPage c.deref_mut.result.now c.sort_by_used.new.sets c.args.page u)
+      (sym (c.kind_of.ensures.kind c.args.used)) c.sort_by_used.ensures.sorts;
+}
 
-same_sets : (c : After-sort_by_used) → take c.self.inside.sets.len
-    (c.sort_by_used.new.sets ++ drop (length c.sort_by_used.new.sets) c.self.inside.sets.items)
-    ≡ c.sort_by_used.new.sets
-same_sets c = grind (arith, written, within)
+same_sets : (c : After-sort_by_used)
+    → written_in c.sort_by_used.new.sets c.self.inside.sets.items c.self.inside.sets.len ≡ c.sort_by_used.new.sets
+same_sets c = sets_written c.sort_by_used.new.sets c.self.inside.sets.ok.0
+    (c.self.invariant.are_sets (omega (arith, within c)))
+    c.sort_by_used.ensures.sorts.are_sets
 
 pub invariant_of-self : goal.invariant_of-self
 invariant_of-self c =

@@ -1,16 +1,12 @@
-use Rattle.mk_laws.proofs.Vocabulary.{ap, arith, sym}
+use Rattle.mk_laws.proofs.Vocabulary.{sym}
 use Rattle.mk_books.specs.Runs.{run_word}
-use Rattle.mk_words.proofs.{MapSteps.map_that, RunMaps.{pages_known, run_goes_on}, StoredHeads.heads_keep_turn}
+use Rattle.mk_words.proofs.{MapSteps.map_that, RunMaps.{run_goes_on, run_within}, StoredHeads.heads_keep_turn}
 use Rattle.mk_words.proofs.turns.TurnAt.unmap_run.Goals as goal
-use Rattle.mk_words.specs.States.{WordsState}
 
 pub run_unmapped-requires-clause-within : goal.run_unmapped-requires-clause-within
-run_unmapped-requires-clause-within g c = omega (
-  arith,
-  c.requires.within,
-  ap (λ (w : WordsState). w.config.pages) (rw (sym c.self.view_is) at c.requires.one_table),
-  pages_known c.self.inside.pass c.deref_mut.result.now (map_that c.deref_mut.ensures.value c.self.invariant).shows,
-)
+run_unmapped-requires-clause-within g c =
+    run_within c.args.first c.args.count c.requires.within (rw (sym c.self.view_is) at c.requires.one_table)
+    (map_that c.deref_mut.ensures.value c.self.invariant)
 
 pub invariant_of-self-inside : goal.invariant_of-self-inside
 invariant_of-self-inside g c = (
@@ -21,10 +17,6 @@ invariant_of-self-inside g c = (
 
 pub invariant_of-self : goal.invariant_of-self
 invariant_of-self g c =
-    let held = map_that c.deref_mut.ensures.value c.self.invariant in
-    run_goes_on c.args.first c.args.count (run_word c.args.head c.args.next) (omega (
-      arith,
-      c.requires.within,
-      ap (λ (w : WordsState). w.config.pages) (rw (sym c.self.view_is) at c.requires.one_table),
-      pages_known c.self.inside.pass c.deref_mut.result.now held.shows,
-    )) c.store_headers.ensures held c.run_unmapped.ensures
+    run_goes_on c.args.first c.args.count (run_word c.args.head c.args.next) c.requires.within
+    (rw (sym c.self.view_is) at c.requires.one_table) c.store_headers.ensures
+    (map_that c.deref_mut.ensures.value c.self.invariant) c.run_unmapped.ensures

@@ -1,0 +1,21 @@
+//! A line that is added to those before it.
+ghost use Rattle.mk_script.specs.{ScopeOf.{IsScopeOf, Reads}, Stops.checked_behind};
+
+use crate::faults::{LineFault, LineStop};
+use crate::items::Item;
+use crate::scope::Scope;
+
+/// Adds the item that was found, if it may stand next.
+pub fn take(
+    scope: &mut Scope,
+    items: &mut Vec<Item>,
+    found: Result<Item, LineFault>,
+) -> Result<(), LineStop>
+    ensures { IsScopeOf scope.old items.old.items → Reads items.old.items (checked_behind items.old.items found) result
+        items.new.items scope.new }
+{
+    let item = found?;
+    scope.check(&item)?;
+    scope.add(&item)?;
+    Ok(items.push(item)?)
+}
