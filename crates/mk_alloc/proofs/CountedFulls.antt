@@ -14,13 +14,12 @@ use Rattle.mk_alloc.proofs.Vocabulary.{sum_by_push, sym, true, unchanged, world_
 use Rattle.mk_alloc.proofs.{FullLeaves.{leaves_then, made_leaves}, Going.{IsCallers, but_full, exact_kept, same_phase}}
 use Rattle.mk_alloc.proofs.{Going.tidy_kept, SeekingTurns.{new_callers, still_nowhere, unplaced_kept}}
 use Rattle.mk_alloc.proofs.{Stretches.{SomeKinds, does_both, does_once, widened}, CalledTurns.step_adds_none}
-use Rattle.mk_alloc.proofs.{FreedTurns.given_is_decided, GrantParts.{calm_last, room_lacks}, OneCycles.begins_none_by}
-use Rattle.mk_alloc.proofs.{Parts.Part, PlacedTurns.none_freed_yet, OneCycles.closes_none_by}
-use Rattle.mk_alloc.specs.Rooms.{ClosesNone}
+use Rattle.mk_alloc.{proofs.{FreedTurns.given_is_decided, GrantParts.{calm_last, room_lacks}}, specs.Rooms.{ClosesNone}}
+use Rattle.mk_alloc.proofs.{OneCycles.{begins_none_by, closes_none_by}, Parts.Part, PlacedTurns.none_freed_yet}
+use Rattle.mk_alloc.proofs.{Looks.acting_now, MayAct.new_step_admitted, Reaching.own_adds, Takes.unplaced_settled}
 use Rattle.mk_caller.proofs.Below.Laws.Vocabulary.{Tally, Word, is_new_at, ◌-◌, ◌^◌}
 use Rattle.mk_caller.proofs.Below.Laws.InvariantHistories.{first_fit_finds_the_place}
 use Rattle.mk_caller.proofs.{Below.Laws.LayoutHolders.seat_operands, Below.Words.Seats.others_own}
-use Rattle.mk_alloc.proofs.{Looks.acting_now, MayAct.new_step_admitted, Reaching.own_adds, Takes.unplaced_settled}
 use Rattle.mk_caller.specs.Below.Words.Steps.{Finds, IsAdmittedTo}
 use Rattle.mk_core.specs.History.{IsAdmittedBehind}
 use Rattle.mk_cycle.proofs.{Allowed.in_turn_before, BeginSteps.none_held_kept, KeptInParts.gates_then}

@@ -1,11 +1,10 @@
 -- What engines say at each close, in parts of a turn.
 use Rattle.std.proofs.lemmas.List.Folds.{list_all-append}
-use Rattle.mk_alloc.proofs.Vocabulary.{At, BeginsCycle, Bool, Config, Does, Event, FinishesCycle, Has, IsHistory}
-use Rattle.mk_alloc.proofs.Vocabulary.{IsPlaced, IsTurn, List, Makes, PassState, Seat, Step, World, and_parts, ap}
+use Rattle.mk_alloc.proofs.Vocabulary.{At, BeginsCycle, Bool, Config, Does, Event, FinishesCycle, IsHistory}
+use Rattle.mk_alloc.proofs.Vocabulary.{IsTurn, List, PassState, Seat, Step, World, and_parts, ap}
 use Rattle.mk_alloc.proofs.Vocabulary.{append-nil, append_assoc, append_cancel_left, are_of, arith, event_of, false}
-use Rattle.mk_alloc.proofs.Vocabulary.{is_close, is_look, is_same_seat, left, not, not-true, refl, same_self, subst}
-use Rattle.mk_alloc.proofs.Vocabulary.{sym}
-use Rattle.mk_alloc.proofs.Vocabulary.{true, true≢false, world_of, [], ⊎_elim, ◌++◌, ◌∙◌, ◌∷◌, ◌≡◌}
+use Rattle.mk_alloc.proofs.Vocabulary.{is_close, is_same_seat, left, not, not-true, refl, same_self, subst}
+use Rattle.mk_alloc.proofs.Vocabulary.{sym, true, true≢false, [], ⊎_elim, ◌++◌, ◌∙◌, ◌∷◌, ◌≡◌}
 use Rattle.mk_alloc.proofs.CycleParts.{ends_marking, gives_back, gives_room, part_closing}
 use Rattle.mk_alloc.proofs.ListParts.{InFirst, InSecond, IsAt, Lacks, none_at, only_at, stands}
 use Rattle.mk_alloc.proofs.Parts.{AreApart, IsHolders, Part, StepBehind, part_lacks, seen_by, seen_then, step_behind}

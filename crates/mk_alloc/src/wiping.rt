@@ -1,8 +1,7 @@
 //! The words of the run of a large object that a Free has freed and unmapped are wiped. Most are 0 already, so those of
 //! a group are looked at together first. A word that is 0 isn't stored to.
 ghost use Rattle.std.specs.Prelude.{◌≡◌, ◌+◌, ◌*◌, ◌<◌, true};
-ghost use Rattle.mk_alloc.specs.{FreeParts.Wipes, Unmapping.{MayWipe, MayWipeFrom, MayWipeGroup, MayWipeGroups}};
-ghost use Rattle.mk_alloc.specs.Unmapping.{WipesTo};
+ghost use Rattle.mk_alloc.specs.FreeParts.{MayWipe, MayWipeFrom, MayWipeGroup, MayWipeGroups, Wipes, WipesTo};
 
 use mk_caller::lower::words::{Turn, Words};
 use mk_core::{RunPages, Word};

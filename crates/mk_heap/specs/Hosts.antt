@@ -1,9 +1,8 @@
 -- What contracts see of the host, and what always holds of it.
 use Rattle.std.specs.Prelude.{◌≡◌, ℕ, ◌+◌, ◌<◌, ◌≤◌, false, List, [], ◌∷◌, ◌++◌, Option, Some, None}
-use Rattle.mk_core.specs.{declared.events.Event.Event, declared.events.Seat.Seat}
-use Rattle.mk_core.specs.{declared.events.Seat.TheVariants.{Caller, Marker, Host}, Calls.at_rest}
-use Rattle.mk_core.specs.{Growing.{AreOfOthers, Grows}, History.IsHistory}
-use Rattle.mk_core.specs.{Moments.{Moment, flight_of, marker_at, outside}, Order.host_has_turn}
+use Rattle.mk_core.specs.{Calls.at_rest, Growing.{AreOfOthers, Grows}, History.IsHistory, Moments.{Moment, flight_of}}
+use Rattle.mk_core.specs.{Moments.{marker_at, outside}, Order.host_has_turn, declared.events.Event.Event}
+use Rattle.mk_core.specs.{declared.events.Seat.Seat, declared.events.Seat.TheVariants.{Caller, Marker, Host}}
 use Rattle.mk_alloc.specs.{Below.Words.Seats.{Has, all_seats, has_over, without_seat}, Below.Words.Rule.no_config}
 use Rattle.mk_alloc.specs.{Below.Words.States.{WordsState, PassState, now_of}, Below.Words.Sweeping.SweepsNothing}
 

@@ -1,14 +1,12 @@
 -- Lists of jobs that callers did are the jobs of a history.
 use Rattle.std.proofs.lemmas.List.{length-replicate}
 use Rattle.mk_jobs.proofs.RunVocabulary.{AreAdmitted, AreBelow, AreJobRuns, Call, Config, Dones, Event, HaveDone}
-use Rattle.mk_jobs.proofs.RunVocabulary.{IsHistory}
-use Rattle.mk_jobs.proofs.RunVocabulary.{JobRun, Jobs, NeverState, Null, Plan, Replied, after_op, all_of, asked}
-use Rattle.mk_jobs.proofs.RunVocabulary.{calls, never_first, own_replied, replied_in, reply_of}
-use Rattle.mk_laws.proofs.Vocabulary.{Bool, Kind, List, ℕ, ap, arith, false, if◌then◌else◌, length, ne_eqb, refl}
-use Rattle.mk_laws.proofs.Vocabulary.{suc, true, zero, [], ◌*◌, ◌++◌, ◌+◌, ◌<◌, ◌==◌, ◌∙◌, ◌∷◌, ◌≡◌, ◌≤◌, sym}
-use Rattle.mk_never.proofs.Later.{op_stays}
-use Rattle.mk_never.specs.NeverHeap.{start_of}
-use Rattle.mk_jobs.specs.{Jobs.{jobs_of_first}, Joining.IsFounding, Runs.{AreJobsOf, AreRunsOf}}
+use Rattle.mk_jobs.proofs.RunVocabulary.{IsHistory, JobRun, Jobs, NeverState, Null, Plan, Replied, after_op, all_of}
+use Rattle.mk_jobs.proofs.RunVocabulary.{asked, calls, never_first, own_replied, replied_in, reply_of}
+use Rattle.mk_laws.proofs.Vocabulary.{Bool, Kind, List, ℕ, ap, arith, false, if◌then◌else◌, length, ne_eqb, refl, suc}
+use Rattle.mk_laws.proofs.Vocabulary.{true, zero, [], ◌*◌, ◌++◌, ◌+◌, ◌<◌, ◌==◌, ◌∙◌, ◌∷◌, ◌≡◌, ◌≤◌, sym}
+use Rattle.mk_never.{proofs.Later.{op_stays}, specs.NeverHeap.{start_of}}
+use Rattle.mk_jobs.specs.{Jobs.jobs_of_first, Joining.IsFounding, Runs.{AreJobsOf, AreRunsOf}}
 
 -- Admitted calls are of callers that exist.
 are_below : (globals : List ℕ) (n : NeverState) (callers : ℕ) (xs : List Call) → length n.registers ≡ 8 * callers

@@ -6,11 +6,9 @@ use Rattle.mk_core.specs.declared.events.Seat.TheVariants.{Caller, Host}
 use Rattle.mk_heap.specs.{Below.Words.Seats.{Has, has_over}, Below.Words.States.{WordsState, PassState}}
 use Rattle.mk_heap.specs.{Below.Callers.States.IsIdleCaller, Below.Objects.Laws.OwnAreExact, Hosts.HostState}
 use Rattle.mk_heap.specs.{Below.Objects.TurnCycles.TurnsOfAreExact, HostTurns.HostComesLast}
-use Rattle.mk_jobs.specs.{declared.job_lists.Jobs.Jobs}
-use Rattle.mk_jobs.specs.{declared.joining.Callers.Callers, declared.joining.Joined.Joined}
-use Rattle.mk_jobs.specs.{declared.joining.Worked.Worked, declared.working.Ended.Ended}
 use Rattle.mk_jobs.specs.{Engines.AreEnginesFrom, JobLists.{HasDone, HaveDone}, Jobs.{IsEnd, Leads, Replied}}
-use Rattle.mk_jobs.specs.Plans.{Plan}
+use Rattle.mk_jobs.specs.{Plans.Plan, declared.job_lists.Jobs.Jobs, declared.joining.Callers.Callers}
+use Rattle.mk_jobs.specs.{declared.joining.Joined.Joined, declared.joining.Worked.Worked, declared.working.Ended.Ended}
 
 -- The pass of caller k between two jobs, which its own thread may take.
 pub record IsBetweenJobs (on : Bool) (w : WordsState) (k : ℕ) (p : PassState) : Type 0 where

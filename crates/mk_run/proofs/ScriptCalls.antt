@@ -1,17 +1,15 @@
 -- A script's caller makes one call more, and what is known then.
 use Rattle.std.proofs.{Common.length-append, lemmas.List.Sums.{count_by-le-length, sum_by_push}}
 use Rattle.mk_laws.proofs.Vocabulary.{Answer, Bool, Caller, Config, Decided, Event, IsAdmitted, IsHistory, List, Op}
-use Rattle.mk_laws.proofs.Vocabulary.{Seat, Some, ℕ, ap, arith, asked, caller_number, calls, entry_of}
-use Rattle.mk_laws.proofs.Vocabulary.{if◌then◌else◌, length, map, map-append, never_behind, refl, subst, sym, [], ◌++◌}
-use Rattle.mk_laws.proofs.Vocabulary.{◌+◌, ◌<◌, ◌==◌, ◌∙◌, ◌∷◌, ◌≡◌, ◌≤◌}
+use Rattle.mk_laws.proofs.Vocabulary.{Seat, Some, ℕ, ap, arith, asked, caller_number, calls, entry_of, if◌then◌else◌}
+use Rattle.mk_laws.proofs.Vocabulary.{length, map, map-append, never_behind, refl, subst, sym, [], ◌++◌, ◌+◌, ◌<◌, ◌==◌}
+use Rattle.mk_laws.proofs.Vocabulary.{◌∙◌, ◌∷◌, ◌≡◌, ◌≤◌}
 use Rattle.mk_run.proofs.Vocabulary.{Answers, FollowsScript, IsChecked, IsFedWith, IsHomePass, IsScript, Item}
 use Rattle.mk_run.proofs.Vocabulary.{PassState, StaysAdmitted, answers_in, calls_by, config_of, feed, is_refusal}
-use Rattle.mk_run.proofs.Vocabulary.{next_op, script_names}
-use Rattle.mk_heap.{proofs.Dispatched.then_seen, specs.Dispatching.as_told}
-use Rattle.mk_heap.specs.Below.Objects.TurnCycles.{TurnsOfAreExact}
-use Rattle.mk_heap.specs.Below.Callers.States.{Admits, caller_of_pass}
+use Rattle.mk_run.{proofs.Vocabulary.{next_op, script_names}, specs.declared.scripts.Counts.{Counts}}
+use Rattle.mk_heap.{proofs.Dispatched.{then_seen}, specs.Below.Callers.States.{Admits, caller_of_pass}}
+use Rattle.mk_heap.specs.{Dispatching.as_told, Below.Objects.TurnCycles.TurnsOfAreExact}
 use Rattle.mk_run.specs.Scripts.{CountsHaveRoom, IsRunning, Script, ScriptTakesAnswer, script_of}
-use Rattle.mk_run.specs.declared.scripts.Counts.{Counts}
 use Rattle.mk_check.proofs.{AdmittedScripts.next_is_admitted, FeedLaws.{feed_push, ops-feed_push}, Observed.word_taken}
 use Rattle.mk_check.proofs.FewOperations.{scripts_ask_for_few}
 use Rattle.mk_check.specs.{Feed.{Fed, Scope, take_answer}, Blocks.Blocks, Declarations.globals_of}
