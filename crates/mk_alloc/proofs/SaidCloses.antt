@@ -12,7 +12,7 @@ use Rattle.mk_alloc.proofs.Stretches.{AreOfTurn, SomeKinds, does_both, does_once
 use Rattle.mk_caller.proofs.Below.Words.Doing.{own_in_parts}
 use Rattle.mk_core.specs.Growing.{own_from}
 use Rattle.mk_cycle.specs.{FinishCycle.MakesFinish, Releasing.MakesRelease, Telling.IsToldAtClose}
-use Rattle.mk_alloc.specs.{Closes.{AreSaidAtCloses, EachIsSaid, IsSaid}, Rooms.ClosesNone}
+use Rattle.mk_alloc.specs.{Closes.{AreSaidAtCloses, EachIsSaid, IsSaid}, Rooms.SeesNone}
 
 -- A `close` is the holder's.
 pub closes_held : IsHolders is_close
@@ -95,7 +95,7 @@ module _ {V : Type 0} (tells : V → Config → World → Type 0) where
         d.of_kinds k own);
   }
 
-  pub unclosed_says_none : {p q : PassState} → ClosesNone p q → EachIsSaid tells p q
+  pub unclosed_says_none : {p q : PassState} → SeesNone is_close p q → EachIsSaid tells p q
   unclosed_says_none none = record {
     more = none.more;
     is = none.is;

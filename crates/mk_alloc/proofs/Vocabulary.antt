@@ -43,7 +43,7 @@ pub use Rattle.mk_alloc.proofs.MayAct.{new_is_acting, off_four}
 pub use Rattle.mk_alloc.specs.{Retired.IsDueSince, Placing.{object_for, place_now_for, FitsNowhere, IsOutOfStop}}
 pub use Rattle.mk_alloc.specs.Placing.{IsPlaced, IsUnplaced, OnlyLooks, is_look, is_placing}
 pub use Rattle.mk_alloc.specs.Underway.{EndsOlder, RunsIfDue, BeginsTurn, IsQuiet, Looks, PassKeeps, TurnGoesOn}
-pub use Rattle.mk_alloc.specs.{Leaving.OwnLeaveAllButReleased, Rooms.{AnswersFull, AsksRoom, BeginsNone, GrantsNone}}
+pub use Rattle.mk_alloc.specs.{Leaving.OwnLeaveAllButReleased, Rooms.{AnswersFull, AsksRoom, SeesNone, GrantsNone}}
 pub use Rattle.mk_alloc.specs.{Rooms.{Misfits, RunsOne, Seeks, asks_room}, TurnCalls.{CalledInTurn, FreesObject}}
 pub use Rattle.mk_alloc.specs.{TurnCalls.{IsAnsweredDouble, IsAnsweredFull}, TurnCycles.{EndsExactly, FreeIsExact}}
 pub use Rattle.mk_alloc.specs.TurnCycles.{FreesFirst, HasNoPlace, IsDueIn, RunsOneCycle, TurnsOfAreExact, finishes}

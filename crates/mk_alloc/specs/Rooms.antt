@@ -3,7 +3,7 @@ use Rattle.std.specs.Prelude.{◌≡◌, ℕ, Bool, true, false, ◌||◌, List,
 use Rattle.mk_geom.specs.{declared.pages.Census.Census, PageUses.census_among, PageWords.uses_of_pages}
 use Rattle.mk_core.specs.{declared.events.Answer.Answer, declared.events.Event.Event, declared.events.Step.Step}
 use Rattle.mk_core.specs.{declared.seats.Object.Object, declared.seats.OwnCycle.TheVariants.Ended}
-use Rattle.mk_core.specs.Cycles.{At, is_begin, is_close, is_end}
+use Rattle.mk_core.specs.Cycles.{At, is_begin, is_end}
 use Rattle.mk_caller.specs.Below.Words.States.{IsTurn, PassState, WordsState, event_of, now_of, world_of}
 use Rattle.mk_alloc.specs.{Placing.{IsUnplaced, Requests, object_for, place_now_for}, declared.objects.Request.Request}
 use Rattle.mk_alloc.specs.{Leaving.OwnLeaveAllButReleased, TurnCycles.{HasNoPlace, RunsOneCycle, has_step, is_grant}}
@@ -30,19 +30,13 @@ abbrev pub GrantsLast : PassState → PassState → Type 0
 GrantsLast p q =
     (more : List Event) → q.seen ≡ p.seen ++ more → (g : At is_grant more) → has_step lets_go g.behind ≡ false
 
--- What was seen since has no begin of a cycle,
-pub record BeginsNone (p q : PassState) : Type 0 where
+-- What was seen since has no step of this kind,
+pub record SeesNone (kind : Step → Bool) (p q : PassState) : Type 0 where
   pub more : List Event
   pub is : q.seen ≡ p.seen ++ more
-  pub none : has_step is_begin more ≡ false
+  pub none : has_step kind more ≡ false
 
--- or no close of one,
-pub record ClosesNone (p q : PassState) : Type 0 where
-  pub more : List Event
-  pub is : q.seen ≡ p.seen ++ more
-  pub none : has_step is_close more ≡ false
-
--- or only the end of one,
+-- or of cycles only the end of one,
 pub record EndsOnly (p q : PassState) : Type 0 where
   pub more : List Event
   pub is : q.seen ≡ p.seen ++ more

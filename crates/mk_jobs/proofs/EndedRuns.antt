@@ -14,7 +14,7 @@ use Rattle.mk_heap.specs.{Below.Words.Seats.has_over, Crews.JoinsMarkers, Ending
 use Rattle.mk_heap.specs.{Hosts.{AllAreJoined, with_seen}, LastTurns.{BeginsAsAsked, CallersAreStill}}
 use Rattle.mk_heap.specs.{Reports.{HasCounts, IsWhole}, Below.Objects.Bounds.HostBeginsLast, HostTurns.HostComesLast}
 use Rattle.mk_jobs.specs.{declared.runs.Outcome.Outcome, declared.working.Ended.Ended, Laws.IsAlwaysExplained}
-use Rattle.mk_jobs.specs.{Jobs.IsEnd, Joining.{HaveEnded, HaveFoundedAndWorked, IsFounding}, Passes.Founds}
+use Rattle.mk_jobs.specs.{Jobs.{IsEnd, IsFounding}, Joining.{HaveEnded, HaveFoundedAndWorked}, Passes.Founds}
 use Rattle.mk_heap.specs.Reports as report
 
 -- Where the host comes last, so does each of its cycles.

@@ -33,7 +33,7 @@ module _ {Job Done Point State : Type 0} {p : Plan Job Done Point} {left_by : St
     w = first_world p left_by callers
 
     abbrev W : ℕ → Work p
-    W = first_work founding h.found runs
+    W = first_work founding h.founds.found runs
 
     stands : Standing p callers w
     stands = record {
@@ -81,7 +81,7 @@ module _ {Job Done Point State : Type 0} {p : Plan Job Done Point} {left_by : St
     unfolding first_work
     first_works zero = record {
       own = h.own zero;
-      doing = record { leads = h.founds; goal = h.founded; job = λ e. (K.founding callers).2 };
+      doing = record { leads = h.founds.founds; goal = h.founds.founded; job = λ e. (K.founding callers).2 };
       later = h.jobs zero;
       exists = λ at_job. absurd at_job;
     }

@@ -27,7 +27,7 @@ pub use Rattle.mk_jobs.specs.Laws.{IsAlwaysExplained, IsExplained, IsOneOf, Leak
 pub use Rattle.mk_jobs.specs.{Laws.{is_done, is_pointer_to, times_freed}, Orders.{AreDecidedOnce, Ordered, left_by_all}}
 pub use Rattle.mk_jobs.specs.{Orders.{order_of, own_decisions}, Plans.{Anything, Hold, MayPoint, Owes, Owns, Plan}}
 pub use Rattle.mk_jobs.specs.{Plans.Points, declared.steps.Step.Step, Typing.{IsTyped, IsTypedStep, all_give, found}}
-pub use Rattle.mk_jobs.specs.Typing.{freed, gives, global_type, hold_of, is_freed, is_number_there, is_own, is_there}
+pub use Rattle.mk_jobs.specs.Typing.{freed, gives, global_type, hold_of, is_number_there, is_own, is_there}
 pub use Rattle.mk_jobs.specs.Typing.{kind_of, kind_there, leads, leads_shared, loaded, may_go, may_set, shares, taken}
 pub use Rattle.mk_jobs.specs.{Typing.{there, type_there, with_hold}, Advancing.{AreClears, op_of}}
 pub use Rattle.mk_never.specs.{Typed.{IsSound, IsTyped as HasTypes, Suits}, Types.kinds_of}

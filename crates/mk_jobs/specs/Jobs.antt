@@ -106,6 +106,12 @@ module _ {Job Done Point : Type 0} (p : Plan Job Done Point) where
   AreJobRuns [] = Unit {0}
   AreJobRuns (r ∷ rs) = IsJobRun r × AreJobRuns rs
 
+  -- These operations make the object.
+  pub record IsFounding (founding : List Replied) : Type 0 where
+    pub found : Point
+    pub founds : Leads p.founding founding found
+    pub founded : IsEnd (p.step found)
+
   -- what the registers hold at a point
   abbrev pub HoldsAt : (ℕ → Value) → Point → Type 0
   HoldsAt v s = (r : ℕ) → r < 8 → Has (v r) (hold_of (p.holds s) r)
@@ -113,9 +119,7 @@ module _ {Job Done Point : Type 0} (p : Plan Job Done Point) where
   -- Each caller below this number does its jobs one after the other, whatever the others do between.
   pub record IsInterleaved (n : NeverState) (callers : ℕ) (founding : List Replied) (runs : ℕ → List (JobRun Job Done))
       (calls : List Call) : Type 0 where
-    pub found : Point
-    pub founds : Leads p.founding founding found
-    pub founded : IsEnd (p.step found)
+    pub founds : IsFounding founding
     pub jobs : (k : ℕ) → AreJobRuns (runs k)
     pub own : (k : ℕ) → own_replied k n calls ≡ jobs_of_first k founding ++ all_of (runs k)
     pub exist : AreBelow callers calls
