@@ -20,7 +20,7 @@ pub use Rattle.mk_alloc.specs.Placing.{ComesTo, GoesTo, HasCarved, IsGrantedAt, 
 pub use Rattle.mk_alloc.specs.Placing.{OnlyLooks, entry_for, is_look, is_placing, object_at_place, object_for, Carving}
 pub use Rattle.mk_alloc.specs.{Placing.{IsCellReady, Serving}, Retired.freed_and_fresh, Retiring.{CallIsAt, HasFreed}}
 pub use Rattle.mk_alloc.specs.Retiring.{IsFreeAt, IsFreedAt, is_freeing, is_loading, loaded_free, is_freeing_small}
-pub use Rattle.mk_alloc.specs.Retiring.{value_of}
+pub use Rattle.mk_caller.specs.States.{value_of}
 
 -- steps that hold gates
 abbrev pub is_holding : Step → Bool

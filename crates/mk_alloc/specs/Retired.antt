@@ -7,8 +7,8 @@ use Rattle.mk_core.specs.{declared.events.Step.Step, Allocations.{PlacedAllocati
 use Rattle.mk_core.specs.{Counts.{IsDue, TalliesAreExact, TalliesAreTidy}, History.never_behind, Moments.none_is_held}
 use Rattle.mk_core.specs.{NewPlaces.is_run_gone, Words.phase_of, declared.seats.Stage.Stage}
 use Rattle.mk_caller.specs.{Called.own_calls, Below.Words.States.{PassState, call_of, now_of, world_of}}
-use Rattle.mk_caller.specs.Below.Words.Doing.{Does}
-use Rattle.mk_alloc.specs.{Placing.entry_for, Retiring.{is_freeing_small, is_freeing, is_loading, value_of}}
+use Rattle.mk_caller.specs.{Below.Words.Doing.Does, States.value_of}
+use Rattle.mk_alloc.specs.{Placing.entry_for, Retiring.{is_freeing_small, is_freeing, is_loading}}
 
 -- The value points to an allocation that is freed in the heap that never reuses storage.
 abbrev pub IsFreed : NeverState → Value → Type 0

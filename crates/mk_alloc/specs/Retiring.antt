@@ -1,23 +1,18 @@
 -- Freeing an object: what is asked, and how far the call is.
 use Rattle.std.specs.Prelude.{◌≡◌, ℕ, ◌+◌, ◌-◌, ◌^◌, min, map, slice_index, slice_set, ◌==◌, ◌<◌, Bool, true, false}
 use Rattle.std.specs.Prelude.{List, [], Some, if◌then◌else◌}
-use Rattle.mk_never.specs.{declared.values.Value.Value, Admitted.IsBase, NeverHeap.register_at}
-use Rattle.mk_never.specs.declared.operations.Op.{Op}
+use Rattle.mk_never.specs.{Admitted.IsBase, declared.operations.Op.Op}
 use Rattle.mk_geom.specs.{declared.addresses.Cell.Cell, PageUses.or_else}
 use Rattle.mk_core.specs.{declared.events.Answer.Answer, declared.events.Seat.Seat}
 use Rattle.mk_core.specs.{declared.events.Seat.TheVariants.Caller, declared.events.Step.Step}
-use Rattle.mk_core.specs.{declared.seats.Flight.Flight, declared.config.Config.Config, Accesses.caller_number}
+use Rattle.mk_core.specs.{declared.seats.Flight.Flight, declared.config.Config.Config}
 use Rattle.mk_core.specs.{Allocations.freed_where_it_stands, Effects.{run_of_cell, words_freed}, Calls.begun}
-use Rattle.mk_core.specs.{Cells.is_freed, Decided.Decided, Frames.steady_of, History.{World, never_behind}}
+use Rattle.mk_core.specs.{Cells.is_freed, Decided.Decided, Frames.steady_of, History.World}
 use Rattle.mk_core.specs.{Moments.{flight_of, is_held}, Words.register_word, declared.seats.Stage.Stage}
-use Rattle.mk_caller.specs.Below.Words.States.{PassState, call_of, now_of, world_of}
+use Rattle.mk_caller.specs.{States.value_of, Below.Words.States.{PassState, call_of, now_of, world_of}}
 use Rattle.mk_alloc.specs.Placing.{ComesTo, entry_for}
 
--- the value of a register of its caller in the heap that never reuses storage
-abbrev pub value_of : PassState → ℕ → Value
-value_of p r = register_at (never_behind p.table.config p.seen) (caller_number p.seat) r
-
--- Those of all its registers are as they were.
+-- The values of all its caller's registers are as they were.
 abbrev pub KeepsValues : PassState → PassState → Type 0
 KeepsValues p q = (r : ℕ) → r < 8 → value_of q r ≡ value_of p r
 
