@@ -6,7 +6,7 @@ use Rattle.mk_core.specs.{declared.events.Event.Event, Accesses.caller_number, H
 use Rattle.mk_core.specs.{declared.events.Seat.TheVariants.{Caller, Marker, Host}, Calls.at_rest, Counts.TalliesAreTidy}
 use Rattle.mk_core.specs.{Words.phase_of, Ranges.has_phase, Moments.{none_is_held, outside, is_held}}
 use Rattle.mk_core.specs.{StopConditions.is_attending, Order.host_has_turn, TurnConditions.held_by_pages}
-use Rattle.mk_core.specs.{declared.seats.Flight.Flight, declared.events.Step.Step}
+use Rattle.mk_core.specs.declared.events.Step.{Step}
 use Rattle.mk_heap.specs.{Below.Words.Markers.marker_in, Below.Words.CallSteps.register_of}
 use Rattle.mk_heap.specs.Below.Words.States.{PassState, now_of, call_of}
 
@@ -55,14 +55,6 @@ pub record IsAttending (p : PassState) : Type 0 where
 -- The marker scans this cell, and is at this word of it.
 abbrev pub IsAt : PassState → ℕ → ℕ → ℕ → ℕ → Type 0
 IsAt p page k next end = (marker_in p).scan ≡ Some (record { page = page; index = k; next = next; end = end })
-
--- A caller is in a call of the operation, which is here, and stays admitted.
-pub record IsMidCall (p : PassState) (o : Op) (f : Flight) : Type 0 where
-  pub number : ℕ
-  pub seat : p.seat ≡ Caller number
-  pub within : number < p.table.config.callers
-  pub call : call_of p ≡ f
-  pub admitted : StaysAdmitted p o
 
 -- The caller's register has a heap address, and the word i words on is one of the heap.
 pub record PointsWell (p : PassState) (q i : ℕ) : Type 0 where
