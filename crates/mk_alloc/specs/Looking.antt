@@ -1,4 +1,4 @@
--- Words that none but the turn's holder changes, and calls of which one holds the turn.
+-- Words that none but the turn's holder changes, calls of which one holds the turn, and what looks leave as it was.
 use Rattle.std.specs.Prelude.{Bool, true, false, ◌≡◌, ℕ, ◌<◌}
 use Rattle.mk_core.specs.{declared.events.Word.Word, declared.seats.Stage.Stage, declared.events.Seat.Seat}
 use Rattle.mk_core.specs.{declared.events.Seat.TheVariants.Caller, Words.register_word, Frames.{OnlyGrow, steady_of}}

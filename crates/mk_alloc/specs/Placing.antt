@@ -162,8 +162,6 @@ pub record IsServed (p : PassState) (place : Place) (q : PassState) : Type 0 whe
   pub held : HeldIsExact q
   pub reached : SweepsNothing p q
 
--- This many pages of the place have their headers; its cell may be taken.
-
 -- So many pages of the place have their headers.
 abbrev pub HasCarved : PassState → Place → ℕ → PassState → Type 0
 HasCarved p place n q = ComesTo (serves_at (object_for p) place) p
