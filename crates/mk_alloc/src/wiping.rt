@@ -46,7 +46,8 @@ fn wipe_words(words: &Words, turn: &mut Turn, pages: u64, run: RunPages, part: u
 {
     words.is_within_limits();
     let first = GROUP * group;
-    for word in first..first + GROUP {
+    for i in 0..GROUP {
+        let word = first + i;
         let at = Word::Heap(PAGE_WORDS * run.page + word);
         let found = turn.look_on_page(words, pages, run.page + part, at);
         if found != 0 {
