@@ -6,11 +6,10 @@ use Rattle.mk_caller.proofs.Below.Laws.Vocabulary.{world_behind, [], ◌++◌, �
 use Rattle.mk_caller.proofs.{Below.Laws.LastEvents.{ComesLast, comes_last, stands}, Below.Laws.RunWords.gone_behind}
 use Rattle.mk_caller.proofs.Below.Laws.RunsStill.{holder_finds}
 use Rattle.mk_alloc.proofs.ObjectVocabulary.{Does, IsTurn, PassState, RunIsUnmapped, RunIsWiped, SetsGates, Unmaps}
-use Rattle.mk_alloc.proofs.ObjectVocabulary.{Wipes, all_below_from, all_others, is_clearing, is_settling, now_of}
+use Rattle.mk_alloc.proofs.ObjectVocabulary.{Wipes, all_below_from, all_others, is_following, is_settling, now_of}
 use Rattle.mk_alloc.proofs.{ObjectVocabulary.world_of, DecidedFrees.{Stays, gates_stay, stays_then, unmaps_stay}}
 use Rattle.mk_alloc.proofs.{DecidedFrees.wipes_stay, FreedOnce.{Another, KeptInTurn, Own, along_turn}}
-use Rattle.mk_alloc.proofs.JoinedLooks.{reached_world}
-use Rattle.mk_alloc.specs.{Deciding.ClearsRun, FreeParts.no_gate}
+use Rattle.mk_alloc.{proofs.JoinedLooks.{reached_world}, specs.{Deciding.ClearsRun, FreeParts.no_gate}}
 use Rattle.mk_core.specs.Growing.{AreOfOthers}
 
 -- A run that the call has unmapped and wiped stays so, while gates are opened and tallies set.
@@ -76,7 +75,7 @@ clears {p} {b} {q} unmaps wipes opens gone =
     let one = unmapped_now unmaps in
     let two = wiped_now wipes in
     let three = reached_world opens in
-    let cleared : Stays is_clearing p b = stays_then (λ x h. h) (λ x h. h) (unmaps_stay unmaps) (wipes_stay wipes) in
+    let cleared : Stays is_following p b = stays_then (λ x h. h) (λ x h. h) (unmaps_stay unmaps) (wipes_stay wipes) in
     let table : b.table ≡ p.table = ap (λ (x : PassState). x.table) cleared.same in
     record {
       stays = stays_then (λ x h. grind arith) (λ x h. grind arith) cleared (gates_stay opens);

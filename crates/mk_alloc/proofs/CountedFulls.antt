@@ -1,26 +1,26 @@
 -- The three steps of a Full: the tally is looked at, raised, and the New decided.
 use Rattle.std.proofs.Common.{min}
-use Rattle.mk_alloc.proofs.Vocabulary.{Acts, Answer, AnswersFull, BeginsNone, Caller, Config, Decided, Does, Done}
+use Rattle.mk_alloc.proofs.Vocabulary.{Acts, Answer, AnswersFull, Caller, Config, Decided, Does, Done}
 use Rattle.mk_alloc.proofs.Vocabulary.{Ended, Event, Flight, Holding, Holds, IsAtPhase, IsEnabledTo, IsQuiet, IsTurn}
 use Rattle.mk_alloc.proofs.Vocabulary.{IsUnplaced, LeavesTurn, List, Moment, None, Op, Option, PassState, Placing}
-use Rattle.mk_alloc.proofs.Vocabulary.{RunPages, Seat, Some, Stage, Steady, Step, World, ℕ, acting_caller}
+use Rattle.mk_alloc.proofs.Vocabulary.{RunPages, Seat, SeesNone, Some, Stage, Steady, Step, World, ℕ, acting_caller}
 use Rattle.mk_alloc.proofs.Vocabulary.{answer_decided, ap, arith, call_decided, call_of, caller_of_pass, calls_more}
 use Rattle.mk_alloc.proofs.Vocabulary.{calm_keeps, comes_next, ends, entry_of, eq-eqb, event_of, false, flight_of}
 use Rattle.mk_alloc.proofs.Vocabulary.{free_then, full_answers, fulls_append, fulls_of, gates_behind, has_operands}
-use Rattle.mk_alloc.proofs.Vocabulary.{has_place, in_a_word, is_pending_free_at, is_run_gone, is_undecided_new}
+use Rattle.mk_alloc.proofs.Vocabulary.{has_place, in_a_word, is_begin, is_close, is_pending_free_at, is_run_gone}
+use Rattle.mk_alloc.proofs.Vocabulary.{is_undecided_new}
 use Rattle.mk_alloc.proofs.Vocabulary.{known_left, left, lt-ltb, made, meets_enabled, new_is_acting, now_of, object_for}
 use Rattle.mk_alloc.proofs.Vocabulary.{own_before, own_calls, place_now_for, refl, same_config, steady_of, subst}
 use Rattle.mk_alloc.proofs.Vocabulary.{sum_by_push, sym, true, unchanged, world_of, [], ◌++◌, ◌+◌, ◌∙◌, ◌∷◌, ◌≡◌}
 use Rattle.mk_alloc.proofs.{FullLeaves.{leaves_then, made_leaves}, Going.{IsCallers, but_full, exact_kept, same_phase}}
 use Rattle.mk_alloc.proofs.{Going.tidy_kept, SeekingTurns.{new_callers, still_nowhere, unplaced_kept}}
 use Rattle.mk_alloc.proofs.{Stretches.{SomeKinds, does_both, does_once, widened}, CalledTurns.step_adds_none}
-use Rattle.mk_alloc.proofs.{FreedTurns.given_is_decided, GrantParts.{calm_last, room_lacks}, OneCycles.begins_none_by}
-use Rattle.mk_alloc.proofs.{Parts.Part, PlacedTurns.none_freed_yet, OneCycles.closes_none_by}
-use Rattle.mk_alloc.specs.Rooms.{ClosesNone}
+use Rattle.mk_alloc.proofs.{FreedTurns.given_is_decided, GrantParts.{calm_last, room_lacks}}
+use Rattle.mk_alloc.proofs.{OneCycles.{begins_none_by, closes_none_by}, Parts.Part, PlacedTurns.none_freed_yet}
+use Rattle.mk_alloc.proofs.{Looks.acting_now, MayAct.new_step_admitted, Reaching.own_adds, Takes.unplaced_settled}
 use Rattle.mk_caller.proofs.Below.Laws.Vocabulary.{Tally, Word, is_new_at, ◌-◌, ◌^◌}
 use Rattle.mk_caller.proofs.Below.Laws.InvariantHistories.{first_fit_finds_the_place}
 use Rattle.mk_caller.proofs.{Below.Laws.LayoutHolders.seat_operands, Below.Words.Seats.others_own}
-use Rattle.mk_alloc.proofs.{Looks.acting_now, MayAct.new_step_admitted, Reaching.own_adds, Takes.unplaced_settled}
 use Rattle.mk_caller.specs.Below.Words.Steps.{Finds, IsAdmittedTo}
 use Rattle.mk_core.specs.History.{IsAdmittedBehind}
 use Rattle.mk_cycle.proofs.{Allowed.in_turn_before, BeginSteps.none_held_kept, KeptInParts.gates_then}
@@ -167,10 +167,10 @@ module _ {p p1 p2 : PassState} {n v : ℕ} (quiet : IsQuiet p) (u : IsUnplaced p
         record
         { turn = in_turn_before look; stays = λ x h. grind arith; does = does; history = full.makes.pass.history }
 
-    pub full_begins_none : BeginsNone p q
+    pub full_begins_none : SeesNone is_begin p q
     full_begins_none = begins_none_by part (λ x h. grind arith)
 
-    pub full_closes_none : ClosesNone p q
+    pub full_closes_none : SeesNone is_close p q
     full_closes_none = closes_none_by part (λ x h. grind arith)
 
     pub answers_full : AnswersFull p q

@@ -7,7 +7,7 @@ use Rattle.mk_caller.proofs.Below.Laws.Vocabulary.{heads_run, is_held, map, not,
 use Rattle.mk_caller.proofs.Below.Laws.Vocabulary.{◌+◌, ◌↔◌, ◌∙◌, ◌∷◌, ◌≡◌}
 use Rattle.mk_alloc.proofs.ObjectVocabulary.{Changes, ComesTo, FreesCell, HasFreed, IsOverQuarter, IsTrue, IsTurn}
 use Rattle.mk_alloc.proofs.ObjectVocabulary.{OnlyLooks, PassState, SetsGates, SetsTally, StaysSo, Unmaps, Wipes}
-use Rattle.mk_alloc.proofs.ObjectVocabulary.{WordsState, all_below_from, does_then, entry_for, is_clearing}
+use Rattle.mk_alloc.proofs.ObjectVocabulary.{WordsState, all_below_from, does_then, entry_for}
 use Rattle.mk_alloc.proofs.ObjectVocabulary.{is_following, is_freeing, is_freeing_small, is_look, is_tallying}
 use Rattle.mk_alloc.proofs.ObjectVocabulary.{none_is_held, now_of, steady_of, sum_by-cons, world_of}
 use Rattle.mk_alloc.proofs.JoinedLooks.{AreAmong, reached_world, reaches_after, reaches_answered, reaches_so}
@@ -44,10 +44,10 @@ changes_stay : {s : Seat} {w v : World} {change : Steady → Steady} → Changes
     ≡ (steady_of w).fresh_words → (change (steady_of w)).allocations ≡ (steady_of w).allocations → StaysSo s w v
 changes_stay at same fresh allocations = grind (arith, stays_by)
 
-pub wipes_stay : {p q : PassState} {run : RunPages} → Wipes p run q → Stays is_clearing p q
+pub wipes_stay : {p q : PassState} {run : RunPages} → Wipes p run q → Stays is_following p q
 wipes_stay a = reaches_so a (λ at. changes_stay at.changes refl refl refl)
 
-pub unmaps_stay : {p q : PassState} {run : RunPages} → Unmaps p run q → Stays is_clearing p q
+pub unmaps_stay : {p q : PassState} {run : RunPages} → Unmaps p run q → Stays is_following p q
 unmaps_stay a = reaches_so a (λ at. changes_stay at.changes refl refl refl)
 
 pub fresh_stays : {p q : PassState} {n : ℕ} → SetsTally p Tally.Fresh n q → Stays is_tallying p q

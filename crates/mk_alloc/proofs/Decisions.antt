@@ -1,7 +1,7 @@
 -- One entry more among a caller's calls is that of one event, which decides it. What the other events decide is of
 -- other callers, and leaves the caller its registers.
 use Rattle.mk_caller.proofs.Below.Laws.Vocabulary.{admitted_in_parts, admitted_keep, answered, answers_of, bases_of}
-use Rattle.mk_caller.proofs.Below.Laws.Vocabulary.{flagged, never_in_parts, replies_of}
+use Rattle.mk_caller.{proofs.Below.Laws.Vocabulary.{flagged, never_in_parts, replies_of}, specs.Called.{IsDecidedIn}}
 use Rattle.mk_caller.proofs.Below.Laws.ImagesHistories.{one_event}
 use Rattle.mk_alloc.proofs.Vocabulary.{Answer, Bool, Config, Decided, Event, IsHistory, KeepsRegisters, List, Op}
 use Rattle.mk_alloc.proofs.Vocabulary.{PassState, Some, World, ℕ, after_calls, ap, append-nil, append_assoc, arith}
@@ -11,7 +11,6 @@ use Rattle.mk_alloc.proofs.Vocabulary.{left, left_in_parts, never_behind, own_ca
 use Rattle.mk_alloc.proofs.Vocabulary.{told_to_images, true, true≢false, world_behind, [], ◌++◌, ◌==◌, ◌∙◌, ◌∷◌, ◌≡◌}
 use Rattle.mk_never.specs.{Laws.AreNotBy, NeverHeap.after_op}
 use Rattle.mk_core.specs.History.{calls_from, left_from}
-use Rattle.mk_caller.specs.Called.{IsDecidedIn}
 
 pub same_last : (xs ys zs : List Decided) → xs ++ ys ≡ xs ++ zs → ys ≡ zs
 same_last [] ys zs h = h

@@ -14,7 +14,7 @@ use Rattle.mk_never.specs.NeverHeap.{Call}
 use Rattle.mk_geom.specs.Addresses.{address_of}
 use Rattle.mk_alloc.specs.Deeds.{Deed, after_deed, back_after, back_from, begins_at_one, storage_from}
 use Rattle.mk_alloc.specs.DeedLaws.{DeedsGiveBack, DeedsLeaveTheStorage, bases_released, deeds_by, deeds_from, done_by}
-use Rattle.mk_alloc.specs.{DeedLaws.frees_at, GivenBack.{given_back_from, is_given_back}}
+use Rattle.mk_alloc.specs.{DeedLaws.frees_at, Bounds.{given_back_from, is_given_back}}
 
 -- Deeds one after the other.
 

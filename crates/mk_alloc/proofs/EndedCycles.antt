@@ -14,8 +14,7 @@ use Rattle.mk_alloc.proofs.QuarantineVocabulary.{world_behind, [], ⊎_elim, ◌
 use Rattle.mk_alloc.proofs.{EndedFrees.{CallersAreExact, caller_of}, HeldQuarters.{FreesIn, IsLate, quarter_or_late}}
 use Rattle.mk_alloc.proofs.{HeldQuarters.since_begin, HeldTurns.{begin_gives_none, beginner_holds, begun_in_turn}}
 use Rattle.mk_alloc.proofs.{HeldTurns.{first_giver, next_of, turn_stays_taken}, CountedWords.IsQuarter}
-use Rattle.mk_alloc.proofs.OpenFrees.{freer_has_free}
-use Rattle.mk_alloc.proofs.{Vocabulary.RunsOneCycle, ListParts.lacks_second}
+use Rattle.mk_alloc.proofs.{OpenFrees.freer_has_free, Vocabulary.RunsOneCycle, ListParts.lacks_second}
 use Rattle.mk_core.specs.Growing.{AreOfOthers}
 
 -- After an `end` no `release` comes before the next `begin`.

@@ -3,7 +3,7 @@ use Rattle.mk_caller.proofs.Below.Laws.Vocabulary.{Tally, take}
 use Rattle.mk_alloc.proofs.QuarantineVocabulary.{Event, FreshIsQuarterOfHeld, IsKeptByLastCycle, List, None, Op, Some}
 use Rattle.mk_alloc.proofs.QuarantineVocabulary.{Step, arith, false, fresh_after, given_back, held_after, is_begin}
 use Rattle.mk_alloc.proofs.QuarantineVocabulary.{is_close, is_end, is_release, left, refl, [], ◌++◌, ◌∷◌, ◌≡◌, ◌≤◌}
-use Rattle.mk_alloc.specs.GivenBack.{given_back_from}
+use Rattle.mk_alloc.specs.Bounds.{given_back_from}
 use Rattle.mk_core.proofs.{EventsAt.{at_number, event_number}, Schedules.{by, c0, fault, first_fault, host, one_page}}
 use Rattle.mk_core.{proofs.MoreSchedules.{full_then_reused, two_pages}, specs.StopConditions.{may_turn_black}}
 use Rattle.mk_core.specs.{Allocations.unreleased_storage, Bounded.all_below, Cells.pointed_cell, History.left_from}

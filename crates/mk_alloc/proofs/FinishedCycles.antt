@@ -1,19 +1,18 @@
 -- Cycles that are finished at once, in parts of a turn.
-use Rattle.mk_alloc.proofs.Vocabulary.{At, BeginsCycle, BeginsNone, Bool, Config, Event, Has, List, PassState, Seat, ap}
+use Rattle.mk_alloc.proofs.Vocabulary.{At, BeginsCycle, SeesNone, Bool, Config, Event, Has, List, PassState, Seat, ap}
 use Rattle.mk_alloc.proofs.Vocabulary.{append-nil, append_assoc, false, is_begin, only_seen, refl, subst, sym, true, []}
-use Rattle.mk_alloc.proofs.Vocabulary.{⊎_elim, ◌++◌, ◌∙◌, ◌∷◌, ◌≡◌}
-use Rattle.mk_alloc.{proofs.ListParts.none_at, specs.Closes.{AreFinishedAtOnce, EachIsFinished, IsFinishedAtOnce}}
+use Rattle.mk_alloc.proofs.{Vocabulary.{⊎_elim, ◌++◌, ◌∙◌, ◌∷◌, ◌≡◌}, ListParts.none_at}
+use Rattle.mk_alloc.specs.Closes.{AreFinishedAtOnce, EachIsFinished, IsFinishedAtOnce}
 use Rattle.mk_core.specs.{Cycles.through, Frames.Steady}
 use Rattle.mk_cycle.proofs.Begun.{begin_begun, begins_none, begun_then, does_begin_none, has_on}
-use Rattle.mk_cycle.proofs.InParts.{InFirst, InSecond, in_parts}
+use Rattle.mk_cycle.{proofs.InParts.{InFirst, InSecond, in_parts}, specs.{Closing.IsClosedBy, Kinds.clears}}
 use Rattle.mk_cycle.specs.{BeginCycle.MakesBegin, Begun.{EachIsBegunUpTo, EachIsBegunYet, IsBegunUpTo}}
-use Rattle.mk_cycle.specs.{Closing.IsClosedBy, Kinds.clears}
 
 -- No cycle begins so.
 abbrev pub Never : Config → Seat → List Event → List Event → Type 0
 Never c s es more = ⊥
 
-pub never_by_none : {p q : PassState} → BeginsNone p q → EachIsBegunUpTo false Never p q
+pub never_by_none : {p q : PassState} → SeesNone is_begin p q → EachIsBegunUpTo false Never p q
 never_by_none none = record {
   more = none.more;
   is = none.is;

@@ -19,7 +19,7 @@ use Rattle.mk_alloc.proofs.{Looks.caller_has_call, MayAct.{free_is_acting, may_f
 use Rattle.mk_alloc.proofs.{Unchanged.{HasCall, OfCaller, call_behind}, FreedOnce.frees_now}
 use Rattle.mk_alloc.proofs.{LoadedFrees.{loaded_undecided, value_kept}, Reaching.{made_in, reaches_at_once}}
 use Rattle.mk_alloc.proofs.{Serves.out_of_stop, Takes.one_bit_more}
-use Rattle.mk_alloc.specs.{Deciding.MayFreeOn, Retiring.{HasSeen, answer_seen, seen_free}}
+use Rattle.mk_alloc.specs.{Deciding.MayFreeOn, Retiring.{HasSeen, seen_free}}
 
 -- The look at the quarantine word of a Free's target: where its freed bit is set, the Free is a double one.
 
@@ -47,6 +47,10 @@ seen_now c {s} cell {w} {v} kept at =
 abbrev progress_seen : Flight → Bool → Progress
 progress_seen f b = if b then record { flight = record f { stage = Stage.Give }; answer = Some Answer.Double }
     else record { flight = f; answer = None }
+
+-- the answer of a Free, if its object was freed already
+abbrev answer_seen : Bool → Option Answer
+answer_seen double = if double then Some Answer.Double else None
 
 seen_flight : (f : Flight) (b : Bool) → (progress_seen f b).flight ≡ seen_free f b
 seen_flight f true = refl

@@ -5,36 +5,34 @@ use Rattle.mk_caller.proofs.Below.Laws.Vocabulary.{IsHistory, IsSafe, IsSized, I
 use Rattle.mk_caller.proofs.Below.Laws.Vocabulary.{NeverState, Null, Num, Object, Op, Option, PlacedAllocation, Ptr}
 use Rattle.mk_caller.proofs.Below.Laws.Vocabulary.{Seat, ShowsPart, Some, Stage, StandsInOrder, Value, Words, World, ℕ}
 use Rattle.mk_caller.proofs.Below.Laws.Vocabulary.{address_of, and_parts, ap, arith, bases_of, caller_number}
-use Rattle.mk_caller.proofs.Below.Laws.Vocabulary.{cases_Bool, cases_lt, subst}
-use Rattle.mk_caller.proofs.Below.Laws.Vocabulary.{cell_at, cell_of_allocation, cells_begin, cells_made, cells_of}
-use Rattle.mk_caller.proofs.Below.Laws.Vocabulary.{class_known, class_made, class_words_of, cond-false, eqb-true, false}
-use Rattle.mk_caller.proofs.Below.Laws.Vocabulary.{false_from_ne_true, false≢true, first_page_shows, first_word}
-use Rattle.mk_caller.proofs.Below.Laws.Vocabulary.{flight_of, freed_where_it_stands, get_or_past, header_at, header_in}
+use Rattle.mk_caller.proofs.Below.Laws.Vocabulary.{cases_Bool, cases_lt, subst, cell_at, cell_of_allocation}
+use Rattle.mk_caller.proofs.Below.Laws.Vocabulary.{cells_begin, cells_made, cells_of, class_known, class_made}
+use Rattle.mk_caller.proofs.Below.Laws.Vocabulary.{class_words_of, cond-false, eqb-true, false, false_from_ne_true}
+use Rattle.mk_caller.proofs.Below.Laws.Vocabulary.{false≢true, first_page_shows, first_word, flight_of}
+use Rattle.mk_caller.proofs.Below.Laws.Vocabulary.{freed_where_it_stands, get_or_past, header_at, header_in}
 use Rattle.mk_caller.proofs.Below.Laws.Vocabulary.{header_made, header_of, heads_run, image_of, image_scene_of, inl}
 use Rattle.mk_caller.proofs.Below.Laws.Vocabulary.{inr, is_freed, is_large, is_phase, is_released_in, is_small_object}
-use Rattle.mk_caller.proofs.Below.Laws.Vocabulary.{is_undecided_free, kinds_of, large_cells}
-use Rattle.mk_caller.proofs.Below.Laws.Vocabulary.{large_count, large_is_not_small, leb-true, left, length, ltb-true}
-use Rattle.mk_caller.proofs.Below.Laws.Vocabulary.{map, never_behind, not, not-true, object_placed}
-use Rattle.mk_caller.proofs.Below.Laws.Vocabulary.{p_of, page_at_address, pages_made, placed_at, pointed_cell, refl}
-use Rattle.mk_caller.proofs.Below.Laws.Vocabulary.{register_at, run_begins, slice_set, small_cells, small_heads_none}
-use Rattle.mk_caller.proofs.Below.Laws.Vocabulary.{stands_in, stands_in_its_cell, storage_words, sym, target, true}
-use Rattle.mk_caller.proofs.Below.Laws.Vocabulary.{true≢false, typed_size, use_under}
-use Rattle.mk_caller.proofs.Below.Laws.Vocabulary.{words_under, words_within, ◌*◌, ◌+◌, ◌/◌, ◌<◌, ◌==◌, ◌∙◌, ◌≡◌, ◌≢◌}
-use Rattle.mk_caller.proofs.{Below.Laws.Vocabulary.◌≤◌, Below.Laws.ImagesBefore.{Stands, ready_of, stands_of}}
+use Rattle.mk_caller.proofs.Below.Laws.Vocabulary.{is_undecided_free, kinds_of, large_cells, large_count}
+use Rattle.mk_caller.proofs.Below.Laws.Vocabulary.{large_is_not_small, leb-true, left, length, ltb-true, map}
+use Rattle.mk_caller.proofs.Below.Laws.Vocabulary.{never_behind, not, not-true, object_placed, p_of, page_at_address}
+use Rattle.mk_caller.proofs.Below.Laws.Vocabulary.{pages_made, placed_at, pointed_cell, refl, register_at, run_begins}
+use Rattle.mk_caller.proofs.Below.Laws.Vocabulary.{slice_set, small_cells, small_heads_none, stands_in}
+use Rattle.mk_caller.proofs.Below.Laws.Vocabulary.{stands_in_its_cell, storage_words, sym, target, true, true≢false}
+use Rattle.mk_caller.proofs.Below.Laws.Vocabulary.{typed_size, use_under, words_under, words_within, ◌*◌, ◌+◌, ◌/◌, ◌<◌}
+use Rattle.mk_caller.proofs.Below.Laws.Vocabulary.{◌==◌, ◌∙◌, ◌≡◌, ◌≢◌, ◌≤◌}
+use Rattle.mk_caller.proofs.Below.Laws.ImagesBefore.{Stands, ready_of, stands_of}
 use Rattle.mk_caller.proofs.Below.Laws.InvariantHistories.{allocations_stand, told_to_images}
 use Rattle.mk_caller.proofs.{Below.Laws.KnownWorlds.{KnownWorld, known_world}, Below.Laws.GrantMoves.pointer_cell}
 use Rattle.mk_caller.proofs.{Below.Laws.ImagesKept.base_at, Below.Laws.Ready.Ready, Below.Laws.RegMoves.flight}
-use Rattle.mk_caller.proofs.Below.Laws.Settled.{unreleased_are_apart}
-use Rattle.mk_caller.proofs.Below.Laws.ImagePremises.{IsLaidOut}
+use Rattle.mk_caller.proofs.{Below.Laws.Settled.unreleased_are_apart, Below.Laws.ImagePremises.IsLaidOut}
 use Rattle.mk_caller.specs.Below.Laws.SettledPages.{StandsUsed}
 use Rattle.mk_alloc.proofs.ObjectVocabulary.{IsBase, IsFreeAt, IsOutOfStop, IsTurn, PassState, call_of, freed_and_fresh}
 use Rattle.mk_alloc.proofs.ObjectVocabulary.{held_by_allocations, histories_keep_the_invariant, loaded_free, now_of}
 use Rattle.mk_alloc.proofs.{ObjectVocabulary.{value_of, world_of}, HeldFreed.{freed_one, held_part, held_set}}
 use Rattle.mk_alloc.proofs.{HeldFreed.{large_part, live_part, small_part}, LoadedFrees.loaded_undecided}
-use Rattle.mk_alloc.proofs.{Looks.acting_caller, MayAct.{free_is_acting, off_four}}
-use Rattle.mk_alloc.proofs.RunHeaders.{made_use}
+use Rattle.mk_alloc.proofs.{Looks.acting_caller, MayAct.{free_is_acting, off_four}, RunHeaders.made_use}
 use Rattle.mk_books.specs.{Members.page_at, Runs.StandsOn}
-use Rattle.mk_geom.{proofs.ClassTable.class_words_within, specs.PageUses.PartOfRun}
+use Rattle.mk_geom.{proofs.ClassTable.{class_words_within}, specs.PageUses.{PartOfRun}}
 use Rattle.mk_core.proofs.{ObjectHeaders.part_heads_run, StandingAllocations.placed_cell}
 
 -- What the register of an undecided Free points into: the cell of an unreleased allocation.

@@ -14,7 +14,7 @@ use Rattle.mk_caller.proofs.{Below.Laws.Views.view_of, Below.Words.Doing.none_ow
 use Rattle.mk_caller.proofs.{Below.Words.Seats.{only_one, same_seat, same_self}, Below.Words.TurnSteps.still_turn}
 use Rattle.mk_alloc.proofs.ObjectVocabulary.{Does, FreesOnce, IsAsLeft, IsOverQuarter, IsTurn, PassState, WordsState}
 use Rattle.mk_alloc.proofs.{ObjectVocabulary.{event_of, now_of, turn_stays, world_of}, Reaching.MadeIn}
-use Rattle.mk_alloc.specs.{Dues.{FreesOnly, event_frees}, Retired.IsDueSince}
+use Rattle.mk_alloc.specs.{Deciding.{FreesOnly, event_frees}, Retired.IsDueSince}
 use Rattle.mk_caller.specs.{Below.Words.Doing.are_of, Below.Words.Seats.Has}
 use Rattle.mk_core.specs.{Growing.{AreOfOthers, Finding, is_same_seat, own_from}, Allocations.unreleased_storage}
 use Rattle.mk_core.specs.Counts.{decides_freed}

@@ -15,10 +15,9 @@ use Rattle.mk_alloc.proofs.QuarantineVocabulary.{is_close, is_end, is_quarantine
 use Rattle.mk_alloc.proofs.QuarantineVocabulary.{left_in_parts, length, length-append, never_granted, not, or_parts}
 use Rattle.mk_alloc.proofs.QuarantineVocabulary.{phase_behind, phase_of, placed_at, refl, subst, sym, true, true≢false}
 use Rattle.mk_alloc.proofs.QuarantineVocabulary.{world_behind, [], ◌++◌, ◌<◌, ◌∙◌, ◌∷◌, ◌≡◌, ◌⊎◌}
-use Rattle.mk_alloc.proofs.HeldTurns.{Last, last_of, next_of}
+use Rattle.mk_alloc.proofs.{HeldTurns.{Last, last_of, next_of}, ListParts.lacks_second}
 use Rattle.mk_alloc.specs.{KeptAllocations.{KeptAreTouched, QuarantineIsFreshOrKept}, Bounds.FreedRunsTakeNoMemory}
 use Rattle.mk_core.{proofs.ChangedAllocations.{granted_at}, specs.{Cycles.before_begin, History.left_from}}
-use Rattle.mk_alloc.proofs.ListParts.{lacks_second}
 
 -- Where the turn is free, a freed large allocation takes no memory: no Free is unmapping a run.
 

@@ -1,10 +1,9 @@
 -- A large object is freed and counted, while all others are stopped.
-use Rattle.mk_caller.proofs.Below.Laws.Vocabulary.{Bool, Cell, Header, List, None, Option, Page, RunPages, Some}
-use Rattle.mk_caller.proofs.Below.Laws.Vocabulary.{Steady, Tally, ℕ}
-use Rattle.mk_caller.proofs.Below.Laws.Vocabulary.{ap, arith, false, freed_where_it_stands, fresh_words_of, header_in}
-use Rattle.mk_caller.proofs.Below.Laws.Vocabulary.{heads_run, if◌then◌else◌, in_a_word, is_held, map, run_headed, subst}
-use Rattle.mk_caller.proofs.Below.Laws.Vocabulary.{sym, true, true≢false, words_under, ◌*◌, ◌+◌, ◌<◌, ◌^◌, ◌↔◌, ◌∙◌}
-use Rattle.mk_caller.proofs.Below.Laws.Vocabulary.{◌≡◌}
+use Rattle.mk_caller.proofs.Below.Laws.Vocabulary.{Bool, Cell, Header, List, None, Option, Page, RunPages, Some, Steady}
+use Rattle.mk_caller.proofs.Below.Laws.Vocabulary.{Tally, ℕ, ap, arith, false, freed_where_it_stands, fresh_words_of}
+use Rattle.mk_caller.proofs.Below.Laws.Vocabulary.{header_in, heads_run, if◌then◌else◌, in_a_word, is_held, map}
+use Rattle.mk_caller.proofs.Below.Laws.Vocabulary.{run_headed, subst, sym, true, true≢false, words_under, ◌*◌, ◌+◌, ◌<◌}
+use Rattle.mk_caller.proofs.Below.Laws.Vocabulary.{◌^◌, ◌↔◌, ◌∙◌, ◌≡◌}
 use Rattle.mk_alloc.proofs.ObjectVocabulary.{Changes, FreesCell, FreesOnce, HasFreed, IsFreedAt, IsTrue, IsTurn}
 use Rattle.mk_alloc.proofs.ObjectVocabulary.{MayFree, OnlyLooks, PassState, SetsTally, StaysSo, held_by_allocations}
 use Rattle.mk_alloc.proofs.ObjectVocabulary.{is_following, now_of, with_tally, world_of}
@@ -13,7 +12,7 @@ use Rattle.mk_alloc.proofs.FreedObjects.{its_freed, its_run, large_held, object_
 use Rattle.mk_alloc.proofs.JoinedLooks.{reached_table, reached_world, reaches_wider}
 use Rattle.mk_alloc.proofs.SmallFrees.{freed_now, frees_counted, fresh_told_by, tally_between}
 use Rattle.mk_alloc.proofs.{ClearedRuns.{IsGoneIn, still_gone}, Serves.out_of_stop}
-use Rattle.mk_alloc.specs.{Deciding.ClearsRun, Unmapping.MayUnmap}
+use Rattle.mk_alloc.specs.{Deciding.ClearsRun, FreeParts.MayUnmap}
 use Rattle.mk_books.specs.Runs.{StandsOn}
 use Rattle.mk_geom.specs.PageUses.{PartOfRun}
 

@@ -6,8 +6,7 @@ use Rattle.mk_alloc.proofs.{Unchanged.{OfCaller, acting_has_call, left_joined, l
 use Rattle.mk_caller.proofs.Below.Laws.Vocabulary.{Config, Flight, Seat, Steady, Step, Word, World, ℕ, ap, arith, false}
 use Rattle.mk_caller.proofs.Below.Laws.Vocabulary.{flight_of, left, lt-ltb, phase_of, quarantine_word, refl}
 use Rattle.mk_caller.proofs.Below.Laws.Vocabulary.{slice_index, true, world_behind, ◌%◌, ◌++◌, ◌<◌, ◌∙◌, ◌≡◌}
-use Rattle.mk_caller.proofs.Below.Words.Made.{made}
-use Rattle.mk_caller.specs.Below.Words.Steps.{Finds, may_decide, moment_of}
+use Rattle.mk_caller.{proofs.Below.Words.Made.{made}, specs.Below.Words.Steps.{Finds, may_decide, moment_of}}
 use Rattle.mk_core.specs.Words.{named_word}
 
 -- Who holds the turn exists, and is a caller where it is acting.

@@ -1,4 +1,5 @@
 -- The words that the proofs of this crate share: they import them from here.
+use Rattle.mk_caller.proofs.Below.Laws.Vocabulary.{Bool, Seat, Step, false, is_number_of, nat_lt, not, true, ℕ, ◌&&◌}
 pub use Rattle.std.proofs.{Common.{IsTrue, min, option_and_then, option_map}, lemmas.List.Sums.sum_by-cons}
 pub use Rattle.mk_never.specs.Admitted.{IsBase}
 pub use Rattle.mk_core.proofs.Histories.{calls_more}
@@ -8,16 +9,25 @@ pub use Rattle.mk_caller.proofs.Below.Laws.InvariantHistories.{histories_keep_th
 pub use Rattle.mk_caller.proofs.{Below.Laws.Known.{Known, known_left}, Below.Laws.OthersCounts.answers_full}
 pub use Rattle.mk_caller.proofs.{Below.Laws.Tests.all_below_from, Below.Words.Doing.does_then}
 pub use Rattle.mk_caller.proofs.Below.Words.Undecided.{decides_nothing}
-pub use Rattle.mk_caller.specs.{Below.Words.Doing.Does, Below.Words.Steps.IsEnabledTo}
+pub use Rattle.mk_caller.specs.{Called.own_calls, Below.Words.Doing.Does, Below.Words.Steps.IsEnabledTo}
 pub use Rattle.mk_caller.specs.{Below.Words.TurnSteps.{Acts, turn_stays}, Below.Words.States.{IsTurn, PassState}}
 pub use Rattle.mk_caller.specs.Below.Words.States.{TurnState, WordsState, call_of, event_of, now_of, world_of}
-pub use Rattle.mk_alloc.specs.{Deciding.{FreesCell, MayFree, StaysSo, is_following}, Dues.{FreesOnce, IsOverQuarter}}
-pub use Rattle.mk_alloc.specs.{Entries.own_calls, FreeParts.{Changes, HasGates, RunIsUnmapped, RunIsWiped, SetsGate}}
-pub use Rattle.mk_alloc.specs.FreeParts.{SetsGates, SetsTally, Unmaps, Wipes, all_others, held_from}
-pub use Rattle.mk_alloc.specs.FreeParts.{is_clearing, is_holding, is_settling, is_tallying, with_tally}
-pub use Rattle.mk_alloc.specs.{Looking.{is_acting, is_steady_word}, Placing.{ComesTo, GoesTo, HasCarved, IsGrantedAt}}
-pub use Rattle.mk_alloc.specs.Placing.{IsOutOfStop, IsUnplaced, MayTake, OnlyLooks, entry_for, is_look, is_placing}
-pub use Rattle.mk_alloc.specs.{Placing.{object_at_place, object_for}, Retired.freed_and_fresh}
-pub use Rattle.mk_alloc.specs.Retiring.{CallIsAt, HasFreed, IsFreeAt, IsFreedAt, is_freeing, is_loading, loaded_free}
-pub use Rattle.mk_alloc.specs.{Retiring.{is_freeing_small, value_of}, Serving.{Carving, IsCellReady, Serving}}
-pub use Rattle.mk_alloc.specs.{Unchanged.IsAsLeft, Unmapping.WipesTo}
+pub use Rattle.mk_alloc.specs.Deciding.{FreesCell, FreesOnce, IsOverQuarter, MayFree, StaysSo}
+pub use Rattle.mk_alloc.specs.FreeParts.{is_following, Changes, HasGates, RunIsUnmapped, RunIsWiped, SetsGate}
+pub use Rattle.mk_alloc.specs.FreeParts.{SetsGates, SetsTally, Unmaps, Wipes, all_others, is_settling, is_tallying}
+pub use Rattle.mk_alloc.specs.{FreeParts.{with_tally, WipesTo}, Looking.{is_acting, is_steady_word, IsAsLeft}}
+pub use Rattle.mk_alloc.specs.Placing.{ComesTo, GoesTo, HasCarved, IsGrantedAt, IsOutOfStop, IsUnplaced, MayTake}
+pub use Rattle.mk_alloc.specs.Placing.{OnlyLooks, entry_for, is_look, is_placing, object_at_place, object_for, Carving}
+pub use Rattle.mk_alloc.specs.{Placing.{IsCellReady, Serving}, Retired.freed_and_fresh, Retiring.{CallIsAt, HasFreed}}
+pub use Rattle.mk_alloc.specs.Retiring.{IsFreeAt, IsFreedAt, is_freeing, is_loading, loaded_free, is_freeing_small}
+pub use Rattle.mk_caller.specs.States.{value_of}
+
+-- steps that hold gates
+abbrev pub is_holding : Step → Bool
+is_holding (Step.Look x) = true
+is_holding (Step.Hold j) = true
+is_holding _ = false
+
+-- those of other callers, as far as they are opened
+abbrev pub held_from : Seat → ℕ → ℕ → Bool
+held_from s caller j = not (nat_lt j caller) && not (is_number_of s j)

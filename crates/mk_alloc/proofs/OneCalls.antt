@@ -1,12 +1,11 @@
 -- The one call of a pass's caller among some events: what comes before the event that decides it, and after it, is of
 -- others.
 use Rattle.std.proofs.Common.{length-append}
-use Rattle.mk_caller.proofs.Below.Laws.Vocabulary.{calls_from, flagged, length}
+use Rattle.mk_caller.{proofs.Below.Laws.Vocabulary.{calls_from, flagged, length}, specs.Called.{IsDecidedIn}}
 use Rattle.mk_alloc.proofs.Vocabulary.{Answer, Bool, Config, Decided, Event, IsHistory, List, Op, PassState, ℕ, ap}
 use Rattle.mk_alloc.proofs.Vocabulary.{append_assoc, arith, by_append, call_decided, caller_of_pass, calls, calls_by}
 use Rattle.mk_alloc.proofs.Vocabulary.{calls_in_parts, calls_more, earlier_part_is_history, eq-eqb, if◌then◌else◌, left}
 use Rattle.mk_alloc.proofs.Vocabulary.{own_calls, refl, subst, sym, [], ◌++◌, ◌∙◌, ◌∷◌, ◌≡◌}
-use Rattle.mk_caller.specs.Called.{IsDecidedIn}
 
 -- nothing is beside one element more
 only_one : (a z y : List Decided) (e : Decided) → ((a ++ z) ++ e ∷ []) ++ y ≡ a ++ e ∷ [] → (z ≡ []) × (y ≡ [])

@@ -1,5 +1,5 @@
 -- One cycle at most: in lists, and in parts of a turn.
-use Rattle.mk_alloc.proofs.Vocabulary.{At, BeginsCycle, BeginsNone, Does, Event, FinishesCycle, IsHistory, IsPlaced}
+use Rattle.mk_alloc.proofs.Vocabulary.{At, BeginsCycle, Does, Event, FinishesCycle, IsHistory, IsPlaced}
 use Rattle.mk_alloc.proofs.Vocabulary.{IsTurn, List, PassState, RunsOne, RunsOneCycle, ap, append_assoc, arith, false}
 use Rattle.mk_alloc.proofs.Vocabulary.{has_step, is_begin, is_end, is_look, subst, sym, ⊎_elim, ◌++◌, ◌∙◌, ◌∷◌, ◌≡◌}
 use Rattle.mk_alloc.proofs.{CycleParts.{begin_in, begins_held, finish_in}, ListParts.{InFirst, InSecond, Lacks}}
@@ -7,7 +7,7 @@ use Rattle.mk_alloc.proofs.{ListParts.{lacks_append, lacks_at, none_at, only_at,
 use Rattle.mk_alloc.proofs.{Parts.{part_lacks, seen_by, seen_then}, DueParts.{at_behind, end_at}, Going.look_part}
 use Rattle.mk_alloc.proofs.{GrantParts.first_behind, PlacedTurns.{place_part, served_by}, Stretches.SomeKinds}
 use Rattle.mk_caller.proofs.Below.Laws.Longer.{longer_at}
-use Rattle.mk_alloc.{proofs.{SaidCloses.closes_held, Vocabulary.is_close}, specs.Rooms.{ClosesNone, EndsOnly}}
+use Rattle.mk_alloc.{proofs.{SaidCloses.closes_held, Vocabulary.is_close}, specs.Rooms.{SeesNone, EndsOnly}}
 
 -- lists
 
@@ -45,47 +45,51 @@ one_run xs e {ys = ys} none_before none_behind ended b =
 
 -- parts of a turn
 
-pub begins_none_by : {kinds : SomeKinds} {p q : PassState} → Part kinds p q → AreApart kinds is_begin → BeginsNone p q
+pub begins_none_by : {kinds : SomeKinds} {p q : PassState} → Part kinds p q → AreApart kinds is_begin
+    → SeesNone is_begin p q
 begins_none_by {kinds} {p} {q} x apart = record {
   more = x.does.more;
   is = seen_by x.does;
   none = part_lacks is_begin x begins_held apart;
 }
 
-pub placed_begins_none : {p q : PassState} → IsTurn p → IsPlaced p q → IsHistory q.table.config q.seen → BeginsNone p q
+pub placed_begins_none : {p q : PassState} → IsTurn p → IsPlaced p q → IsHistory q.table.config q.seen
+    → SeesNone is_begin p q
 placed_begins_none t placed history = begins_none_by (place_part t (served_by placed) history) (λ x h. grind arith)
 
 pub looks_begins_none : {p q : PassState} → IsTurn p → Does is_look p q → IsHistory q.table.config q.seen
-    → BeginsNone p q
+    → SeesNone is_begin p q
 looks_begins_none t d history = begins_none_by (look_part t d history) (λ x h. grind arith)
 
 -- or have no close of one
 
-pub closes_none_by : {kinds : SomeKinds} {p q : PassState} → Part kinds p q → AreApart kinds is_close → ClosesNone p q
+pub closes_none_by : {kinds : SomeKinds} {p q : PassState} → Part kinds p q → AreApart kinds is_close
+    → SeesNone is_close p q
 closes_none_by x apart =
     record { more = x.does.more; is = seen_by x.does; none = part_lacks is_close x closes_held apart }
 
-pub placed_closes_none : {p q : PassState} → IsTurn p → IsPlaced p q → IsHistory q.table.config q.seen → ClosesNone p q
+pub placed_closes_none : {p q : PassState} → IsTurn p → IsPlaced p q → IsHistory q.table.config q.seen
+    → SeesNone is_close p q
 placed_closes_none t placed history = closes_none_by (place_part t (served_by placed) history) (λ x h. grind arith)
 
 pub looks_close_none : {p q : PassState} → IsTurn p → Does is_look p q → IsHistory q.table.config q.seen
-    → ClosesNone p q
+    → SeesNone is_close p q
 looks_close_none t d history = closes_none_by (look_part t d history) (λ x h. grind arith)
 
 -- one after the other
 
-pub none_then_none : {p q r : PassState} → BeginsNone p q → BeginsNone q r → BeginsNone p r
+pub none_then_none : {p q r : PassState} → SeesNone is_begin p q → SeesNone is_begin q r → SeesNone is_begin p r
 none_then_none {p} {q} {r} x y = record {
   more = x.more ++ y.more;
   is = seen_then p.seen q.seen r.seen x.more y.more x.is y.is;
   none = lacks_append is_begin x.more y.more x.none y.none;
 }
 
-pub ends_none : {p q : PassState} → EndsOnly p q → BeginsNone p q
+pub ends_none : {p q : PassState} → EndsOnly p q → SeesNone is_begin p q
 ends_none x = record { more = x.more; is = x.is; none = x.none }
 
 pub finish_then_none : {p q r : PassState} → IsTurn p → FinishesCycle p q → IsHistory q.table.config q.seen
-    → BeginsNone q r → EndsOnly p r
+    → SeesNone is_begin q r → EndsOnly p r
 finish_then_none {p} {q} {r} t law history y =
     let f = finish_in p q t.own law t history in
     record {
@@ -107,17 +111,17 @@ begin_then_ends {p} {q} {r} t law history y =
           (lacks_append is_begin b.behind y.more b.none_behind y.none) (at_behind b.behind y.ended);
     }
 
-pub none_runs_one : {p q : PassState} → BeginsNone p q → RunsOne p q
+pub none_runs_one : {p q : PassState} → SeesNone is_begin p q → RunsOne p q
 none_runs_one x = record { more = x.more; is = x.is; one = (λ b. absurd (none_at is_begin x.more x.none b)) }
 
-pub none_then_one : {p q r : PassState} → BeginsNone p q → RunsOne q r → RunsOne p r
+pub none_then_one : {p q r : PassState} → SeesNone is_begin p q → RunsOne q r → RunsOne p r
 none_then_one {p} {q} {r} x y = record {
   more = x.more ++ y.more;
   is = seen_then p.seen q.seen r.seen x.more y.more x.is y.is;
   one = one_behind x.more y.more x.none y.one;
 }
 
-pub one_then_none : {p q r : PassState} → RunsOne p q → BeginsNone q r → RunsOne p r
+pub one_then_none : {p q r : PassState} → RunsOne p q → SeesNone is_begin q r → RunsOne p r
 one_then_none {p} {q} {r} x y = record {
   more = x.more ++ y.more;
   is = seen_then p.seen q.seen r.seen x.more y.more x.is y.is;

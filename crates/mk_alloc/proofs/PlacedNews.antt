@@ -1,28 +1,23 @@
 -- What is asked of a New, and where it goes, by what its turn says.
 use Rattle.mk_caller.proofs.Below.Laws.Vocabulary.{List, Op, Option, Page, Place, Some, Steady, Step, ℕ, and_parts}
-use Rattle.mk_caller.proofs.Below.Laws.Vocabulary.{false}
-use Rattle.mk_caller.proofs.Below.Laws.Vocabulary.{header_made, header_of, is_small_object, pages_made, subst}
-use Rattle.mk_caller.proofs.Below.Laws.Vocabulary.{use_under, ◌+◌, ◌≤◌}
-use Rattle.mk_caller.proofs.Below.Laws.Vocabulary.{and_right, ap, arith, eqb-true, false, free_page, header_at, length}
-use Rattle.mk_caller.proofs.Below.Laws.Vocabulary.{not, object_made, phase_of, place_on_pages, refl, slice_index_or}
-use Rattle.mk_caller.proofs.Below.Laws.Vocabulary.{true, uses_of_pages, ◌<◌, ◌==◌, ◌∙◌, ◌≡◌}
+use Rattle.mk_caller.proofs.Below.Laws.Vocabulary.{false, header_made, header_of, is_small_object, pages_made, subst}
+use Rattle.mk_caller.proofs.Below.Laws.Vocabulary.{use_under, ◌≤◌, and_right, ap, arith, eqb-true, free_page, header_at}
+use Rattle.mk_caller.proofs.Below.Laws.Vocabulary.{length, not, object_made, phase_of, place_on_pages, refl}
+use Rattle.mk_caller.proofs.Below.Laws.Vocabulary.{slice_index_or, true, uses_of_pages, ◌<◌, ◌==◌, ◌∙◌, ◌≡◌}
 use Rattle.mk_caller.proofs.Below.Laws.InvariantHistories.{first_fit_finds_the_place}
 use Rattle.mk_caller.proofs.Below.Laws.LayoutHolders.{seat_operands}
 use Rattle.mk_caller.proofs.Below.Words.Sweeping.{does_sweep, other_step_sweeps, step_sweeps, step_then_sweeps}
-use Rattle.mk_caller.proofs.Below.Words.Sweeping.{sweeps_then}
+use Rattle.mk_caller.proofs.{Below.Words.Sweeping.sweeps_then, Below.Words.StoredHeads.heads_leave}
 use Rattle.mk_alloc.proofs.ObjectVocabulary.{Acts, GoesTo, HasCarved, IsTurn, IsUnplaced, MayTake, OnlyLooks, PassState}
 use Rattle.mk_alloc.proofs.ObjectVocabulary.{WordsState, bits_made, call_of, is_look, known_left, now_of, object_for}
-use Rattle.mk_alloc.proofs.JoinedLooks.{reached_world, goes_to, looks_call, looks_left, looks_table, looks_unplaced}
+use Rattle.mk_alloc.proofs.JoinedLooks.{goes_to, looks_call, looks_left, looks_table, looks_unplaced}
 use Rattle.mk_alloc.proofs.{Serving.{place_same, serving_left, serving_marks}, Looks.{acting_caller, acting_now}}
 use Rattle.mk_alloc.proofs.{MayAct.new_is_acting, Reaching.kept_by, RunHeaders.{made_use, made_word}}
-use Rattle.mk_alloc.proofs.Serves.{KnowsPlace, head_may, heads_on, knows_place}
-use Rattle.mk_caller.proofs.Below.Words.StoredHeads.{heads_leave}
+use Rattle.mk_alloc.proofs.{Serves.{KnowsPlace, head_may, heads_on, knows_place}, Takes.unplaced_settled}
 use Rattle.mk_caller.specs.Below.Words.RunSteps.{MayStoreHeads, StoresHeads}
-use Rattle.mk_books.specs.Runs.{AreBare, HeadersSay, run_word}
-use Rattle.mk_alloc.proofs.Takes.{unplaced_settled}
-use Rattle.mk_alloc.specs.{declared.objects.Shape.Shape, Placing.{IsPlaced, IsServed, place_now_for}}
-use Rattle.mk_alloc.specs.Shapes.{object_shaped}
 use Rattle.mk_caller.specs.Below.Words.Sweeping.{SweepsNothing, is_mark}
+use Rattle.mk_books.specs.Runs.{HeadersSay, run_word}
+use Rattle.mk_alloc.specs.{declared.objects.Shape.Shape, Placing.{IsPlaced, IsServed, place_now_for, object_shaped}}
 use Rattle.mk_geom.specs.PageUses.{PartOfRun, place_on_uses}
 use Rattle.mk_core.specs.Calls.{has_type}
 

@@ -22,7 +22,7 @@ pub use Rattle.mk_caller.proofs.Below.Laws.Vocabulary.{placed_at, refl, seat_exi
 pub use Rattle.mk_caller.proofs.Below.Laws.Vocabulary.{true, true≢false, with_released, world_behind, ℕ, ◌&&◌, ◌*◌}
 pub use Rattle.mk_caller.proofs.Below.Laws.Vocabulary.{◌++◌, ◌+◌, ◌<◌, ◌||◌, ◌∙◌, ◌∷◌, ◌≡◌, ◌≤◌, ◌⊎◌}
 pub use Rattle.mk_alloc.specs.Bounds.{FreshIsQuarterOfHeld, HostBeginsLast, fresh_after, held_after}
-pub use Rattle.mk_alloc.specs.{GivenBack.{given_back, given_back_behind}, KeptAllocations.IsKeptByLastCycle}
+pub use Rattle.mk_alloc.specs.{Bounds.{given_back, given_back_behind}, KeptAllocations.IsKeptByLastCycle}
 pub use Rattle.mk_alloc.proofs.ListParts.{InFirst, InSecond, Lacks, lacks_append, lacks_at, lacks_first, lacks_one}
 pub use Rattle.mk_alloc.{proofs.{ListParts.stands, OwnGives.{GivesNone, own_give}}, specs.TurnCycles.{CallIsExact}}
 pub use Rattle.mk_alloc.proofs.Vocabulary.{EndsExactly, TurnsOfAreExact, has_step, held_by_allocations, is_of_cycle}

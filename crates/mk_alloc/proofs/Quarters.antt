@@ -1,15 +1,14 @@
 -- What was freed since the last `begin` is a quarter, unless a free that is due waits for its `begin`.
-use Rattle.mk_alloc.proofs.Vocabulary.{FreesFirst, IsDue, IsDueIn}
-use Rattle.mk_alloc.proofs.QuarantineVocabulary.{Bool, Config, Event, InFirst, InSecond, IsHistory, KeptByEvents, Lacks}
-use Rattle.mk_alloc.proofs.QuarantineVocabulary.{List, OfHistories, PlacedAllocation, Step, World, ℕ, ap, append_assoc}
-use Rattle.mk_alloc.proofs.QuarantineVocabulary.{arith, cases_Bool, cases_lt, decides_freed, false, flight_of}
-use Rattle.mk_alloc.proofs.QuarantineVocabulary.{fresh_words_of, given_back, given_back_behind, has_step}
-use Rattle.mk_alloc.proofs.QuarantineVocabulary.{held_by_allocations, holds_of_histories, if◌then◌else◌, inl, inr}
-use Rattle.mk_alloc.proofs.QuarantineVocabulary.{is_begin, is_of_cycle, lacks_append, lacks_at, lacks_first, lacks_one}
-use Rattle.mk_alloc.proofs.QuarantineVocabulary.{left, left_in_parts, left_more, not, stands, subst, sym, taken, true}
-use Rattle.mk_alloc.proofs.QuarantineVocabulary.{true≢false, world_behind, [], ⊎_elim, ◌&&◌, ◌*◌, ◌++◌, ◌+◌, ◌∙◌, ◌∷◌}
-use Rattle.mk_alloc.proofs.{QuarantineVocabulary.{◌≡◌, ◌≤◌, ◌⊎◌}, CountedWords.{IsQuarter, filtered_in_parts}}
-use Rattle.mk_alloc.proofs.CountedWords.{given_more, none_fresh_begun, quarter_stays}
+use Rattle.mk_alloc.proofs.{Vocabulary.{FreesFirst, IsDue, IsDueIn}, QuarantineVocabulary.{Bool, Config, Event}}
+use Rattle.mk_alloc.proofs.QuarantineVocabulary.{InFirst, InSecond, IsHistory, KeptByEvents, Lacks, List, OfHistories}
+use Rattle.mk_alloc.proofs.QuarantineVocabulary.{PlacedAllocation, Step, World, ℕ, ap, append_assoc, arith, cases_Bool}
+use Rattle.mk_alloc.proofs.QuarantineVocabulary.{cases_lt, decides_freed, false, flight_of, fresh_words_of, given_back}
+use Rattle.mk_alloc.proofs.QuarantineVocabulary.{given_back_behind, has_step, held_by_allocations, holds_of_histories}
+use Rattle.mk_alloc.proofs.QuarantineVocabulary.{if◌then◌else◌, inl, inr, is_begin, is_of_cycle, lacks_append, lacks_at}
+use Rattle.mk_alloc.proofs.QuarantineVocabulary.{lacks_first, lacks_one, left, left_in_parts, left_more, not, stands}
+use Rattle.mk_alloc.proofs.QuarantineVocabulary.{subst, sym, taken, true, true≢false, world_behind, [], ⊎_elim, ◌&&◌}
+use Rattle.mk_alloc.proofs.QuarantineVocabulary.{◌*◌, ◌++◌, ◌+◌, ◌∙◌, ◌∷◌, ◌≡◌, ◌≤◌, ◌⊎◌}
+use Rattle.mk_alloc.proofs.CountedWords.{IsQuarter, filtered_in_parts, given_more, none_fresh_begun, quarter_stays}
 use Rattle.mk_alloc.proofs.EndedFrees.{CallersAreExact, EndedFree, ended_free}
 use Rattle.mk_alloc.proofs.OpenFrees.{FreesNoneFrom, frees_none_at}
 use Rattle.mk_alloc.specs.Bounds.{FreshIsQuarterWithGivenBack, QuarantineIsQuarterAndKept}

@@ -1,15 +1,16 @@
 -- What the header words of a run's pages say of them.
 use Rattle.mk_caller.proofs.Below.Laws.Vocabulary.{Bool, Header, IsSized, Object, Option, ap, arith, cond, false}
-use Rattle.mk_caller.proofs.Below.Laws.Vocabulary.{false_from_ne_true, small_pages}
-use Rattle.mk_caller.proofs.Below.Laws.Vocabulary.{header_at, header_made, header_of, is_small_object, large_count}
-use Rattle.mk_caller.proofs.Below.Laws.Vocabulary.{ne_eqb, pages_made, refl, run_header, suc, sym, true, true≢false}
-use Rattle.mk_caller.proofs.Below.Laws.Vocabulary.{unmapped_header, use_under, zero, Some, Words, ℕ, ◌*◌, ◌+◌, ◌-◌}
-use Rattle.mk_caller.proofs.Below.Laws.Vocabulary.{RunPages, word_of, ◌<◌, ◌∙◌, ◌≡◌, ◌≤◌}
-use Rattle.mk_geom.proofs.{Bridge.run_in_range, HeaderLemmas.header_of-word_of}
-use Rattle.mk_geom.specs.PageUses.{PageUse, PartOfRun}
+use Rattle.mk_caller.proofs.Below.Laws.Vocabulary.{false_from_ne_true, small_pages, header_at, header_made, header_of}
+use Rattle.mk_caller.proofs.Below.Laws.Vocabulary.{is_small_object, large_count, ne_eqb, pages_made, refl, run_header}
+use Rattle.mk_caller.proofs.Below.Laws.Vocabulary.{suc, sym, true, true≢false, unmapped_header, use_under, zero, Some}
+use Rattle.mk_caller.proofs.Below.Laws.Vocabulary.{Words, ℕ, ◌*◌, ◌+◌, ◌-◌, RunPages, word_of, ◌<◌, ◌∙◌, ◌≡◌, ◌≢◌, ◌≤◌}
+use Rattle.mk_geom.{proofs.{Bridge.run_in_range, HeaderLemmas.header_of-word_of}, specs.PageUses.{PageUse, PartOfRun}}
 use Rattle.mk_books.specs.{Members.page_at, Runs.{StandsOn, run_word}}
 use Rattle.mk_core.proofs.ObjectHeaders.{large_header}
-use Rattle.mk_alloc.specs.Unmapping.{IsStillMapped}
+
+-- The page so far after the run's head isn't unmapped.
+abbrev pub IsStillMapped : Words → RunPages → ℕ → Type 0
+IsStillMapped w run distance = header_at w (run.page + distance) ≢ unmapped_header run.count distance
 
 run_use : (pages : ℕ) (mapped leaf : Bool) (d used : ℕ)
     → use_under (Some (run_header pages mapped leaf d)) used ≡ PartOfRun mapped

@@ -1,11 +1,10 @@
 -- What engines say at each close, in parts of a turn.
 use Rattle.std.proofs.lemmas.List.Folds.{list_all-append}
-use Rattle.mk_alloc.proofs.Vocabulary.{At, BeginsCycle, Bool, Config, Does, Event, FinishesCycle, Has, IsHistory}
-use Rattle.mk_alloc.proofs.Vocabulary.{IsPlaced, IsTurn, List, Makes, PassState, Seat, Step, World, and_parts, ap}
+use Rattle.mk_alloc.proofs.Vocabulary.{At, BeginsCycle, Bool, Config, Does, Event, FinishesCycle, IsHistory}
+use Rattle.mk_alloc.proofs.Vocabulary.{IsTurn, List, PassState, Seat, Step, World, and_parts, ap}
 use Rattle.mk_alloc.proofs.Vocabulary.{append-nil, append_assoc, append_cancel_left, are_of, arith, event_of, false}
-use Rattle.mk_alloc.proofs.Vocabulary.{is_close, is_look, is_same_seat, left, not, not-true, refl, same_self, subst}
-use Rattle.mk_alloc.proofs.Vocabulary.{sym}
-use Rattle.mk_alloc.proofs.Vocabulary.{true, true≢false, world_of, [], ⊎_elim, ◌++◌, ◌∙◌, ◌∷◌, ◌≡◌}
+use Rattle.mk_alloc.proofs.Vocabulary.{is_close, is_same_seat, left, not, not-true, refl, same_self, subst}
+use Rattle.mk_alloc.proofs.Vocabulary.{sym, true, true≢false, [], ⊎_elim, ◌++◌, ◌∙◌, ◌∷◌, ◌≡◌}
 use Rattle.mk_alloc.proofs.CycleParts.{ends_marking, gives_back, gives_room, part_closing}
 use Rattle.mk_alloc.proofs.ListParts.{InFirst, InSecond, IsAt, Lacks, none_at, only_at, stands}
 use Rattle.mk_alloc.proofs.Parts.{AreApart, IsHolders, Part, StepBehind, part_lacks, seen_by, seen_then, step_behind}
@@ -13,7 +12,7 @@ use Rattle.mk_alloc.proofs.Stretches.{AreOfTurn, SomeKinds, does_both, does_once
 use Rattle.mk_caller.proofs.Below.Words.Doing.{own_in_parts}
 use Rattle.mk_core.specs.Growing.{own_from}
 use Rattle.mk_cycle.specs.{FinishCycle.MakesFinish, Releasing.MakesRelease, Telling.IsToldAtClose}
-use Rattle.mk_alloc.specs.{Closes.{AreSaidAtCloses, EachIsSaid, IsSaid}, Rooms.ClosesNone}
+use Rattle.mk_alloc.specs.{Closes.{AreSaidAtCloses, EachIsSaid, IsSaid}, Rooms.SeesNone}
 
 -- A `close` is the holder's.
 pub closes_held : IsHolders is_close
@@ -96,7 +95,7 @@ module _ {V : Type 0} (tells : V → Config → World → Type 0) where
         d.of_kinds k own);
   }
 
-  pub unclosed_says_none : {p q : PassState} → ClosesNone p q → EachIsSaid tells p q
+  pub unclosed_says_none : {p q : PassState} → SeesNone is_close p q → EachIsSaid tells p q
   unclosed_says_none none = record {
     more = none.more;
     is = none.is;

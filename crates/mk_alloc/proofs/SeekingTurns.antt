@@ -1,23 +1,22 @@
 -- A New seeks room: the parts of its turn one after the other.
 use Rattle.mk_caller.proofs.Below.Laws.Vocabulary.{eqb-false, inr, is_undecided_new}
-use Rattle.mk_alloc.proofs.JoinedLooks.{looks_object, looks_unplaced}
-use Rattle.mk_alloc.specs.declared.objects.Request.{Request}
-use Rattle.mk_caller.specs.Below.Words.States.{WordsState}
-use Rattle.mk_alloc.proofs.Vocabulary.{Answer, AsksRoom, BeginsCycle, Bool, Config, Does, Done, FinishesCycle}
-use Rattle.mk_alloc.proofs.Vocabulary.{FitsNowhere, Flight, HasNoPlace, IsAtPhase, IsHistory, IsOutOfStop, IsPlaced}
-use Rattle.mk_alloc.proofs.Vocabulary.{IsQuiet, IsTurn, IsUnplaced, List, Looks, Misfits, None, Object, OnlyLooks}
-use Rattle.mk_alloc.proofs.Vocabulary.{Option, PassState, PlacedAllocation, Seeks, Some, Steady, TurnGoesOn, ℕ}
-use Rattle.mk_alloc.proofs.Vocabulary.{acting_caller, ap, arith, call_of, false, is_look, looks_left, new_is_acting}
-use Rattle.mk_alloc.proofs.Vocabulary.{now_of, object_for, object_made, only_seen, own_seat, phase_of, place_after}
-use Rattle.mk_alloc.proofs.Vocabulary.{place_now_for, refl, subst, world_of, ◌==◌, ◌∙◌, ◌≡◌}
-use Rattle.mk_alloc.proofs.{CalmStretches.{cycles_in_turn, is_of_cycles}, CycleParts.{begin_done, finish_done}}
-use Rattle.mk_alloc.proofs.Going.{IsCallers, begun_on, finished_on, look_part, looked_on, on_then, same_phase}
-use Rattle.mk_alloc.proofs.GrantParts.{calm_last, finish_room, grants_none, last_behind, no_place, none_behind}
-use Rattle.mk_alloc.proofs.GrantParts.{none_last, none_then, nowhere_then, part_begun, room_kept, room_lacks, room_then}
+use Rattle.mk_alloc.proofs.{JoinedLooks.{looks_object, looks_unplaced}, Vocabulary.{Answer, AsksRoom, BeginsCycle}}
+use Rattle.mk_alloc.proofs.Vocabulary.{Bool, Config, Does, Done, FinishesCycle, FitsNowhere, Flight, HasNoPlace}
+use Rattle.mk_alloc.proofs.Vocabulary.{IsAtPhase, IsHistory, IsOutOfStop, IsPlaced, IsQuiet, IsTurn, IsUnplaced, List}
+use Rattle.mk_alloc.proofs.Vocabulary.{Looks, Misfits, None, Object, OnlyLooks, Option, PassState, PlacedAllocation}
+use Rattle.mk_alloc.proofs.Vocabulary.{Seeks, Some, Steady, TurnGoesOn, ℕ, acting_caller, ap, arith, call_of, false}
+use Rattle.mk_alloc.proofs.Vocabulary.{is_look, looks_left, new_is_acting, now_of, object_for, object_made, only_seen}
+use Rattle.mk_alloc.proofs.Vocabulary.{own_seat, phase_of, place_after, place_now_for, refl, subst, world_of, ◌==◌, ◌∙◌}
+use Rattle.mk_alloc.proofs.{Vocabulary.◌≡◌, CalmStretches.{cycles_in_turn, is_of_cycles}}
+use Rattle.mk_alloc.proofs.{CycleParts.{begin_done, finish_done}, Going.{IsCallers, begun_on, finished_on, look_part}}
+use Rattle.mk_alloc.proofs.{Going.{looked_on, on_then, same_phase}, GrantParts.{calm_last, finish_room, grants_none}}
+use Rattle.mk_alloc.proofs.GrantParts.{last_behind, no_place, none_behind, none_last, none_then, nowhere_then}
+use Rattle.mk_alloc.proofs.GrantParts.{part_begun, room_kept, room_lacks, room_then}
 use Rattle.mk_alloc.proofs.PlacedTurns.{looked_beside, place_part, placed_on, served_by}
 use Rattle.mk_alloc.proofs.{FullLeaves.{cycles_leave, leaves_then}, Parts.Part, Stretches.widened}
+use Rattle.mk_alloc.specs.{declared.objects.Request.Request, Rooms.{IsPlacedOr, MisfitsIdly, NeedsRoom, SeeksRoom}}
+use Rattle.mk_caller.specs.Below.Words.States.{WordsState}
 use Rattle.mk_core.specs.Allocations.{place_among_allocations}
-use Rattle.mk_alloc.specs.Rooms.{IsPlacedOr, MisfitsIdly, NeedsRoom, SeeksRoom}
 
 -- An undecided New is a caller's.
 pub new_callers : {p : PassState} → IsUnplaced p → IsCallers p

@@ -17,8 +17,7 @@ use Rattle.mk_alloc.proofs.{Looks.{acting_caller, acting_now, acts_there}, MayAc
 use Rattle.mk_alloc.proofs.{MayAct.new_is_acting, Reaching.{IsCallers, reaches_first, reaches_nothing, reaches_still}}
 use Rattle.mk_alloc.proofs.Serving.{carving_carves, carving_left, carving_marked, carving_more, carving_unmarked}
 use Rattle.mk_alloc.proofs.{Serving.{ready_carved, serving_left, serving_marks}, FoundPlaces.found_clear}
-use Rattle.mk_alloc.proofs.{JoinedLooks.reaches_so, Unchanged.acting_has_call}
-use Rattle.mk_alloc.specs.Placing.{serves_at}
+use Rattle.mk_alloc.{proofs.{JoinedLooks.reaches_so, Unchanged.acting_has_call}, specs.Placing.{serves_at}}
 
 -- What is known of the place before the first step that serves.
 pub record KnowsPlace (p : PassState) (place : Place) : Type 0 where

@@ -2,17 +2,14 @@
 use Rattle.std.proofs.Common.{le-ltb}
 use Rattle.mk_caller.proofs.Below.Laws.Vocabulary.{Bool, Caller, Config, Flight, List, Page, Seat, Stage, Steady, Step}
 use Rattle.mk_caller.proofs.Below.Laws.Vocabulary.{Tally, Word, Words, World, ℕ, all_below-at, ap, arith, cases_Bool}
-use Rattle.mk_caller.proofs.Below.Laws.Vocabulary.{cases_eq}
-use Rattle.mk_caller.proofs.Below.Laws.Vocabulary.{cases_lt, false, flight_of, free_page, get_or-set_other}
-use Rattle.mk_caller.proofs.Below.Laws.Vocabulary.{get_or-set_same}
-use Rattle.mk_caller.proofs.Below.Laws.Vocabulary.{header_of, inl, inr, is_held, is_number_of, length, lt-ltb, nat_lt}
-use Rattle.mk_caller.proofs.Below.Laws.Vocabulary.{not, not-true}
-use Rattle.mk_caller.proofs.Below.Laws.Vocabulary.{others_are_held, refl, run_headed, slice_index, slice_index_or}
-use Rattle.mk_caller.proofs.Below.Laws.Vocabulary.{subst, sym, true}
-use Rattle.mk_caller.proofs.Below.Laws.Vocabulary.{world_behind, [], ◌&&◌, ◌+◌, ◌<◌, ◌==◌, ◌||◌, ◌∙◌, ◌≡◌, ◌≢◌}
+use Rattle.mk_caller.proofs.Below.Laws.Vocabulary.{cases_eq, cases_lt, false, flight_of, free_page, get_or-set_other}
+use Rattle.mk_caller.proofs.Below.Laws.Vocabulary.{get_or-set_same, header_of, inl, inr, is_held, is_number_of, length}
+use Rattle.mk_caller.proofs.Below.Laws.Vocabulary.{lt-ltb, nat_lt, not, not-true, others_are_held, refl, run_headed}
+use Rattle.mk_caller.proofs.Below.Laws.Vocabulary.{slice_index, slice_index_or, subst, sym, true, world_behind, []}
+use Rattle.mk_caller.proofs.Below.Laws.Vocabulary.{◌&&◌, ◌+◌, ◌<◌, ◌==◌, ◌||◌, ◌∙◌, ◌≡◌, ◌≢◌}
 use Rattle.mk_caller.specs.Below.Words.States.{TurnState}
-use Rattle.mk_cycle.{proofs.HeldGates.{others_stay}, specs.{Holding.HoldsSuch, Stops.{HolderIsLoaded, is_loaded}}}
-use Rattle.mk_cycle.specs.Stops.{is_loaded_at}
+use Rattle.mk_cycle.proofs.HeldGates.{others_stay}
+use Rattle.mk_cycle.specs.{Holding.HoldsSuch, Stops.{HolderIsLoaded, is_loaded, is_loaded_at}}
 use Rattle.mk_alloc.proofs.ObjectVocabulary.{Acts, Changes, ComesTo, HasGates, IsAsLeft, IsOutOfStop, IsTurn, PassState}
 use Rattle.mk_alloc.proofs.ObjectVocabulary.{SetsGate, SetsGates, SetsTally, WordsState, all_others, call_of}
 use Rattle.mk_alloc.proofs.ObjectVocabulary.{decides_nothing, held_from, is_acting, is_holding, is_settling}

@@ -10,8 +10,7 @@ use Rattle.mk_alloc.proofs.Vocabulary.{view_of, world_behind, [], ◌++◌, ◌�
 use Rattle.mk_core.specs.Growing.{own_from}
 use Rattle.mk_caller.proofs.{Below.Laws.Basics.{Known, Meets, same_holder}, Below.Words.Doing.{none_own, others_are_so}}
 use Rattle.mk_caller.proofs.{Below.Words.Doing.own_in_parts, Below.Words.Seats.others_none}
-use Rattle.mk_caller.proofs.Below.Words.TurnSteps.{still_turn}
-use Rattle.mk_caller.specs.Below.Words.Doing.{AreOwnOrOfOthers}
+use Rattle.mk_caller.{proofs.Below.Words.TurnSteps.{still_turn}, specs.Below.Words.Doing.{AreOwnOrOfOthers}}
 
 -- the pass, where it has seen these
 abbrev pub seeing : PassState → List Event → PassState

@@ -1,21 +1,20 @@
 -- Calls sweep nothing, and what engines keep to in turns.
-use Rattle.mk_alloc.proofs.Vocabulary.{Acts, Answer, BeginsNone, Bool, Does, EndsOlder, FinishesCycle}
-use Rattle.mk_alloc.proofs.Vocabulary.{IsOutOfStop, Op, PassKeeps, PassState, Some, Stage, Step, ap}
-use Rattle.mk_alloc.proofs.Vocabulary.{arith, false, is_begin, is_take, not, not-true, now_of, only_seen, or_parts}
-use Rattle.mk_alloc.proofs.{Vocabulary.{refl, step_at, true, world_of, ◌||◌, ◌≡◌}, Stretches.{SomeKinds, does_once}}
+use Rattle.mk_alloc.proofs.Vocabulary.{Acts, Answer, SeesNone, Bool, Does, EndsOlder, FinishesCycle, IsOutOfStop, Op}
+use Rattle.mk_alloc.proofs.Vocabulary.{PassKeeps, PassState, Some, Stage, Step, ap, arith, false, is_begin, is_take}
+use Rattle.mk_alloc.proofs.Vocabulary.{not, not-true, now_of, only_seen, or_parts, refl, step_at, true, world_of, ◌||◌}
+use Rattle.mk_alloc.proofs.{Vocabulary.{◌≡◌, IsHistory, IsTurn, is_close}, Stretches.{SomeKinds, does_once}}
 use Rattle.mk_alloc.proofs.{CalledTurns.GivenBack, ListParts.none_at, OwnGives.steps_are}
 use Rattle.mk_alloc.proofs.SaidCloses.{does_say_none, finish_says, nothing_said, said_then, unclosed_says_none}
-use Rattle.mk_alloc.proofs.Vocabulary.{IsHistory, IsTurn, is_close}
 use Rattle.mk_alloc.proofs.FinishedCycles.{Never, finished_then, never_by_none, unbegun_finished}
-use Rattle.mk_alloc.specs.{Closes.{EachIsFinished, EachIsSaid}, Rooms.ClosesNone}
-use Rattle.mk_cycle.specs.Telling.{IsToldAtClose}
-use Rattle.mk_core.specs.Cycles.{is_give}
+use Rattle.mk_alloc.specs.Closes.{EachIsFinished, EachIsSaid}
 use Rattle.mk_alloc.specs.{Laws.{CallsSweepNothing, SweepNothingWhereHeld}, Underway.KeepsYet}
+use Rattle.mk_cycle.specs.{Telling.IsToldAtClose, Begun.{EachIsBegunYet, HoldsFirst}, Ways.Ways}
+use Rattle.mk_core.specs.Cycles.{is_give}
 use Rattle.mk_cycle.proofs.Begun.{begun_then, does_begin_none, finish_begins_none, left_then, nothing_begun}
-use Rattle.mk_caller.proofs.Below.Words.Made.{own_before}
-use Rattle.mk_cycle.{proofs.HeldFirst.step_holds, specs.{Begun.{EachIsBegunYet, HoldsFirst}, Ways.Ways}}
-use Rattle.mk_caller.proofs.Below.Words.Sweeping.{does_sweep, kinds_sweep, nothing_sweeps, other_step_sweeps}
-use Rattle.mk_caller.proofs.{Below.Words.Sweeping.{step_then_sweeps, sweeps_then}, Below.Words.TakesAlone.taking_does}
+use Rattle.mk_cycle.proofs.HeldFirst.{step_holds}
+use Rattle.mk_caller.proofs.{Below.Words.Made.own_before, Below.Words.Sweeping.{does_sweep, kinds_sweep}}
+use Rattle.mk_caller.proofs.Below.Words.Sweeping.{nothing_sweeps, other_step_sweeps, step_then_sweeps, sweeps_then}
+use Rattle.mk_caller.proofs.Below.Words.TakesAlone.{taking_does}
 use Rattle.mk_caller.specs.Below.Words.Sweeping.{HaveNoMark, SweepsNothing, is_mark}
 
 -- A call with `enter` and `leave` marks nothing.
@@ -85,7 +84,7 @@ module _ {V : Type 0} {ways : Ways V} where
     finished = λ off. unbegun_finished ways.closes (does_begin_none Never {yet = false} kinds p q (no_begins apart) d);
   }
 
-  pub unbegun_keeps : {p q : PassState} → BeginsNone p q → ClosesNone p q → SweepsNothing p q
+  pub unbegun_keeps : {p q : PassState} → SeesNone is_begin p q → SeesNone is_close p q → SweepsNothing p q
       → PassKeeps ways p q
   unbegun_keeps none unclosed unswept = record {
     reached = λ off. unswept;

@@ -31,26 +31,25 @@ pub use Rattle.mk_caller.proofs.Below.Laws.Vocabulary.{◌||◌, ◌∙◌, ◌�
 pub use Rattle.mk_caller.proofs.Below.Words.Made.{made, own_before, pass_before}
 pub use Rattle.mk_caller.proofs.Below.Words.Seats.{not_both, only_one, others_one, same_seat, same_self}
 pub use Rattle.mk_caller.proofs.Below.Words.Doing.{does_nothing, does_step, does_then}
-pub use Rattle.mk_caller.proofs.Below.Words.Sweeping.{only_seen, only_seen_by}
+pub use Rattle.mk_caller.proofs.{Below.Words.Sweeping.{only_seen, only_seen_by}, OneStep.own_seat}
+pub use Rattle.mk_caller.proofs.OwnSteps.{by_append, calls_by, others_add_none}
 pub use Rattle.mk_caller.specs.{Below.Words.Seats.Has, Below.Words.States.{IsTurn, PassState, call_of, event_of}}
 pub use Rattle.mk_caller.specs.{Below.Words.States.{now_of, world_of}, Below.Words.Steps.{IsEnabledTo, Makes}}
 pub use Rattle.mk_caller.specs.{Below.Words.TurnSteps.{Acts, IsFresh, turn_stays}, Below.Words.Doing.{Does, are_of}}
-pub use Rattle.mk_caller.specs.Below.Words.Taking.{TakesTurn, is_take, waits_for}
+pub use Rattle.mk_caller.specs.{Below.Words.Taking.{TakesTurn, is_take, waits_for}, Called.{own_calls, own_steps}}
+pub use Rattle.mk_caller.specs.{Called.{stages_made, step_at}, States.{CallerState, caller_of_pass}}
 pub use Rattle.mk_alloc.proofs.{JoinedLooks.{does_wider, looks_left}, Looks.acting_caller}
 pub use Rattle.mk_alloc.proofs.MayAct.{new_is_acting, off_four}
 pub use Rattle.mk_alloc.specs.{Retired.IsDueSince, Placing.{object_for, place_now_for, FitsNowhere, IsOutOfStop}}
 pub use Rattle.mk_alloc.specs.Placing.{IsPlaced, IsUnplaced, OnlyLooks, is_look, is_placing}
-pub use Rattle.mk_caller.proofs.{OneStep.own_seat, OwnSteps.{by_append, calls_by, others_add_none}}
-pub use Rattle.mk_caller.specs.Called.{own_calls, own_steps, stages_made, step_at}
-pub use Rattle.mk_caller.specs.States.{CallerState, caller_of_pass}
+pub use Rattle.mk_alloc.specs.Underway.{EndsOlder, RunsIfDue, BeginsTurn, IsQuiet, Looks, PassKeeps, TurnGoesOn}
+pub use Rattle.mk_alloc.specs.{Leaving.OwnLeaveAllButReleased, Rooms.{AnswersFull, AsksRoom, SeesNone, GrantsNone}}
+pub use Rattle.mk_alloc.specs.{Rooms.{Misfits, RunsOne, Seeks, asks_room}, TurnCalls.{CalledInTurn, FreesObject}}
+pub use Rattle.mk_alloc.specs.{TurnCalls.{IsAnsweredDouble, IsAnsweredFull}, TurnCycles.{EndsExactly, FreeIsExact}}
+pub use Rattle.mk_alloc.specs.TurnCycles.{FreesFirst, HasNoPlace, IsDueIn, RunsOneCycle, TurnsOfAreExact, finishes}
+pub use Rattle.mk_alloc.specs.TurnCycles.{has_step, is_grant, is_of_cycle, is_want, lets_go, within_turn}
 pub use Rattle.mk_cycle.proofs.{Calm.frees_none, CleaningSteps.calm_keeps, KeptInParts.{free_then, gates_behind}}
 pub use Rattle.mk_cycle.proofs.{KeptInParts.same_config, OwnSteps.no_more_calls}
 pub use Rattle.mk_cycle.specs.{TurnKeeps.{unchanged, Done, KeepsGates, LeavesTurn}, BeginCycle.BeginsCycle}
 pub use Rattle.mk_cycle.specs.{EngineLaw.{IsAtPhase, is_pending_free, is_pending_free_at}, FinishCycle.FinishesCycle}
 pub use Rattle.mk_cycle.specs.Kinds.{begins_marking, clears, closes_marks, holds_gates, is_giving_back, sets_tallies}
-pub use Rattle.mk_alloc.specs.{DueCycles.{EndsOlder, RunsIfDue}, Leaving.OwnLeaveAllButReleased}
-pub use Rattle.mk_alloc.specs.Rooms.{AnswersFull, AsksRoom, BeginsNone, GrantsNone, Misfits, RunsOne, Seeks, asks_room}
-pub use Rattle.mk_alloc.specs.TurnCalls.{CalledInTurn, FreesObject, IsAnsweredDouble, IsAnsweredFull}
-pub use Rattle.mk_alloc.specs.TurnCycles.{EndsExactly, FreeIsExact, FreesFirst, HasNoPlace, IsDueIn, RunsOneCycle}
-pub use Rattle.mk_alloc.specs.TurnCycles.{TurnsOfAreExact, finishes, has_step, is_grant, is_of_cycle, is_want, lets_go}
-pub use Rattle.mk_alloc.specs.{TurnCycles.within_turn, Underway.{BeginsTurn, IsQuiet, Looks, PassKeeps, TurnGoesOn}}

@@ -1,38 +1,41 @@
 -- The words of a run are wiped group by group.
 use Rattle.mk_caller.proofs.Below.Laws.Vocabulary.{Bool, Cell, Config, Flight, Hand, Header, Holding, Holds, List}
-use Rattle.mk_caller.proofs.Below.Laws.Vocabulary.{Moment}
-use Rattle.mk_caller.proofs.Below.Laws.Vocabulary.{None, suc, use_under, word_of}
-use Rattle.mk_caller.proofs.Below.Laws.Vocabulary.{Option, Placing, RunPages, Seat, Some, Stage, Steady, Step, Word}
-use Rattle.mk_caller.proofs.Below.Laws.Vocabulary.{Words, World, Written, ℕ, address_of, all_below-at, and_from, ap}
-use Rattle.mk_caller.proofs.Below.Laws.Vocabulary.{arith, cases_eq, eq-eqb, eqb-true, false, flight_of}
-use Rattle.mk_caller.proofs.Below.Laws.Vocabulary.{get_or-set_other, get_or-set_same, has_no_pointers, header_at}
-use Rattle.mk_caller.proofs.Below.Laws.Vocabulary.{header_in, header_of, if◌then◌else◌, inl, inr, is_heap_address}
-use Rattle.mk_caller.proofs.Below.Laws.Vocabulary.{is_held, is_run_unmapped, is_undecided_new, le-leb, left, length}
-use Rattle.mk_caller.proofs.Below.Laws.Vocabulary.{lt-ltb, or_else, others_are_held, page_at_address, phase_of}
-use Rattle.mk_caller.proofs.Below.Laws.Vocabulary.{place_now, refl, run_header, same_Some, slice_index, stands, subst}
-use Rattle.mk_caller.proofs.Below.Laws.Vocabulary.{sym, true, unmapped_header, unmaps, world_behind, [], ◌*◌, ◌+◌, ◌/◌}
-use Rattle.mk_caller.proofs.{Below.Laws.Vocabulary.{◌<◌, ◌∙◌, ◌≡◌, ◌≤◌}, Below.Laws.Sorts.chosen_none}
-use Rattle.mk_caller.proofs.Below.Words.PointedCells.{found_there}
+use Rattle.mk_caller.proofs.Below.Laws.Vocabulary.{Moment, None, use_under, word_of, Option, Placing, RunPages, Seat}
+use Rattle.mk_caller.proofs.Below.Laws.Vocabulary.{Some, Stage, Steady, Step, Word, Words, World, Written, ℕ}
+use Rattle.mk_caller.proofs.Below.Laws.Vocabulary.{address_of, all_below-at, and_from, ap, arith, cases_eq, eq-eqb}
+use Rattle.mk_caller.proofs.Below.Laws.Vocabulary.{eqb-true, false, flight_of, get_or-set_other, get_or-set_same}
+use Rattle.mk_caller.proofs.Below.Laws.Vocabulary.{has_no_pointers, header_at, header_in, header_of, if◌then◌else◌, inl}
+use Rattle.mk_caller.proofs.Below.Laws.Vocabulary.{inr, is_heap_address, is_held, is_run_unmapped, is_undecided_new}
+use Rattle.mk_caller.proofs.Below.Laws.Vocabulary.{le-leb, left, length, lt-ltb, or_else, others_are_held}
+use Rattle.mk_caller.proofs.Below.Laws.Vocabulary.{page_at_address, phase_of, place_now, refl, run_header, same_Some}
+use Rattle.mk_caller.proofs.Below.Laws.Vocabulary.{slice_index, stands, subst, sym, true, unmapped_header, unmaps}
+use Rattle.mk_caller.proofs.Below.Laws.Vocabulary.{world_behind, [], ◌*◌, ◌+◌, ◌/◌, ◌<◌, ◌∙◌, ◌≡◌, ◌≤◌}
+use Rattle.mk_caller.proofs.{Below.Laws.Sorts.chosen_none, Below.Words.PointedCells.found_there}
+use Rattle.mk_caller.proofs.Below.Words.StoredHeads.{heads_leave}
 use Rattle.mk_alloc.proofs.ObjectVocabulary.{Acts, ComesTo, IsAsLeft, IsEnabledTo, IsOutOfStop, IsTurn, PassState}
 use Rattle.mk_alloc.proofs.ObjectVocabulary.{Unmaps, Wipes, WipesTo, WordsState, all_below_from, call_of, is_acting}
-use Rattle.mk_alloc.proofs.ObjectVocabulary.{is_clearing, now_of, option_and_then, world_of}
+use Rattle.mk_alloc.proofs.ObjectVocabulary.{Changes, is_following, now_of, option_and_then, world_of}
 use Rattle.mk_alloc.proofs.JoinedLooks.{reached_table, reached_there, reached_world, reaches_after, reaches_so}
 use Rattle.mk_alloc.proofs.{Looks.{acting_caller, acting_now, acts_there}, MayAct.{IsActing, may_look_heap, may_unmap}}
 use Rattle.mk_alloc.proofs.{MayAct.{may_wipe, off_four}, Reaching.{reaches_nothing, reaches_still}}
 use Rattle.mk_alloc.proofs.{Reaching.reaches_still_in_stop, Unchanged.{HasCall, OfCaller, acting_has_call, call_behind}}
 use Rattle.mk_alloc.proofs.{Serves.out_of_stop, Serving.{header_here, header_set, next_is}}
-use Rattle.mk_alloc.proofs.RunHeaders.{still_mapped, unmapped_use, unmapped_word}
-use Rattle.mk_alloc.specs.Unmapping.{MayUnmap, MayWipe, MayWipeFrom, UnmappedTo, WipedTo}
-use Rattle.mk_caller.specs.Below.Words.Steps.{Finds}
+use Rattle.mk_alloc.proofs.RunHeaders.{IsStillMapped, still_mapped, unmapped_use, unmapped_word}
+use Rattle.mk_alloc.specs.FreeParts.{MayUnmap, MayWipe, MayWipeFrom, WipedTo, with_pages}
+use Rattle.mk_caller.specs.{Below.Words.Steps.Finds, Below.Words.RunSteps.{MayStoreHeads, StoresHeads}}
 use Rattle.mk_geom.proofs.{Bridge.run_in_range, HeaderLemmas.header_of-word_of}
-use Rattle.mk_caller.proofs.Below.Words.StoredHeads.{heads_leave}
-use Rattle.mk_caller.specs.Below.Words.RunSteps.{MayStoreHeads, StoresHeads}
 use Rattle.mk_books.specs.Runs.{HeadersSay, run_word}
 use Rattle.mk_geom.specs.{Addresses.{cell_under, word_at_address}, PageUses.PartOfRun}
 use Rattle.mk_core.specs.{Effects.{hand_given, hand_of_cell, is_in_stop}, Cells.pointed_cell}
 use Rattle.mk_core.specs.Frames.{HoldsAll, written_of}
 
 -- The pages of a run are unmapped one after the other.
+
+-- This many of the run's pages are unmapped, the others not.
+pub record UnmappedTo (s : Seat) (run : RunPages) (w v : World) (n : ℕ) : Type 0 where
+  pub changes : Changes s (with_pages v.now.words.pages) w v
+  pub done : (d : ℕ) → d < n → header_at v.now.words (run.page + d) ≡ unmapped_header run.count d
+  pub rest : (d : ℕ) → n ≤ d → d < run.count → IsStillMapped v.now.words run d
 
 -- A call that is decided is no New on its way, so its holder's place stays.
 
@@ -83,10 +86,10 @@ unmapped_more {c} {s} {run} {v} {n} at (OfCaller k lt) give low near room =
 
 module _ {p : PassState} {run : RunPages} (turn : IsTurn p) (may : MayUnmap p run) where
   abbrev pub HasUnmapped : PassState → ℕ → Type 0
-  HasUnmapped q n = ComesTo is_clearing p (λ v. UnmappedTo p.seat run (world_of p) v n) [] q
+  HasUnmapped q n = ComesTo is_following p (λ v. UnmappedTo p.seat run (world_of p) v n) [] q
 
   pub unmapped_none : HasUnmapped p 0
-  unmapped_none = reaches_nothing is_clearing p (λ v. UnmappedTo p.seat run (world_of p) v 0) (record {
+  unmapped_none = reaches_nothing is_following p (λ v. UnmappedTo p.seat run (world_of p) v 0) (record {
     changes = record { call = refl; holding = refl; steady = refl; gates = λ j. refl };
     done = λ d lt. absurd (omega arith);
     rest = λ d le lt. still_mapped (now_of p).words run d may.mapped may.few lt;
@@ -251,7 +254,7 @@ module _ {p : PassState} {run : RunPages} (turn : IsTurn p) (may : MayWipe p run
 
   -- with the turn held, and all other gates
   with_turn : {q : PassState} {n : ℕ} → WipesTo p run n q → Holds q.table.config (now_of q) q.seat
-      → ComesTo is_clearing p (λ v. WipedTo p.seat run (world_of p) v n × HoldsAll p.table.config v.now p.seat) [] q
+      → ComesTo is_following p (λ v. WipedTo p.seat run (world_of p) v n × HoldsAll p.table.config v.now p.seat) [] q
   with_turn reached holds = grind (arith, reaches_so, still_stopped)
 
   pub looks_then : {q r : PassState} {n : ℕ} (k : ℕ) → WipesTo p run n q → k < 64 * run.count
@@ -290,7 +293,7 @@ module _ {p : PassState} {run : RunPages} (turn : IsTurn p) (may : MayWipe p run
 pub wiped_from : (p : PassState) {run : RunPages} {n : ℕ}
     → ((i : ℕ) → i < n → slice_index (now_of p).words.heap (64 * run.page + i) ≡ 0) → WipesTo p run n p
 wiped_from p {run} {n} wiped =
-    reaches_nothing is_clearing p (λ v. WipedTo p.seat run (world_of p) v n)
+    reaches_nothing is_following p (λ v. WipedTo p.seat run (world_of p) v n)
     (record { changes = record { call = refl; holding = refl; steady = refl; gates = λ j. refl }; zeros = wiped })
 
 wiped_now : {p q : PassState} {run : RunPages} {n : ℕ} → WipesTo p run n q → (i : ℕ) → i < n

@@ -1,14 +1,37 @@
 -- How much memory quarantine takes, at each moment at which nobody holds the turn.
-use Rattle.std.specs.Prelude.{◌≡◌, ℕ, ◌+◌, ◌*◌, ◌<◌, ◌≤◌, Bool, true, false, List, [], ◌∷◌, ◌++◌}
+use Rattle.std.specs.Prelude.{◌≡◌, ℕ, ◌+◌, ◌*◌, ◌<◌, ◌≤◌, Bool, true, false, List, [], ◌∷◌, ◌++◌, ◌&&◌, filter, sum_by}
 use Rattle.mk_geom.specs.StorageWords.{IsWordOf}
-use Rattle.mk_core.specs.{declared.config.Config.Config, declared.events.Event.Event}
-use Rattle.mk_core.specs.declared.events.Seat.TheVariants.{Caller, Host}
 use Rattle.mk_core.specs.Allocations.{fresh_words_of, held_by_allocations, is_mapped, placed_at, storage_of}
-use Rattle.mk_core.specs.{Cycles.{At, is_begin, is_give, is_release}, Growing.AreOfOthers, History.{IsHistory, left}}
+use Rattle.mk_core.specs.{Allocations.{PlacedAllocation, storage_words, with_released}, Cycles.{At, is_begin, is_give}}
+use Rattle.mk_core.specs.{Cycles.is_release, Growing.AreOfOthers, History.{IsHistory, left, World, first_world}}
+use Rattle.mk_core.specs.{History.world_behind, declared.config.Config.Config, declared.events.Event.Event}
+use Rattle.mk_core.specs.{declared.events.Seat.TheVariants.{Caller, Host}, declared.events.Step.Step}
 use Rattle.mk_caller.specs.{Below.Laws.UnmappedRuns.is_resident_in, Below.Laws.Promises.AtEachMoment}
-use Rattle.mk_alloc.specs.{GivenBack.given_back, KeptAllocations.{KeptAreTouched, QuarantineIsFreshOrKept, kept_mapped}}
-use Rattle.mk_alloc.specs.KeptAllocations.{quarantined_mapped}
+use Rattle.mk_alloc.specs.KeptAllocations.{KeptAreTouched, QuarantineIsFreshOrKept, kept_mapped, quarantined_mapped}
 use Rattle.mk_alloc.specs.TurnCycles.{TurnsOfAreExact, has_step}
+
+-- The allocation is mapped, and a `release` here releases it.
+abbrev pub is_given_back : Config → World → PlacedAllocation → Bool
+is_given_back c w a = is_mapped c a && (with_released c w.now.words a).released
+
+-- the storage words that a `release` here gives back
+abbrev pub words_given_back : Config → World → ℕ
+words_given_back c w = sum_by (storage_words c) (filter (is_given_back c w) w.allocations)
+
+-- The words that were given back since the last `begin`: after a step, where they were n before it.
+abbrev pub given_back_behind : Config → World → Step → ℕ → ℕ
+given_back_behind c w Step.Begin n = 0
+given_back_behind c w Step.Release n = n + words_given_back c w
+given_back_behind c w _ n = n
+
+-- the words given back, counted on from n
+unfoldable pub given_back_from : Config → World → ℕ → List Event → ℕ
+given_back_from c w n [] = n
+given_back_from c w n (e ∷ es) = given_back_from c (world_behind c w e) (given_back_behind c w e.step n) es
+
+-- those of a history
+abbrev pub given_back : Config → List Event → ℕ
+given_back c es = given_back_from c (first_world c) 0 es
 
 -- the words that are held after a list of events, and those of objects that were freed since the last `begin`
 

@@ -2,7 +2,7 @@
 use Rattle.std.specs.Prelude.{◌≡◌, true, List, ◌++◌}
 use Rattle.mk_core.specs.{declared.config.Config.Config, declared.events.Event.Event, declared.events.Seat.Seat}
 use Rattle.mk_core.specs.{Cycles.{At, is_begin, is_close, through}, History.{World, left}}
-use Rattle.mk_caller.specs.Below.Words.{Seats.Has, States.PassState}
+use Rattle.mk_caller.specs.{Below.Words.Seats.Has, Below.Words.States.PassState}
 use Rattle.mk_cycle.specs.{Begun.are_own_of, Closing.IsClosedBy, EngineLaw.IsAtPhase, Kinds.begins_marking}
 
 -- An engine says this of the world.

@@ -6,9 +6,8 @@ use Rattle.mk_core.specs.{declared.seats.Flight.Flight, Accesses.granted_base, C
 use Rattle.mk_core.specs.{Allocations.{PlacedAllocation, type_made, with_released}, Moments.flight_of}
 use Rattle.mk_core.specs.{History.{IsHistory, World, call_decided, first_world, left, world_behind}, Words.Words}
 use Rattle.mk_core.specs.TurnConditions.{cell_freed}
-use Rattle.mk_alloc.specs.{Bounds.QuarantineIsBounded, Deeds.{AtTurnEnds, Deed, FullsHaveCauses, QuarterAtTurnEnds}}
-use Rattle.mk_alloc.specs.{Deeds.{QuarterOfHeld, ReleasesInTurnOfBegin, back_from, storage_after}, GivenBack.given_back}
-use Rattle.mk_core.specs.declared.events.Step.TheVariants as step
+use Rattle.mk_alloc.specs.{Bounds.{QuarantineIsBounded, given_back}, Deeds.{AtTurnEnds, Deed, FullsHaveCauses}}
+use Rattle.mk_alloc.specs.Deeds.{QuarterOfHeld, QuarterWithGivenBack, ReleasesInTurnOfBegin, back_from, storage_after}
 
 -- The allocation of a cell is freed, if there is a cell.
 abbrev pub frees_at : Words → Option Cell → List Deed
@@ -22,12 +21,12 @@ bases_released c w = map (λ (a : PlacedAllocation). a.base)
 
 -- what a step of a seat whose call is f does to the storage
 abbrev pub done_by : Config → World → Flight → Step → List Deed
-done_by c w f step.Grant = Deed.Grants (granted_base c f w.now.seats.holding.placing) (type_made f.op) ∷ []
-done_by c w f (step.Quar p v) = frees_at w.now.words (cell_freed c.pages w.now.words f p v)
-done_by c w f step.Release = Deed.Releases (bases_released c w) ∷ []
-done_by c w f step.Begin = Deed.Begins ∷ []
-done_by c w f step.End = Deed.Ends ∷ []
-done_by c w f step.Give = Deed.TurnEnds ∷ []
+done_by c w f Step.Grant = Deed.Grants (granted_base c f w.now.seats.holding.placing) (type_made f.op) ∷ []
+done_by c w f (Step.Quar p v) = frees_at w.now.words (cell_freed c.pages w.now.words f p v)
+done_by c w f Step.Release = Deed.Releases (bases_released c w) ∷ []
+done_by c w f Step.Begin = Deed.Begins ∷ []
+done_by c w f Step.End = Deed.Ends ∷ []
+done_by c w f Step.Give = Deed.TurnEnds ∷ []
 done_by c w f _ = []
 
 -- the deeds of an event: the call that it decides, and what it does
@@ -53,7 +52,7 @@ DeedsGiveBack = (c : Config) (es : List Event) → back_from c [] 0 (deeds_of c 
 
 -- What quarantine costs, whenever a turn ends; `on` says whether cycles go on after the calls that begin them.
 pub record DeedsBoundQuarantine (on : Bool) (c : Config) (ds : List Deed) : Type 0 where
-  pub quarter : QuarterAtTurnEnds c ds
+  pub quarter : AtTurnEnds (QuarterWithGivenBack c) ds
   pub in_turn : AtTurnEnds (λ (front : List Deed). ReleasesInTurnOfBegin front → QuarterOfHeld c front) ds
   pub of_held : on ≡ false → AtTurnEnds (QuarterOfHeld c) ds
 

@@ -2,9 +2,8 @@
 use Rattle.std.specs.Prelude.{◌≡◌, ℕ, ◌+◌, ◌*◌, ◌≤◌, Bool, true, false, ◌&&◌, not, ◌==◌, if◌then◌else◌, List, [], ◌∷◌}
 use Rattle.std.specs.{Prelude.{◌++◌, map, filter, sum_by}, List.list_any}
 use Rattle.mk_never.specs.{declared.operations.Op.TheVariants.New, NeverHeap.Call, Types.kinds_of}
-use Rattle.mk_core.specs.{declared.config.Config.Config, NewPlaces.object_of}
 use Rattle.mk_core.specs.Allocations.{FitsAmongAllocations, PlacedAllocation, fresh_words_of, held_by_allocations}
-use Rattle.mk_core.specs.Allocations.{is_mapped, storage_words}
+use Rattle.mk_core.specs.{Allocations.{is_mapped, storage_words}, NewPlaces.object_of, declared.config.Config.Config}
 
 -- An allocation is named by the heap word at which it begins: among those that aren't released no other begins there.
 pub data Deed : Type 0 where
@@ -77,10 +76,6 @@ AtTurnEnds claim ds = (front more : List Deed) → ds ≡ front ++ Deed.TurnEnds
 abbrev pub QuarterWithGivenBack : Config → List Deed → Type 0
 QuarterWithGivenBack c ds =
     4 * fresh_words_of c (storage_after ds) ≤ held_by_allocations c (storage_after ds) + back_from c [] 0 ds
-
--- whenever a turn ends,
-abbrev pub QuarterAtTurnEnds : Config → List Deed → Type 0
-QuarterAtTurnEnds c ds = AtTurnEnds (QuarterWithGivenBack c) ds
 
 -- and at most what is held alone,
 abbrev pub QuarterOfHeld : Config → List Deed → Type 0

@@ -1,43 +1,37 @@
 -- The parts of a Free's turn round its `quar`: gates are held and opened, a run is unmapped and wiped, tallies are set.
-use Rattle.std.specs.Prelude.{◌≡◌, ◌≢◌, ℕ, ◌*◌, ◌<◌, ◌&&◌, not, nat_lt, Bool, true, false, List, [], Some}
-use Rattle.mk_geom.specs.declared.pages.Page.{Page}
+use Rattle.std.specs.Prelude.{◌≡◌, ◌≢◌, ℕ, ◌*◌, ◌/◌, ◌<◌, Bool, true, false, List, [], Some, ◌+◌, ◌≤◌, slice_index}
+use Rattle.mk_geom.specs.{declared.pages.Page.Page, PageUses.PartOfRun}
+use Rattle.mk_books.specs.Runs.{StandsOn}
 use Rattle.mk_core.specs.{declared.events.Seat.Seat, declared.events.Step.Step, declared.events.Tally.Tally}
 use Rattle.mk_core.specs.{declared.seats.RunPages.RunPages, Cells.{header_in, run_headed, words_are_zero}}
-use Rattle.mk_core.specs.{Frames.{Steady, steady_of}, History.World, Moments.{flight_of, is_held, is_number_of}}
-use Rattle.mk_core.specs.NewPlaces.{is_run_gone, is_run_unmapped}
+use Rattle.mk_core.specs.{Frames.{Steady, steady_of}, History.World, Moments.{flight_of, is_held, others_are_held}}
+use Rattle.mk_core.specs.{NewPlaces.{is_run_gone, is_run_unmapped}, declared.seats.Stage.Stage}
 use Rattle.mk_caller.specs.Below.Words.States.{PassState, WordsState, call_of, now_of, world_of}
 use Rattle.mk_alloc.specs.{Looking.is_acting, Placing.{ComesTo, IsOutOfStop}}
 pub use Rattle.mk_cycle.specs.Holding.{all_others}
-use Rattle.mk_core.specs.declared.events.Step.TheVariants as step
-use Rattle.mk_core.specs.declared.events.Tally.TheVariants as tally
 
--- kinds of step: by which gates are looked at and held, a run's pages and words are looked at and cleared, and what
--- comes after that
+-- kinds of step: what comes after the `quar`, and parts of it
 
--- steps that hold gates
-abbrev pub is_holding : Step → Bool
-is_holding (step.Look x) = true
-is_holding (step.Hold j) = true
-is_holding _ = false
-
--- steps that unmap and wipe a run
-abbrev pub is_clearing : Step → Bool
-is_clearing (step.Look x) = true
-is_clearing (step.Head p v) = true
-is_clearing (step.Wipe n) = true
-is_clearing _ = false
+-- the kinds of step that come after the `quar`
+abbrev pub is_following : Step → Bool
+is_following (Step.Look x) = true
+is_following (Step.Open j) = true
+is_following (Step.Head p v) = true
+is_following (Step.Wipe n) = true
+is_following (Step.Tally n v) = true
+is_following _ = false
 
 -- steps that set a tally
 abbrev pub is_tallying : Step → Bool
-is_tallying (step.Look x) = true
-is_tallying (step.Tally n v) = true
+is_tallying (Step.Look x) = true
+is_tallying (Step.Tally n v) = true
 is_tallying _ = false
 
 -- steps that end a Free
 abbrev pub is_settling : Step → Bool
-is_settling (step.Look x) = true
-is_settling (step.Open j) = true
-is_settling (step.Tally n v) = true
+is_settling (Step.Look x) = true
+is_settling (Step.Open j) = true
+is_settling (Step.Tally n v) = true
 is_settling _ = false
 
 -- The holder's call is as it was, and what it has done in its turn, and all that none but it changes but its gates.
@@ -56,10 +50,6 @@ pub record GateIsSet (s : Seat) (gate : ℕ) (held : Bool) (w v : World) : Type 
 pub record HasGates (s : Seat) (callers : ℕ) (gates : ℕ → Bool) (w v : World) : Type 0 where
   pub but_gates : IsButGates s w v
   pub held : (j : ℕ) → j < callers → is_held v.now.words j ≡ gates j
-
--- those of other callers, as far as they are opened
-abbrev pub held_from : Seat → ℕ → ℕ → Bool
-held_from s caller j = not (nat_lt j caller) && not (is_number_of s j)
 
 -- no gate
 abbrev pub no_gate : ℕ → Bool
@@ -102,11 +92,11 @@ pub record Changes (s : Seat) (change : Steady → Steady) (w v : World) : Type 
 
 -- the tallies, with this one set
 abbrev pub with_tally : Tally → ℕ → Steady → Steady
-with_tally tally.Held n x = record x { held = n }
-with_tally tally.Fresh n x = record x { fresh = n }
-with_tally tally.Cycles n x = record x { cycles = n }
-with_tally tally.Released n x = record x { released = n }
-with_tally tally.Full n x = record x { full = n }
+with_tally Tally.Held n x = record x { held = n }
+with_tally Tally.Fresh n x = record x { fresh = n }
+with_tally Tally.Cycles n x = record x { cycles = n }
+with_tally Tally.Released n x = record x { released = n }
+with_tally Tally.Full n x = record x { full = n }
 
 -- One tally is set.
 abbrev pub SetsTally : PassState → Tally → ℕ → PassState → Type 0
@@ -128,8 +118,57 @@ pub record RunIsWiped (s : Seat) (run : RunPages) (w v : World) : Type 0 where
 
 -- The run is unmapped.
 abbrev pub Unmaps : PassState → RunPages → PassState → Type 0
-Unmaps p run q = ComesTo is_clearing p (RunIsUnmapped p.seat run (world_of p)) [] q
+Unmaps p run q = ComesTo is_following p (RunIsUnmapped p.seat run (world_of p)) [] q
 
 -- The run's words are 0.
 abbrev pub Wipes : PassState → RunPages → PassState → Type 0
-Wipes p run q = ComesTo is_clearing p (RunIsWiped p.seat run (world_of p)) [] q
+Wipes p run q = ComesTo is_following p (RunIsWiped p.seat run (world_of p)) [] q
+
+-- The call is decided and has freed this run, whose pages are all mapped still, and no cycle stops the others.
+pub record MayUnmap (p : PassState) (run : RunPages) : Type 0 where
+  pub decided : (call_of p).stage ≡ Stage.Give
+  pub phase : IsOutOfStop (now_of p)
+  pub freed : (now_of p).seats.holding.freed ≡ Some run
+  pub some : 1 ≤ run.count
+  pub few : run.count ≤ 64
+  pub within : run.page + run.count ≤ p.table.config.pages
+  pub mapped : StandsOn (PartOfRun true) (now_of p).words.pages run.page run.count
+
+-- This many of its words are wiped.
+pub record WipedTo (s : Seat) (run : RunPages) (w v : World) (n : ℕ) : Type 0 where
+  pub changes : Changes s (λ x. x) w v
+  pub zeros : (i : ℕ) → i < n → slice_index v.now.words.heap (64 * run.page + i) ≡ 0
+
+-- The call is decided and has unmapped the run, and the gates of all other callers are held, so its words may be wiped.
+pub record MayWipe (p : PassState) (run : RunPages) : Type 0 where
+  pub decided : (call_of p).stage ≡ Stage.Give
+  pub stopped : others_are_held p.table.config.callers (now_of p).words p.seat ≡ true
+  pub freed : (now_of p).seats.holding.freed ≡ Some run
+  pub unmapped : is_run_unmapped (now_of p).words run ≡ true
+  pub few : run.count ≤ 64
+  pub within : run.page + run.count ≤ p.table.config.pages
+
+-- On these words, which have this many pages, the run may be wiped, and its words up to this one are 0.
+pub record MayWipeFrom (w : WordsState) (p : PassState) (pages : ℕ) (run : RunPages) (n : ℕ) : Type 0 where
+  pub one_table : p.table ≡ w
+  pub all_pages : pages ≡ w.config.pages
+  pub may : MayWipe p run
+  pub wiped : (i : ℕ) → i < n → slice_index (now_of p).words.heap (64 * run.page + i) ≡ 0
+
+-- A group of its words, on this page of it, is next.
+pub record MayWipeGroup (w : WordsState) (p : PassState) (pages : ℕ) (run : RunPages) (part group : ℕ) : Type 0 where
+  pub from : MayWipeFrom w p pages run (8 * group)
+  pub within : 8 * group + 8 ≤ 64 * run.count
+  pub on_page : part ≡ group / 8
+
+-- This many groups of its words, all on this page of it, are next.
+pub record MayWipeGroups (w : WordsState) (p : PassState) (pages : ℕ) (run : RunPages) (part group count : ℕ) : Type 0
+  where
+    pub from : MayWipeFrom w p pages run (8 * group)
+    pub within : part < run.count
+    pub first : 8 * part ≤ group
+    pub last : group + count ≤ 8 * part + 8
+
+-- After steps of the call its words up to this one are 0.
+abbrev pub WipesTo : PassState → RunPages → ℕ → PassState → Type 0
+WipesTo p run n q = ComesTo is_following p (λ v. WipedTo p.seat run (world_of p) v n) [] q

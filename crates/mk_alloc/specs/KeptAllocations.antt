@@ -1,9 +1,8 @@
 -- What the last cycle kept: the allocations of its snapshot that it didn't release.
 use Rattle.std.specs.Prelude.{◌≡◌, ◌⊎◌, ℕ, true, false, ◌&&◌, not, List, filter, sum_by}
-use Rattle.mk_core.specs.{declared.config.Config.Config, declared.events.Event.Event}
 use Rattle.mk_core.specs.Allocations.{PlacedAllocation, is_mapped, placed_at, storage_words}
-use Rattle.mk_core.specs.{Cycles.{Cycle, IsInSnapshot, NoneSweeps, is_end, is_quarantined}, History.{World, left}}
-use Rattle.mk_core.specs.{Touched.IsTouched, Words.phase_of}
+use Rattle.mk_core.specs.{Cycles.{Cycle, IsInSnapshot, NoneSweeps, is_end, is_quarantined}, History.left}
+use Rattle.mk_core.specs.{Touched.IsTouched, Words.phase_of, declared.config.Config.Config, declared.events.Event.Event}
 use Rattle.mk_alloc.specs.TurnCycles.{has_step}
 
 -- The allocation was in the snapshot of the last cycle that ended, and is unreleased.
@@ -13,15 +12,11 @@ pub record IsKeptByLastCycle (c : Config) (es : List Event) (number : ℕ) : Typ
   pub snapshot : IsInSnapshot c cycle.releasing.marking number
   pub unreleased : (placed_at (left c es).allocations number).released ≡ false
 
--- The phase is that of no cycle: there is none, or all is over.
-abbrev pub NoCycleIsOn : World → Type 0
-NoCycleIsOn w = (phase_of w.now.words ≡ 0) ⊎ (phase_of w.now.words ≡ 5)
-
--- Where no cycle is on, each allocation that is freed and unreleased was freed after the last `begin`, or was kept by
--- the last cycle,
+-- Where no cycle is on, since there is none or all is over, each allocation that is freed and unreleased was freed
+-- after the last `begin`, or was kept by the last cycle,
 abbrev pub QuarantineIsFreshOrKept : Config → List Event → Type 0
 QuarantineIsFreshOrKept c es =
-    NoCycleIsOn (left c es)
+    (phase_of (left c es).now.words ≡ 0) ⊎ (phase_of (left c es).now.words ≡ 5)
     → (number : ℕ) → is_quarantined (placed_at (left c es).allocations number) ≡ true
     → ((placed_at (left c es).allocations number).fresh ≡ true) ⊎ IsKeptByLastCycle c es number
 

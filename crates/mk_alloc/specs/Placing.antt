@@ -1,23 +1,44 @@
 -- Placing the object of a New: what is asked, and what comes of it.
 use Rattle.std.specs.Prelude.{◌≡◌, ℕ, ◌%◌, ◌^◌, ◌⊎◌, ◌==◌, ◌&&◌, Bool, true, false, List, [], ◌∷◌, ◌++◌, Option, Some}
-use Rattle.std.specs.Prelude.{None}
-use Rattle.mk_geom.specs.{declared.pages.Page.Page, declared.pages.Place.Place, Addresses.address_of}
-use Rattle.mk_core.specs.{declared.config.Config.Config, declared.events.Answer.Answer, declared.events.Seat.Seat}
-use Rattle.mk_core.specs.{declared.events.Seat.TheVariants.Caller, declared.events.Step.Step}
+use Rattle.std.specs.Prelude.{None, ◌+◌, ◌<◌, ◌≤◌, length}
+use Rattle.mk_never.specs.declared.operations.Op.{Op}
+use Rattle.mk_geom.specs.{declared.pages.Place.Place, Addresses.address_of}
+use Rattle.mk_core.specs.{Accesses.caller_number, Allocations.{PlacedAllocation, held_by_allocations, type_made}}
+use Rattle.mk_core.specs.{Calls.d_of, Decided.{Decided, entry_of}, Frames.{CountsAreLeft, steady_of}}
+use Rattle.mk_core.specs.{History.{World, left}, Moments.{Moment, flight_of}, NewPlaces.{base_made, bits_made}}
+use Rattle.mk_core.specs.{NewPlaces.{is_undecided_new, object_made, header_made, pages_made}, Placement.place_after}
+use Rattle.mk_core.specs.{TurnConditions.{place_now, is_marked_first, is_used_once}, Words.{phase_of, register_word}}
+use Rattle.mk_core.specs.{Words.{header_at, used_at}, declared.config.Config.Config, declared.events.Answer.Answer}
+use Rattle.mk_core.specs.{declared.events.Seat.Seat, declared.events.Seat.TheVariants.Caller, declared.events.Step.Step}
 use Rattle.mk_core.specs.{declared.seats.Flight.Flight, declared.seats.Object.Object}
-use Rattle.mk_core.specs.{declared.seats.Placing.TheVariants.{Unplaced, Granted}, Accesses.caller_number}
-use Rattle.mk_core.specs.{Allocations.{PlacedAllocation, held_by_allocations, type_made}, Calls.d_of}
-use Rattle.mk_core.specs.{Decided.{Decided, entry_of}, Frames.{CountsAreLeft, Steady, steady_of}, History.{World, left}}
-use Rattle.mk_core.specs.{Moments.{Moment, flight_of}, NewPlaces.{base_made, bits_made, is_undecided_new, object_made}}
-use Rattle.mk_core.specs.{Placement.place_after, Words.{phase_of, register_word}, TurnConditions.place_now}
-use Rattle.mk_caller.specs.{Below.Words.States.{PassState, call_of, now_of, world_of}, Below.Words.Doing.Does}
-use Rattle.mk_caller.specs.Below.Words.Sweeping.{SweepsNothing}
-use Rattle.mk_alloc.specs.{Entries.own_calls, declared.objects.Request.Request, Serving.{Carving, IsCellReady}}
-use Rattle.mk_alloc.specs.Unchanged.{IsAsLeft}
-use Rattle.mk_never.specs.declared.operations.Op.TheVariants as op
-use Rattle.mk_core.specs.declared.events.Answer.TheVariants as answer
-use Rattle.mk_core.specs.declared.events.Step.TheVariants as step
-use Rattle.mk_core.specs.declared.seats.Stage.TheVariants as stage
+use Rattle.mk_core.specs.{declared.seats.Placing.TheVariants.{Unplaced, Granted}, declared.seats.Stage.Stage}
+use Rattle.mk_caller.specs.{Called.own_calls, Below.Words.States.{PassState, call_of, now_of, world_of, WordsState}}
+use Rattle.mk_caller.specs.{Below.Words.Doing.Does, Below.Words.Sweeping.SweepsNothing}
+use Rattle.mk_alloc.specs.{declared.objects.Request.Request, Looking.IsAsLeft, declared.objects.Grant.Grant}
+use Rattle.mk_alloc.specs.declared.objects.Shape.{Shape}
+
+-- Between the first world and this one the New was served up to its cell: its call, and all but the pages, is as it
+-- was.
+pub record Serving (c : Config) (s : Seat) (o : Object) (place : Place) (w v : World) : Type 0 where
+  pub call : flight_of v.now s ≡ flight_of w.now s
+  pub object : object_made c (flight_of v.now s).op ≡ o
+  pub steady : steady_of v ≡ record (steady_of w) { pages = v.now.words.pages }
+  pub placed : place_now c v.now (flight_of v.now s) ≡ Some place
+  pub once : is_used_once v.now.seats.holding.placing ≡ false
+  pub used : used_at v.now.words place.page ≡ used_at w.now.words place.page
+  pub pages : length v.now.words.pages ≡ c.pages
+
+-- This many of the place's pages have their headers, the others none.
+pub record Carving (c : Config) (s : Seat) (o : Object) (place : Place) (w v : World) (n : ℕ) : Type 0 where
+  pub serving : Serving c s o place w v
+  pub stand : (d : ℕ) → d < n → header_at v.now.words (place.page + d) ≡ header_made o d
+  pub free : (d : ℕ) → n ≤ d → d < pages_made o → header_at v.now.words (place.page + d) ≡ 0
+  pub marked : is_marked_first v.now.words o place ≡ true
+
+-- Once all have it, or where its page was a block already, its cell may be taken,
+pub record IsCellReady (c : Config) (s : Seat) (o : Object) (place : Place) (w v : World) : Type 0 where
+  pub serving : Serving c s o place w v
+  pub stand : (d : ℕ) → d < pages_made o → header_at v.now.words (place.page + d) ≡ header_made o d
 
 -- No cycle is on, or one whose cells are being marked.
 abbrev pub IsOutOfStop : Moment → Type 0
@@ -32,7 +53,7 @@ pub record IsUnplaced (p : PassState) : Type 0 where
 -- It is for a New that requests this.
 pub record Requests (p : PassState) (request : Request) : Type 0 where
   pub full : Bool
-  pub op : (call_of p).op ≡ op.New request.register request.ty full
+  pub op : (call_of p).op ≡ Op.New request.register request.ty full
 
 -- The tally of held words is that of the allocations.
 abbrev pub HeldIsExact : PassState → Type 0
@@ -52,22 +73,22 @@ place_now_for p = place_after p.table.config p.seen (object_for p)
 
 -- it is a look
 abbrev pub is_look : Step → Bool
-is_look (step.Look x) = true
+is_look (Step.Look x) = true
 is_look _ = false
 
 -- steps that place an object
 abbrev pub is_placing : Step → Bool
-is_placing (step.Look x) = true
-is_placing (step.Mark p v) = true
-is_placing (step.Head p v) = true
-is_placing (step.Used p v) = true
-is_placing step.Grant = true
-is_placing (step.Tally n v) = true
+is_placing (Step.Look x) = true
+is_placing (Step.Mark p v) = true
+is_placing (Step.Head p v) = true
+is_placing (Step.Used p v) = true
+is_placing Step.Grant = true
+is_placing (Step.Tally n v) = true
 is_placing _ = false
 
 -- Those that serve an object at its place: what is marked there are the cells that its first page has then.
 abbrev pub serves_at : Object → Place → Step → Bool
-serves_at o place (step.Mark page cells) = page == place.page && cells == bits_made o
+serves_at o place (Step.Mark page cells) = page == place.page && cells == bits_made o
 serves_at o place s = is_placing s
 
 -- The pass's seat did only steps of these kinds, which added these entries to its calls, and came to a world of this
@@ -94,18 +115,18 @@ object_at_place c f place = record {
   released = false;
 }
 
--- what none but the holder changes, with an allocation more and these pages and held words
-abbrev pub with_object : Steady → List Page → ℕ → PlacedAllocation → Steady
-with_object x pages held a = record x { pages = pages; held = held; allocations = x.allocations ++ a ∷ [] }
-
 -- Between these worlds the New was granted its object at this place: its call is decided, the object is an allocation
 -- more, its address is in the register, and all else that none but the holder changes, but pages and the tally of held
 -- words, is as it was.
 pub record IsGrantedAt (c : Config) (s : Seat) (place : Place) (w v : World) : Type 0 where
-  pub call : flight_of v.now s ≡ record (flight_of w.now s) { stage = stage.Give }
+  pub call : flight_of v.now s ≡ record (flight_of w.now s) { stage = Stage.Give }
   pub placing : v.now.seats.holding.placing ≡ Granted
   pub steady : steady_of v
-      ≡ with_object (steady_of w) v.now.words.pages v.now.words.held (object_at_place c (flight_of w.now s) place)
+      ≡ record (steady_of w) {
+        pages = v.now.words.pages;
+        held = v.now.words.held;
+        allocations = w.allocations ++ object_at_place c (flight_of w.now s) place ∷ [];
+      }
   pub register : (k : ℕ) → s ≡ Caller k → register_word v.now.words k (d_of (flight_of w.now s).op)
       ≡ address_of (base_made (object_made c (flight_of w.now s).op) place) % 2 ^ 64
 
@@ -116,7 +137,7 @@ entry_for p a = entry_of (caller_number p.seat) (call_of p).op (Some a)
 -- The object is granted at this place.
 abbrev pub IsGranted : PassState → Place → PassState → Type 0
 IsGranted p place q = ComesTo (serves_at (object_for p) place) p (IsGrantedAt p.table.config p.seat place (world_of p))
-    (entry_for p answer.Done) q
+    (entry_for p Answer.Done) q
 
 -- The object of the New was granted at its place, and the tally of held words is that of the allocations.
 pub record IsPlaced (p q : PassState) : Type 0 where
@@ -141,8 +162,6 @@ pub record IsServed (p : PassState) (place : Place) (q : PassState) : Type 0 whe
   pub held : HeldIsExact q
   pub reached : SweepsNothing p q
 
--- This many pages of the place have their headers; its cell may be taken.
-
 -- So many pages of the place have their headers.
 abbrev pub HasCarved : PassState → Place → ℕ → PassState → Type 0
 HasCarved p place n q = ComesTo (serves_at (object_for p) place) p
@@ -152,3 +171,22 @@ HasCarved p place n q = ComesTo (serves_at (object_for p) place) p
 abbrev pub MayTake : PassState → Place → PassState → Type 0
 MayTake p place q = ComesTo (serves_at (object_for p) place) p
     (IsCellReady p.table.config p.seat (object_for p) place (world_of p)) [] q
+
+-- an object of this shape
+abbrev pub object_shaped : Shape → Object
+object_shaped s = record { words = s.words; leaf = s.leaf }
+
+-- On these words the New's object, which has this shape, goes to this place.
+pub record ShapeGoesTo (w : WordsState) (p : PassState) (shape : Shape) (place : Place) : Type 0 where
+  pub one_table : p.table ≡ w
+  pub shaped : object_shaped shape ≡ object_for p
+  pub goes : GoesTo p place
+
+-- It may be served: this is its register, this the used word of its place's page, which is free or not. The tally of
+-- held words is exact.
+pub record MayServe (w : WordsState) (p : PassState) (grant : Grant) : Type 0 where
+  pub object : ShapeGoesTo w p grant.shape grant.place
+  pub register : grant.register ≡ d_of (call_of p).op
+  pub used : grant.used ≡ used_at (now_of p).words grant.place.page
+  pub header : grant.free ≡ (header_at (now_of p).words grant.place.page == 0)
+  pub exact : HeldIsExact p

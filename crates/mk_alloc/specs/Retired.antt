@@ -5,12 +5,10 @@ use Rattle.mk_never.specs.{NeverHeap.{NeverState, allocation_at}, Types.{is_larg
 use Rattle.mk_core.specs.{declared.config.Config.Config, declared.events.Answer.Answer, declared.events.Event.Event}
 use Rattle.mk_core.specs.{declared.events.Step.Step, Allocations.{PlacedAllocation, placed_at}}
 use Rattle.mk_core.specs.{Counts.{IsDue, TalliesAreExact, TalliesAreTidy}, History.never_behind, Moments.none_is_held}
-use Rattle.mk_core.specs.{NewPlaces.is_run_gone, Words.phase_of}
-use Rattle.mk_caller.specs.{Below.Words.States.{PassState, call_of, now_of, world_of}, Below.Words.Doing.Does}
-use Rattle.mk_alloc.specs.{Entries.own_calls, Placing.entry_for, Retiring.{is_freeing_small, is_freeing, is_loading}}
-use Rattle.mk_alloc.specs.Retiring.{value_of}
-use Rattle.mk_core.specs.declared.events.Answer.TheVariants as answer
-use Rattle.mk_core.specs.declared.seats.Stage.TheVariants as stage
+use Rattle.mk_core.specs.{NewPlaces.is_run_gone, Words.phase_of, declared.seats.Stage.Stage}
+use Rattle.mk_caller.specs.{Called.own_calls, Below.Words.States.{PassState, call_of, now_of, world_of}}
+use Rattle.mk_caller.specs.{Below.Words.Doing.Does, States.value_of}
+use Rattle.mk_alloc.specs.{Placing.entry_for, Retiring.{is_freeing_small, is_freeing, is_loading}}
 
 -- The value points to an allocation that is freed in the heap that never reuses storage.
 abbrev pub IsFreed : NeverState → Value → Type 0
@@ -41,7 +39,7 @@ pub record DecidesFree (kinds : Step → Bool) (a : Answer) (p q : PassState) : 
   pub pass : q ≡ record p { seen = q.seen }
   pub does : Does kinds p q
   pub calls : own_calls p q.seen ≡ own_calls p p.seen ++ entry_for p a
-  pub decided : (call_of q).stage ≡ stage.Give
+  pub decided : (call_of q).stage ≡ Stage.Give
   pub op : (call_of q).op ≡ (call_of p).op
   pub placing : (now_of q).seats.holding.placing ≡ (now_of p).seats.holding.placing
   pub cycle : (now_of q).seats.holding.cycle ≡ (now_of p).seats.holding.cycle
@@ -63,7 +61,7 @@ kinds_for p r = freeing_kinds p.table.config (world_of p).allocations (value_of 
 
 -- The object was freed, or the register was null, and then words were only looked at.
 pub record Retires (p : PassState) (r : ℕ) (due : Bool) (q : PassState) : Type 0 where
-  pub decides : DecidesFree is_freeing answer.Done p q
+  pub decides : DecidesFree is_freeing Answer.Done p q
   pub steps : Does (kinds_for p r) p q
   pub unfreed : IsFreed (never_behind p.table.config p.seen) (value_of p r) → ⊥
   pub allocations : (world_of q).allocations ≡ with_freed_object (value_of p r) (world_of p).allocations
@@ -72,5 +70,5 @@ pub record Retires (p : PassState) (r : ℕ) (due : Bool) (q : PassState) : Type
 
 -- The object was freed already: words were looked at, and nothing was stored.
 pub record FindsFreed (p : PassState) (r : ℕ) (q : PassState) : Type 0 where
-  pub decides : DecidesFree is_loading answer.Double p q
+  pub decides : DecidesFree is_loading Answer.Double p q
   pub freed : IsFreed (never_behind p.table.config p.seen) (value_of p r)

@@ -1,16 +1,14 @@
 -- A New asks for room: it begins and ends cycles only where its object has no place.
 use Rattle.std.specs.Prelude.{◌≡◌, ℕ, Bool, true, false, ◌||◌, List, ◌∷◌, ◌++◌, Option, Some, None}
+use Rattle.mk_geom.specs.{declared.pages.Census.Census, PageUses.census_among, PageWords.uses_of_pages}
 use Rattle.mk_core.specs.{declared.events.Answer.Answer, declared.events.Event.Event, declared.events.Step.Step}
 use Rattle.mk_core.specs.{declared.seats.Object.Object, declared.seats.OwnCycle.TheVariants.Ended}
-use Rattle.mk_core.specs.Cycles.{At, is_begin, is_close, is_end}
-use Rattle.mk_geom.specs.{declared.pages.Census.Census, PageUses.census_among, PageWords.uses_of_pages}
+use Rattle.mk_core.specs.Cycles.{At, is_begin, is_end}
 use Rattle.mk_caller.specs.Below.Words.States.{IsTurn, PassState, WordsState, event_of, now_of, world_of}
 use Rattle.mk_alloc.specs.{Placing.{IsUnplaced, Requests, object_for, place_now_for}, declared.objects.Request.Request}
-use Rattle.mk_cycle.specs.EngineLaw.{IsAtPhase}
 use Rattle.mk_alloc.specs.{Leaving.OwnLeaveAllButReleased, TurnCycles.{HasNoPlace, RunsOneCycle, has_step, is_grant}}
 use Rattle.mk_alloc.specs.{TurnCycles.{is_hold, is_want, lets_go}, Underway.{IsQuiet, TurnGoesOn}}
-use Rattle.mk_core.specs.declared.events.Answer.TheVariants as answer
-use Rattle.mk_core.specs.declared.events.Step.TheVariants as step
+use Rattle.mk_cycle.specs.EngineLaw.{IsAtPhase}
 
 -- the steps that begin a cycle, or its end, and those that hold the gates of others for either
 abbrev pub asks_room : Step → Bool
@@ -32,19 +30,13 @@ abbrev pub GrantsLast : PassState → PassState → Type 0
 GrantsLast p q =
     (more : List Event) → q.seen ≡ p.seen ++ more → (g : At is_grant more) → has_step lets_go g.behind ≡ false
 
--- What was seen since has no begin of a cycle,
-pub record BeginsNone (p q : PassState) : Type 0 where
+-- What was seen since has no step of this kind,
+pub record SeesNone (kind : Step → Bool) (p q : PassState) : Type 0 where
   pub more : List Event
   pub is : q.seen ≡ p.seen ++ more
-  pub none : has_step is_begin more ≡ false
+  pub none : has_step kind more ≡ false
 
--- or no close of one,
-pub record ClosesNone (p q : PassState) : Type 0 where
-  pub more : List Event
-  pub is : q.seen ≡ p.seen ++ more
-  pub none : has_step is_close more ≡ false
-
--- or only the end of one,
+-- or of cycles only the end of one,
 pub record EndsOnly (p q : PassState) : Type 0 where
   pub more : List Event
   pub is : q.seen ≡ p.seen ++ more
@@ -99,22 +91,22 @@ pub record MisfitsAtLast (p q : PassState) : Type 0 where
 
 -- It was granted, or else it misfits so.
 pub record IsPlacedOr (misfit : PassState → PassState → Type 0) (is_placed : Bool) (p q : PassState) : Type 0 where
-  pub placed : is_placed ≡ true → Seeks (Some answer.Done) p q
+  pub placed : is_placed ≡ true → Seeks (Some Answer.Done) p q
   pub misfits : is_placed ≡ false → misfit p q
 
 -- It was answered Full, and all allocations stay.
 pub record AnswersFull (p q : PassState) : Type 0 where
-  pub seeks : Seeks (Some answer.Full) p q
+  pub seeks : Seeks (Some Answer.Full) p q
   pub before : List Event
   pub behind : List Event
-  pub is : q.seen ≡ before ++ event_of p step.Full ∷ behind
+  pub is : q.seen ≡ before ++ event_of p Step.Full ∷ behind
   pub allocations : (world_of q).allocations ≡ (world_of p).allocations
   pub leaves : OwnLeaveAllButReleased p q
 
 -- what a New is answered, by the counts that come with Full
 abbrev pub answer_with : Option Census → Answer
-answer_with None = answer.Done
-answer_with (Some _) = answer.Full
+answer_with None = Answer.Done
+answer_with (Some _) = Answer.Full
 
 -- It was answered Full where its object misfits at last, and these are the counts of the pages there.
 pub record CountsFull (p q : PassState) (census : Census) : Type 0 where

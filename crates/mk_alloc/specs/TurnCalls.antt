@@ -1,17 +1,14 @@
 -- A call under the turn, in the history: a New, or a Free.
 use Rattle.std.specs.Prelude.{◌≡◌, ◌<◌, ◌↔◌, ℕ, Bool, true, List, [], ◌∷◌, ◌++◌, Some}
 use Rattle.mk_never.specs.declared.operations.Op.{Op}
-use Rattle.mk_core.specs.{declared.events.Answer.Answer, declared.events.Event.Event, Allocations.census_of_allocations}
-use Rattle.mk_core.specs.{Calls.at_rest, Decided.{entry_of, flagged}, Placement.FindsNoPlace}
 use Rattle.mk_geom.specs.declared.pages.Census.{Census}
+use Rattle.mk_core.specs.{declared.events.Answer.Answer, declared.events.Event.Event, Allocations.census_of_allocations}
+use Rattle.mk_core.specs.{Calls.at_rest, Decided.{entry_of, flagged}, Placement.FindsNoPlace, declared.events.Step.Step}
 use Rattle.mk_caller.specs.{Below.Words.States.{PassState, world_of, call_of, event_of}, Below.Words.Steps.Makes}
 use Rattle.mk_caller.specs.{Below.Words.TurnSteps.turn_stays, Below.Words.Doing.Does, Below.Words.Taking.TakesTurn}
-use Rattle.mk_alloc.specs.{Retired.kinds_for, Retiring.is_loading}
 use Rattle.mk_caller.specs.{States.{CallerState, caller_of_pass}, Called.{own_calls, IsDecidedIn}}
-use Rattle.mk_alloc.specs.{DueCycles.RunsIfDue, Leaving.OwnLeaveAllButReleased, TurnCycles.{EndsExactly, IsDueIn}}
-use Rattle.mk_never.specs.declared.operations.Op.TheVariants as op
-use Rattle.mk_core.specs.declared.events.Answer.TheVariants as answer
-use Rattle.mk_core.specs.declared.events.Step.TheVariants as step
+use Rattle.mk_alloc.specs.{Retired.kinds_for, Retiring.is_loading, Underway.RunsIfDue, Leaving.OwnLeaveAllButReleased}
+use Rattle.mk_alloc.specs.TurnCycles.{EndsExactly, IsDueIn}
 
 -- A caller may call so, with an engine that is made for this many pages: its pass is home, it exists, no other seat is
 -- in its pass, and its heap has so many pages.
@@ -29,7 +26,7 @@ pub record CalledInTurn (on : Bool) (p : PassState) (o : Op) (a : Answer) (q : P
   pub done : PassState
   pub takes : TakesTurn p (Some o) taken
   pub acts : Does turn_stays taken done
-  pub gives : Makes done step.Give q
+  pub gives : Makes done Step.Give q
   pub more : List Event
   pub is : q ≡ record p { seen = p.seen ++ more }
   pub entry : own_calls p (p.seen ++ more) ≡ own_calls p p.seen ++ entry_of (caller_of_pass p) o (Some a)
@@ -42,10 +39,10 @@ pub record CalledInTurn (on : Bool) (p : PassState) (o : Op) (a : Answer) (q : P
 -- No place was left, though a cycle was begun and ended in the call; the counts are those of that moment. The call
 -- itself left all registers and globals as they were, and all allocations but those that were released.
 pub record IsAnsweredFull (on : Bool) (p : PassState) (o : Op) (census : Census) (q : PassState) : Type 0 where
-  pub called : CalledInTurn on p o answer.Full q
+  pub called : CalledInTurn on p o Answer.Full q
   pub before : List Event
   pub behind : List Event
-  pub is : q.seen ≡ before ++ event_of p step.Full ∷ behind
+  pub is : q.seen ≡ before ++ event_of p Step.Full ∷ behind
   pub full : FindsNoPlace p.table.config before p.seat
   pub counts : census ≡ census_of_allocations p.table.config (world_of q).allocations
   pub leaves : OwnLeaveAllButReleased p q
@@ -53,7 +50,7 @@ pub record IsAnsweredFull (on : Bool) (p : PassState) (o : Op) (census : Census)
 -- The object was freed, or the register was null; and whether that was due. For a small object no gate was held, and
 -- for null nothing was stored but in the turn word. Then a cycle ran where it was due, and else nothing more was done.
 pub record FreesObject (on : Bool) (p : PassState) (r : ℕ) (due : Bool) (q : PassState) : Type 0 where
-  pub called : CalledInTurn on p (op.Free r) answer.Done q
+  pub called : CalledInTurn on p (Op.Free r) Answer.Done q
   pub is_due : (due ≡ true) ↔ IsDueIn called.ends.turn
   pub freed : PassState
   pub steps : Does (kinds_for called.taken r) called.taken freed
@@ -61,5 +58,5 @@ pub record FreesObject (on : Bool) (p : PassState) (r : ℕ) (due : Bool) (q : P
 
 -- The object was freed already. Nothing is stored but in the turn word.
 pub record IsAnsweredDouble (on : Bool) (p : PassState) (r : ℕ) (q : PassState) : Type 0 where
-  pub called : CalledInTurn on p (op.Free r) answer.Double q
+  pub called : CalledInTurn on p (Op.Free r) Answer.Double q
   pub only_looks : Does is_loading called.taken called.done

@@ -5,27 +5,25 @@ use Rattle.mk_core.specs.{declared.config.Config.Config, declared.events.Seat.Se
 use Rattle.mk_core.specs.{declared.events.Event.Event, declared.seats.Object.Object, Allocations.FitsAmongAllocations}
 use Rattle.mk_core.specs.{Counts.IsDue, Cycles.{At, TurnOf, BeginsIn, BeginsAndEndsIn, is_begin, is_end}, History.left}
 use Rattle.mk_core.specs.{NewPlaces.object_made, Words.phase_of}
-use Rattle.mk_never.specs.declared.operations.Op.TheVariants as op
-use Rattle.mk_core.specs.declared.events.Step.TheVariants as step
 
 -- kinds of step
 
 -- it is a `want`
 abbrev pub is_want : Step → Bool
-is_want step.Want = true
+is_want Step.Want = true
 is_want _ = false
 
 -- what keeps another caller from its next call
 abbrev pub is_hold : Step → Bool
-is_hold (step.Hold j) = true
+is_hold (Step.Hold j) = true
 is_hold _ = false
 
 -- what ends a cycle that is on
 abbrev pub finishes : Step → Bool
-finishes step.Want = true
-finishes step.Close = true
-finishes step.Release = true
-finishes step.End = true
+finishes Step.Want = true
+finishes Step.Close = true
+finishes Step.Release = true
+finishes Step.End = true
 finishes _ = false
 
 -- it begins, closes, releases or ends a cycle
@@ -34,13 +32,13 @@ is_of_cycle s = is_begin s || finishes s
 
 -- it is a `grant`
 abbrev pub is_grant : Step → Bool
-is_grant step.Grant = true
+is_grant Step.Grant = true
 is_grant _ = false
 
 -- what frees and releases are made by: a store to a quarantine word, and a `release`
 abbrev pub lets_go : Step → Bool
-lets_go step.Release = true
-lets_go (step.Quar p v) = true
+lets_go Step.Release = true
+lets_go (Step.Quar p v) = true
 lets_go _ = false
 
 -- one of these events has a step of this kind
@@ -49,7 +47,7 @@ has_step kind es = list_any (λ (e : Event). kind e.step) es
 
 -- the list up to this part of a turn, from the first event of all on
 abbrev pub within_turn : {c : Config} {s : Seat} {es : List Event} → TurnOf c s es → List Event → List Event
-within_turn {s = s} t part = t.before ++ record { seat = s; step = step.Take t.op } ∷ part
+within_turn {s = s} t part = t.before ++ record { seat = s; step = Step.Take t.op } ∷ part
 
 -- An event of the turn frees an object, and a free is due there.
 pub record IsDueIn {c : Config} {s : Seat} {es : List Event} (t : TurnOf c s es) : Type 0 where
@@ -99,8 +97,8 @@ pub record NewIsExact {c : Config} {s : Seat} {es : List Event} (t : TurnOf c s 
 
 -- The turn does with cycles just what its operation asks.
 abbrev pub CallIsExact : Bool → {c : Config} {s : Seat} {es : List Event} → TurnOf c s es → Option Op → Type 0
-CallIsExact on {c = c} t (Some (op.New d ty full)) = NewIsExact t (object_made c (op.New d ty full))
-CallIsExact on t (Some (op.Free p)) = FreeIsExact on t
+CallIsExact on {c = c} t (Some (Op.New d ty full)) = NewIsExact t (object_made c (Op.New d ty full))
+CallIsExact on t (Some (Op.Free p)) = FreeIsExact on t
 CallIsExact on t _ = ⊤
 
 -- After the list the seat is in a turn, which has done with cycles what its operation asks.
@@ -111,6 +109,6 @@ pub record EndsExactly (on : Bool) (c : Config) (s : Seat) (es : List Event) : T
 -- Each turn of the seat that is given back did so.
 abbrev pub TurnsOfAreExact : Bool → Config → Seat → List Event → Type 0
 TurnsOfAreExact on c s es =
-    (before : List Event) (e : Event) (behind : List Event) → es ≡ before ++ e ∷ behind → e.step ≡ step.Give → e.seat
+    (before : List Event) (e : Event) (behind : List Event) → es ≡ before ++ e ∷ behind → e.step ≡ Step.Give → e.seat
     ≡ s
     → EndsExactly on c s before

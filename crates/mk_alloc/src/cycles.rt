@@ -1,6 +1,6 @@
 //! The cycle that a free begins if one is due.
 ghost use Rattle.std.specs.Prelude.{◌≡◌};
-ghost use Rattle.mk_alloc.specs.DueCycles.{EndsOlder, RunsCycle, RunsIfDue};
+ghost use Rattle.mk_alloc.specs.Underway.{EndsOlder, RunsCycle, RunsIfDue};
 ghost use Rattle.mk_alloc.specs.Underway.{KeepsYet, MayRunCycle, PassKeeps};
 
 use crate::turns::is_cycle_on;

@@ -2,7 +2,8 @@
 ghost use Rattle.std.specs.Prelude.{◌≡◌, ℕ, ◌<◌, ◌==◌, true};
 ghost use Rattle.mk_core.specs.{Ranges.is_word, Words.{named_word, phase_of}};
 ghost use Rattle.mk_caller.specs.Below.Words.States.{call_of, now_of};
-ghost use Rattle.mk_alloc.specs.{Looking.{is_acting, is_steady_word}, Placing.OnlyLooks, Retiring.value_of};
+ghost use Rattle.mk_caller.specs.States.{value_of};
+ghost use Rattle.mk_alloc.specs.{Looking.{is_acting, is_steady_word}, Placing.OnlyLooks};
 
 use mk_caller::lower::words::{Turn, Words};
 use mk_core::{Phase, Word};

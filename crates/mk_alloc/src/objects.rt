@@ -5,7 +5,7 @@ ghost use Rattle.mk_core.specs.NewPlaces.{object_of, is_small_object, class_made
 ghost use Rattle.mk_core.specs.{NewPlaces.base_made, ObjectHeaders.{IsSized, words_made}};
 ghost use Rattle.mk_geom.specs.{Addresses.address_of, Classes.{class_words_of, run_pages_of}, Headers.IsInRange};
 ghost use Rattle.mk_geom.specs.Storages.{block_header, run_header};
-ghost use Rattle.mk_alloc.specs.Shapes.{object_shaped};
+ghost use Rattle.mk_alloc.specs.Placing.{object_shaped};
 
 use mk_geom::{
     HEAP_START, Header, PAGE_WORDS, Place, SMALL_WORDS, WORD_BYTES, cells, class_of, class_words,

@@ -3,7 +3,7 @@ ghost use Rattle.std.specs.Prelude.{◌≡◌, ◌==◌, true, false};
 ghost use Rattle.mk_core.specs.{Calls.d_of, Words.{header_at, phase_of}};
 ghost use Rattle.mk_caller.specs.{Below.Words.States.{call_of, now_of}, Below.Words.Sweeping.SweepsNothing};
 ghost use Rattle.mk_alloc.specs.Placing.{FitsNowhere, HasCarved, HeldIsExact, IsPlaced, IsServed, IsUnplaced, MayTake};
-ghost use Rattle.mk_alloc.specs.{Placing.{Requests, object_for}, Shapes.{MayServe, ShapeGoesTo, object_shaped}};
+ghost use Rattle.mk_alloc.specs.Placing.{MayServe, Requests, ShapeGoesTo, object_for, object_shaped};
 
 use crate::looking::{is_marking, look_at};
 use crate::objects::{Grant, Request, Shape, shape_of};

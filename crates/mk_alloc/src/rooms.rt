@@ -3,9 +3,8 @@ ghost use Rattle.std.specs.Prelude.{◌≡◌, false};
 ghost use Rattle.mk_caller.specs.{Below.Words.States.now_of, Below.Words.Sweeping.SweepsNothing};
 ghost use Rattle.mk_alloc.specs.Placing.{OnlyLooks};
 ghost use Rattle.mk_cycle.specs.{Begun.HoldsFirst, Closing.IsClosedBy, EngineLaw.IsAtPhase};
-ghost use Rattle.mk_core.specs.Effects.{cycle_ended};
-ghost use Rattle.mk_alloc.specs.Rooms.{BeginsNone, ClosesNone, EndsOnly, IsPlacedOr, Misfits, MisfitsAtLast};
-ghost use Rattle.mk_alloc.specs.Rooms.{MisfitsIdly};
+ghost use Rattle.mk_core.specs.{Cycles.{is_begin, is_close}, Effects.cycle_ended};
+ghost use Rattle.mk_alloc.specs.Rooms.{EndsOnly, IsPlacedOr, Misfits, MisfitsAtLast, MisfitsIdly, SeesNone};
 ghost use Rattle.mk_alloc.specs.{Rooms.{NeedsRoom, RunsOne, SeeksRoom}, Underway.PassKeeps};
 
 use crate::objects::Request;
@@ -22,8 +21,8 @@ pub(crate) fn try_place(words: &Words, turn: &mut Turn, request: Request) -> boo
     requires { SeeksRoom words.now turn.old.pass request }
     ensures tried { IsPlacedOr Misfits result turn.old.pass turn.new.pass }
     ensures looks { result ≡ false → OnlyLooks turn.old.pass turn.new.pass }
-    ensures begins { BeginsNone turn.old.pass turn.new.pass }
-    ensures closes { ClosesNone turn.old.pass turn.new.pass }
+    ensures begins { SeesNone is_begin turn.old.pass turn.new.pass }
+    ensures closes { SeesNone is_close turn.old.pass turn.new.pass }
     ensures reached { SweepsNothing turn.old.pass turn.new.pass }
 {
     place_object(words, turn, request)
@@ -66,7 +65,7 @@ fn place_behind_older<E: Engine, R: Threads + Wait + Sync>(
     requires needs { NeedsRoom words.now (E.made_for engine.old) turn.pass request }
     ensures made_for { E.made_for engine.new ≡ E.made_for engine.old }
     ensures tried { IsPlacedOr MisfitsIdly result.1 turn.pass result.0.pass }
-    ensures begins { BeginsNone turn.pass result.0.pass }
+    ensures begins { SeesNone is_begin turn.pass result.0.pass }
     ensures keeps { PassKeeps E.ways turn.pass result.0.pass }
 {
     let mut turn = turn;

@@ -4,8 +4,9 @@ ghost use Rattle.mk_never.specs.declared.values.Value.TheVariants.{Null};
 ghost use Rattle.mk_core.specs.{NewPlaces.target, Bits.has_bit, Cells.{header_in, heads_run, is_freed}};
 ghost use Rattle.mk_core.specs.{Moments.others_are_held, Words.{header_at, named_word}};
 ghost use Rattle.mk_caller.specs.Below.Words.States.{call_of, now_of};
-ghost use Rattle.mk_alloc.specs.{Deciding.MayFreeOn, Placing.OnlyLooks, Dues.FreesOnce, Retiring.{HasFreed, HasLoaded}};
-ghost use Rattle.mk_alloc.specs.Retiring.{HasSeen, IsLoaded, IsUnloaded, KeepsValues, value_of};
+ghost use Rattle.mk_caller.specs.States.{value_of};
+ghost use Rattle.mk_alloc.specs.{Deciding.{FreesOnce, MayFreeOn}, Placing.OnlyLooks, Retiring.{HasFreed, HasLoaded}};
+ghost use Rattle.mk_alloc.specs.Retiring.{HasSeen, IsLoaded, IsUnloaded, KeepsValues};
 ghost use Rattle.mk_core.specs.declared.events.Word.TheVariants as word;
 
 use crate::looking::look_at;

@@ -1,8 +1,7 @@
 //! The words of the run of a large object that a Free has freed and unmapped are wiped. Most are 0 already, so those of
 //! a group are looked at together first. A word that is 0 isn't stored to.
 ghost use Rattle.std.specs.Prelude.{◌≡◌, ◌+◌, ◌*◌, ◌<◌, true};
-ghost use Rattle.mk_alloc.specs.{FreeParts.Wipes, Unmapping.{MayWipe, MayWipeFrom, MayWipeGroup, MayWipeGroups}};
-ghost use Rattle.mk_alloc.specs.Unmapping.{WipesTo};
+ghost use Rattle.mk_alloc.specs.FreeParts.{MayWipe, MayWipeFrom, MayWipeGroup, MayWipeGroups, Wipes, WipesTo};
 
 use mk_caller::lower::words::{Turn, Words};
 use mk_core::{RunPages, Word};
@@ -47,7 +46,8 @@ fn wipe_words(words: &Words, turn: &mut Turn, pages: u64, run: RunPages, part: u
 {
     words.is_within_limits();
     let first = GROUP * group;
-    for word in first..first + GROUP {
+    for i in 0..GROUP {
+        let word = first + i;
         let at = Word::Heap(PAGE_WORDS * run.page + word);
         let found = turn.look_on_page(words, pages, run.page + part, at);
         if found != 0 {

@@ -4,9 +4,17 @@ use Rattle.mk_laws.proofs.Vocabulary.{Op, Progress, Step, ℕ, ap, append-nil, a
 use Rattle.mk_laws.proofs.Vocabulary.{caller_number, comes_next, flagged, group_of, is_in_range, never_behind, refl}
 use Rattle.mk_laws.proofs.Vocabulary.{subst, sym, true, [], ◌++◌, ◌<◌, ◌∙◌, ◌∷◌, ◌≡◌}
 use Rattle.mk_heap.specs.Below.Words.Steps.{Goes, IsAdmittedTo, IsEnabledTo, Makes}
-use Rattle.mk_heap.specs.Below.Words.States.{PassState, WordsState, event_of}
+use Rattle.mk_heap.specs.Below.Words.States.{PassState, WordsState, call_of, event_of}
 use Rattle.mk_clients.proofs.{Admitting.op_step, Enabling.call_step}
-use Rattle.mk_clients.specs.Clients.{IsCallers, IsMidCall, StaysAdmitted}
+use Rattle.mk_clients.specs.Clients.{IsCallers, StaysAdmitted}
+
+-- A caller is in a call of the operation, which is here, and stays admitted.
+pub record IsMidCall (p : PassState) (o : Op) (f : Flight) : Type 0 where
+  pub number : ℕ
+  pub seat : p.seat ≡ Caller number
+  pub within : number < p.table.config.callers
+  pub call : call_of p ≡ f
+  pub admitted : StaysAdmitted p o
 
 behind : (p : PassState) (others : List Event) (e : Event) (o : Op) → StaysAdmitted p o
     → StaysAdmitted (record p { seen = p.seen ++ others ++ e ∷ [] }) o

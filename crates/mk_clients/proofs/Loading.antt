@@ -16,8 +16,7 @@ use Rattle.mk_heap.specs.Below.Callers.States.{Admits, caller_of_pass, never_of,
 use Rattle.mk_heap.specs.{Below.Callers.Called.Called, Below.Callers.declared.refusals.Refusal.Refusal}
 use Rattle.mk_heap.specs.Below.Words.States.{PassState}
 use Rattle.mk_clients.proofs.Between.{at_once, before, between, never_later, never_there, none_between, picked, place}
-use Rattle.mk_clients.proofs.Between.{same_config, same_number}
-use Rattle.mk_clients.specs.Setters.{IsOnlyStore, is_store}
+use Rattle.mk_clients.{proofs.Between.{same_config, same_number}, specs.Setters.{IsOnlyStore, is_store}}
 
 -- Calls that don't store store to no word.
 stores_nothing : (n : NeverState) (k : ℕ) (o : Op) (number at : ℕ) → is_store o ≡ false → StoresTo n k o number at → ⊥

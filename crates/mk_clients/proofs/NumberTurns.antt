@@ -1,8 +1,7 @@
 -- The New of a number, from its call.
 use Rattle.std.proofs.Common.{ltb-false}
 use Rattle.mk_heap.proofs.Below.Objects.Vocabulary.{CalledInTurn, PassState}
-use Rattle.mk_clients.proofs.OwnedCalls.{granted}
-use Rattle.mk_clients.specs.Owned.{HasNumber}
+use Rattle.mk_clients.{proofs.OwnedCalls.{granted}, specs.Owned.{HasNumber}}
 use Rattle.mk_laws.proofs.Vocabulary.{Answer, Bool, IsHistory, Kind, List, Number, Op, ℕ, arith, false, get_or_past}
 use Rattle.mk_laws.proofs.Vocabulary.{kinds_of, length, ltb-true, [], ◌<◌, ◌∷◌, ◌≡◌}
 

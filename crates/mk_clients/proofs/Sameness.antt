@@ -5,10 +5,9 @@ use Rattle.mk_laws.proofs.Vocabulary.{global_at, inl, inr, is_same, never_behind
 use Rattle.mk_laws.proofs.{Vocabulary.{◌<◌, ◌∙◌, ◌≡◌, ◌≢◌}, OtherCalls.never_continues}
 use Rattle.mk_never.{proofs.Sameness.{same_from_equal}, specs.Admitted.{IsCaller}}
 use Rattle.mk_heap.proofs.Below.Callers.After.{caller_there, calls_leave_other_registers, set_same, still_caller}
-use Rattle.mk_heap.proofs.Below.Callers.After.{value_left}
+use Rattle.mk_heap.{proofs.Below.Callers.After.{value_left}, specs.Below.Words.declared.call_steps.Held.{Held}}
 use Rattle.mk_heap.specs.Below.Callers.States.{Admits, caller_of_pass, never_of, value_of}
 use Rattle.mk_heap.specs.{Below.Callers.Called.{Called, IsAnswered}, Below.Words.States.PassState}
-use Rattle.mk_heap.specs.Below.Words.declared.call_steps.Held.{Held}
 use Rattle.mk_clients.proofs.Between.{at_once, before, between, decided, never_later, never_there, none_between, place}
 use Rattle.mk_clients.proofs.{Between.same_config, Globals.{calls_keep, set_gives}}
 use Rattle.mk_clients.specs.Setters.{HasSeenAllOf, IsOnlySetter, TakesOut, is_set_of}

@@ -1,15 +1,14 @@
 -- What the clients ask of a pass and of a turn, and keep.
 use Rattle.std.specs.Prelude.{slice_index, ◌≢◌, ◌≡◌, ℕ, ◌<◌, ◌≤◌, ◌+◌, ◌*◌, true, false, Some, None, List, ◌++◌}
 use Rattle.mk_never.specs.{declared.operations.Op.Op, Admitted.IsAdmitted}
+use Rattle.mk_geom.specs.Addresses.{heap_word_at}
 use Rattle.mk_core.specs.{declared.events.Event.Event, Accesses.caller_number, History.{IsHistory, never_behind}}
 use Rattle.mk_core.specs.{declared.events.Seat.TheVariants.{Caller, Marker, Host}, Calls.at_rest, Counts.TalliesAreTidy}
 use Rattle.mk_core.specs.{Words.phase_of, Ranges.has_phase, Moments.{none_is_held, outside, is_held}}
 use Rattle.mk_core.specs.{StopConditions.is_attending, Order.host_has_turn, TurnConditions.held_by_pages}
-use Rattle.mk_core.specs.declared.seats.Flight.{Flight}
+use Rattle.mk_core.specs.declared.events.Step.{Step}
 use Rattle.mk_heap.specs.{Below.Words.Markers.marker_in, Below.Words.CallSteps.register_of}
 use Rattle.mk_heap.specs.Below.Words.States.{PassState, now_of, call_of}
-use Rattle.mk_geom.specs.Addresses.{heap_word_at}
-use Rattle.mk_core.specs.declared.events.Step.TheVariants as step
 
 -- a caller's pass, with no call in flight
 pub record IsCallers (p : PassState) : Type 0 where
@@ -27,7 +26,7 @@ pub record IsHosts (p : PassState) : Type 0 where
 pub record MayGiveBack (p : PassState) : Type 0 where
   pub seat : p.seat ≡ Host
   pub gates : none_is_held p.table.config.callers (now_of p).words ≡ true
-  pub phase : has_phase (phase_of (now_of p).words) step.Give ≡ true
+  pub phase : has_phase (phase_of (now_of p).words) Step.Give ≡ true
   pub freed : (now_of p).seats.holding.freed ≡ None
   pub held : (now_of p).words.held ≡ held_by_pages (now_of p).words
   pub fresh : (now_of p).words.fresh ≡ (now_of p).fresh_words
@@ -57,14 +56,6 @@ pub record IsAttending (p : PassState) : Type 0 where
 abbrev pub IsAt : PassState → ℕ → ℕ → ℕ → ℕ → Type 0
 IsAt p page k next end = (marker_in p).scan ≡ Some (record { page = page; index = k; next = next; end = end })
 
--- A caller is in a call of the operation, which is here, and stays admitted.
-pub record IsMidCall (p : PassState) (o : Op) (f : Flight) : Type 0 where
-  pub number : ℕ
-  pub seat : p.seat ≡ Caller number
-  pub within : number < p.table.config.callers
-  pub call : call_of p ≡ f
-  pub admitted : StaysAdmitted p o
-
 -- The caller's register has a heap address, and the word i words on is one of the heap.
 pub record PointsWell (p : PassState) (q i : ℕ) : Type 0 where
   pub least : 65536 ≤ register_of p q
@@ -73,7 +64,7 @@ pub record PointsWell (p : PassState) (q i : ℕ) : Type 0 where
 -- what `give` asks of the host's turn but for the gates
 pub record Settled (p : PassState) : Type 0 where
   pub seat : p.seat ≡ Host
-  pub phase : has_phase (phase_of (now_of p).words) step.Give ≡ true
+  pub phase : has_phase (phase_of (now_of p).words) Step.Give ≡ true
   pub freed : (now_of p).seats.holding.freed ≡ None
   pub held : (now_of p).words.held ≡ held_by_pages (now_of p).words
   pub fresh : (now_of p).words.fresh ≡ (now_of p).fresh_words

@@ -1,10 +1,10 @@
 -- A number that is a caller's own: no other caller can get to its object.
 use Rattle.std.specs.Prelude.{◌≡◌, ℕ, ◌+◌, ◌*◌, ◌<◌, ◌≤◌, false, length, slice_index_or}
 use Rattle.mk_never.specs.{declared.values.Value.Value, declared.values.Value.TheVariants.{Null, Ptr}}
-use Rattle.mk_never.specs.{Admitted.{IsCaller, IsNumber}, NeverHeap.words_of, Reach.LeadsTo, Types.kinds_of}
-use Rattle.mk_heap.specs.{Below.Words.States.PassState, Below.Callers.States.{never_of, caller_of_pass, value_of}}
+use Rattle.mk_never.specs.{Admitted.{IsCaller, IsNumber}, NeverHeap.{words_of, NeverState, allocation_at, global_at}}
+use Rattle.mk_never.specs.{NeverHeap.{number_of as number_in, register_at, word_at}, Reach.LeadsTo, Types.kinds_of}
 use Rattle.mk_never.specs.declared.types.Kind.TheVariants.{Num as Number}
-use Rattle.mk_never.specs.NeverHeap.{NeverState, allocation_at, global_at, number_of as number_in, register_at, word_at}
+use Rattle.mk_heap.specs.{Below.Words.States.PassState, Below.Callers.States.{never_of, caller_of_pass, value_of}}
 
 -- The register, among those of all callers, is one of this caller's eight.
 abbrev pub IsRegisterOf : ℕ → ℕ → Type 0

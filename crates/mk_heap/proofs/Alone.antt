@@ -1,18 +1,17 @@
 -- A heap of one caller: all calls are its own, so it is known what the heap that never reuses storage replied to them.
 use Rattle.mk_alloc.proofs.Below.Laws.Vocabulary.{AreAdmitted, Answer, Bool, Caller, Config, Decided, Event, IsAdmitted}
-use Rattle.mk_alloc.proofs.Below.Laws.Vocabulary.{IsHistory, List, NeverState, Null, Op, Some, after_calls}
-use Rattle.mk_alloc.proofs.Below.Laws.Vocabulary.{answer_of, answered, ap, append-nil, arith, asked, bases_of, calls}
-use Rattle.mk_alloc.proofs.Below.Laws.Vocabulary.{calls_from, entry_of, eq-eqb, false, if◌then◌else◌, left, length}
-use Rattle.mk_alloc.proofs.Below.Laws.Vocabulary.{map, never_behind, refl, replies_of, subst, sym, true, ℕ, []}
-use Rattle.mk_alloc.proofs.Below.Laws.Vocabulary.{◌*◌, ◌++◌, ◌+◌, ◌<◌, ◌==◌, ◌∙◌, ◌∷◌, ◌≡◌}
+use Rattle.mk_alloc.proofs.Below.Laws.Vocabulary.{IsHistory, List, NeverState, Null, Op, Some, after_calls, answer_of}
+use Rattle.mk_alloc.proofs.Below.Laws.Vocabulary.{answered, ap, append-nil, arith, asked, bases_of, calls, calls_from}
+use Rattle.mk_alloc.proofs.Below.Laws.Vocabulary.{entry_of, eq-eqb, false, if◌then◌else◌, left, length, map}
+use Rattle.mk_alloc.proofs.Below.Laws.Vocabulary.{never_behind, refl, replies_of, subst, sym, true, ℕ, [], ◌*◌, ◌++◌}
+use Rattle.mk_alloc.proofs.{Below.Laws.Vocabulary.{◌+◌, ◌<◌, ◌∙◌, ◌∷◌, ◌≡◌}, Below.Callers.OwnSteps.calls_by}
+use Rattle.mk_alloc.proofs.Below.Laws.Promises.{histories_keep_all_promises}
 use Rattle.std.proofs.{Common.{Err, IfErr, Ok, OnOk, Result}, lemmas.List.length-replicate}
-use Rattle.mk_never.proofs.Later.{op_stays}
-use Rattle.mk_alloc.proofs.Below.{Callers.OwnSteps.calls_by, Laws.Promises.histories_keep_all_promises}
+use Rattle.mk_never.{proofs.Later.{op_stays}, specs.NeverHeap.{after_op}}
 use Rattle.mk_alloc.specs.{Below.Callers.Called.own_calls, Below.Callers.States.{Admits, CallerState, IsAtHome}}
 use Rattle.mk_alloc.specs.{Below.Callers.States.{caller_of_pass, never_of}, Below.Words.States.{PassState, WordsState}}
 use Rattle.mk_alloc.specs.{TurnCalls.{CalledInTurn, IsAnsweredFull, MayTakeTurns}, declared.making.Full.Full}
 use Rattle.mk_core.specs.History.{never_first}
-use Rattle.mk_never.specs.NeverHeap.{after_op}
 use Rattle.mk_heap.specs.{Dispatching.{Answers, MakesNoCall, StaysAdmitted}, Hosts.{HostState, first_host, pass_for}}
 
 all_own : (globals : List ℕ) (n : NeverState) (xs : List Decided) → length n.registers ≡ 8

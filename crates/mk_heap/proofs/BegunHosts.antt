@@ -1,13 +1,11 @@
 -- What the engine does after each `begin` of the host's.
 use Rattle.std.proofs.Common.{⊎_elim}
 use Rattle.mk_alloc.proofs.Below.Laws.Vocabulary.{Config, Event, List, None, Seat, Step, Word, ap, arith, false, refl}
-use Rattle.mk_alloc.proofs.Below.Laws.Vocabulary.{subst, sym, ◌∙◌, ◌≡◌}
-use Rattle.mk_alloc.proofs.Below.Cycles.Begun.{begun_then, does_begin_none}
-use Rattle.mk_alloc.proofs.Below.Cycles.Begun.{finish_begins_none, has_on, left_then, step_begins_none}
-use Rattle.mk_alloc.proofs.Below.Cycles.HeldFirst.{finish_holds}
+use Rattle.mk_alloc.{proofs.Below.Laws.Vocabulary.{subst, sym, ◌∙◌, ◌≡◌}, proofs.Below.Words.Unswept.{taking_sweeps}}
+use Rattle.mk_alloc.proofs.Below.Cycles.Begun.{begun_then, does_begin_none, finish_begins_none, has_on, left_then}
+use Rattle.mk_alloc.proofs.{Below.Cycles.Begun.step_begins_none, Below.Cycles.HeldFirst.finish_holds}
 use Rattle.mk_alloc.proofs.Below.Words.Sweeping.{only_seen, only_seen_by, other_step_sweeps, others_sweep}
 use Rattle.mk_alloc.proofs.{Below.Words.Sweeping.{step_then_sweeps, sweeps_then}, Below.Words.TakesAlone.taking_does}
-use Rattle.mk_alloc.proofs.Below.Words.Unswept.{taking_sweeps}
 use Rattle.mk_alloc.specs.{Below.Cycles.BeginCycle.BeginsCycle, Below.Cycles.Begun.{EachIsBegun, EachIsBegunYet}}
 use Rattle.mk_alloc.specs.{Below.Cycles.EngineLaw.IsAtPhase, Below.Cycles.FinishCycle.FinishesCycle}
 use Rattle.mk_alloc.specs.{Below.Words.Sweeping.{SweepsNothing, is_mark}, Below.Words.Taking.{TakesTurn, is_take}}
@@ -51,11 +49,10 @@ module _ (begins : Config → Seat → List Event → List Event → Type 0) whe
   -- and an `over`, which begins none
   pub over_begun : (p q : PassState) → SaysOver p q → EachIsBegun begins p q
   over_begun p q over =
-      let takes : TakesIdleTurn p over.idle = record { taken = over.taken; takes = over.takes; ends = over.ends } in
-      let same = idle_same takes in
+      let same = idle_same over.idles in
       let same_said = only_seen_by over.idle over.said Step.Over over.says in
-      let own_idle = has_on p over.idle same (taken_own over.takes) in
-      begun_then begins p over.idle q same (idle_begun takes) (begun_then begins over.idle over.said q same_said
+      let own_idle = has_on p over.idle same (taken_own over.idles.takes) in
+      begun_then begins p over.idle q same (idle_begun over.idles) (begun_then begins over.idle over.said q same_said
       (step_begins_none begins over.idle over.said Step.Over own_idle over.says refl)
       (step_begins_none begins over.said q Step.Give (has_on over.idle over.said same_said own_idle) over.gives refl))
 

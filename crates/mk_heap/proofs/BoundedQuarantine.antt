@@ -2,9 +2,8 @@
 use Rattle.std.proofs.Common.{⊎_elim}
 use Rattle.mk_alloc.proofs.Below.Laws.Vocabulary.{AreOfOthers, Bool, Caller, Config, Event, Host, IsHistory, List, Seat}
 use Rattle.mk_alloc.proofs.Below.Laws.Vocabulary.{is_one_of, subst, sym, true, true≢false, ℕ, [], ◌<◌, ◌∙◌, ◌∷◌, ◌≡◌}
-use Rattle.mk_alloc.proofs.Below.Laws.Vocabulary.{false}
-use Rattle.mk_alloc.proofs.{Bounds.quarantines_are_bounded, EndedCycles.{others_at, others_behind}}
-use Rattle.mk_alloc.proofs.ListParts.{InFirst, InSecond, stands}
+use Rattle.mk_alloc.proofs.{Below.Laws.Vocabulary.false, Bounds.quarantines_are_bounded}
+use Rattle.mk_alloc.proofs.{EndedCycles.{others_at, others_behind}, ListParts.{InFirst, InSecond, stands}}
 use Rattle.mk_alloc.specs.{Bounds.{HostBeginsLast, QuarantineIsBounded}, TurnCycles.TurnsOfAreExact}
 use Rattle.mk_heap.specs.HostTurns.{HostComesLast}
 

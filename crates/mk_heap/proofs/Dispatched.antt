@@ -1,20 +1,18 @@
 -- A caller makes one call more, or finds its gate held, and what is known then.
 use Rattle.std.specs.List.{list_all}
-use Rattle.mk_alloc.proofs.Below.Laws.Vocabulary.{Answer, Bool, Event, KeepsRegisters, List, Op, Seat, Stage}
-use Rattle.mk_alloc.proofs.Below.Laws.Vocabulary.{Step, ℕ, and_from, ap, append-nil, arith, false, flagged}
-use Rattle.mk_alloc.proofs.Below.Laws.Vocabulary.{is_under_turn, length, map, refl, subst, sym, true, true≢false, []}
-use Rattle.mk_alloc.proofs.Below.Laws.Vocabulary.{◌&&◌, ◌++◌, ◌<◌, ◌∙◌, ◌∷◌, ◌≡◌}
+use Rattle.mk_alloc.proofs.Below.Laws.Vocabulary.{Answer, Bool, Event, KeepsRegisters, List, Op, Seat, Stage, Step, ℕ}
+use Rattle.mk_alloc.proofs.Below.Laws.Vocabulary.{and_from, ap, append-nil, arith, false, flagged, is_under_turn}
+use Rattle.mk_alloc.proofs.Below.Laws.Vocabulary.{length, map, refl, subst, sym, true, true≢false, [], ◌&&◌, ◌++◌, ◌<◌}
+use Rattle.mk_alloc.{proofs.Below.Laws.Vocabulary.{◌∙◌, ◌∷◌, ◌≡◌}, specs.Below.Words.States.{PassState, world_of}}
 use Rattle.mk_alloc.proofs.ExactTurns.{stay_exact_behind_calls, stay_exact_behind_turns, stay_exact_where_held}
 use Rattle.mk_alloc.proofs.{FinishedCycles.unbegun_finished, Parts.seen_then, SaidCloses.kinds_close_none}
-use Rattle.mk_alloc.proofs.UnsweptTurns.{keeps_then}
-use Rattle.mk_alloc.proofs.Below.Cycles.Begun.{kinds_begin_none}
+use Rattle.mk_alloc.proofs.{UnsweptTurns.keeps_then, Below.Cycles.Begun.kinds_begin_none}
 use Rattle.mk_alloc.proofs.Below.Words.Doing.{does_step, done_in_parts, of_kinds_in_parts}
 use Rattle.mk_alloc.proofs.{Below.Words.Made.own_before, Below.Words.Seats.has_first, Below.Words.Sweeping.kinds_sweep}
 use Rattle.mk_alloc.specs.{Below.Callers.Called.{Called, own_calls, stages_made, step_at}, TurnCalls.CalledInTurn}
 use Rattle.mk_alloc.specs.{Below.Callers.Causes.FindsGateHeld, Below.Callers.States.{Admits, CallerState}}
 use Rattle.mk_alloc.specs.{Below.Callers.States.{caller_of_pass, never_of}, Below.Words.Doing.{are_of, done_in}}
-use Rattle.mk_alloc.specs.Below.Cycles.Ways.{Ways}
-use Rattle.mk_alloc.specs.{Below.Words.Seats.Has, Underway.PassKeeps, Below.Words.States.{PassState, world_of}}
+use Rattle.mk_alloc.specs.{Below.Cycles.Ways.Ways, Below.Words.Seats.Has, Underway.PassKeeps}
 use Rattle.mk_never.proofs.Later.{calls_stay}
 use Rattle.mk_core.specs.Growing.{Finding, own_from}
 use Rattle.mk_heap.specs.Dispatching.{Answers, IsCalled, IsPutOff, MakesNoCall, StaysAdmitted, StaysBeside, as_told}

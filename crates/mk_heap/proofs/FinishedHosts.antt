@@ -1,13 +1,11 @@
 -- Each cycle that the host begins is finished at once.
 use Rattle.mk_alloc.proofs.Below.Laws.Vocabulary.{Step, ap, false, refl, ◌∙◌}
 use Rattle.mk_alloc.proofs.Below.Cycles.Begun.{finish_begins_none, has_on, step_begins_none}
-use Rattle.mk_alloc.proofs.Below.Words.Sweeping.{only_seen}
-use Rattle.mk_alloc.proofs.FinishedCycles.{Never, begun_and_finished, finished_then, unbegun_finished}
+use Rattle.mk_alloc.proofs.{Below.Words.Sweeping.only_seen, FinishedCycles.{Never, begun_and_finished, finished_then}}
+use Rattle.mk_alloc.{proofs.FinishedCycles.{unbegun_finished}, specs.{Below.Words.Steps.Makes, Closes.EachIsFinished}}
 use Rattle.mk_alloc.specs.{Below.Cycles.BeginCycle.BeginsCycle, Below.Cycles.Closing.IsClosedBy}
 use Rattle.mk_alloc.specs.{Below.Cycles.FinishCycle.FinishesCycle, Below.Words.States.PassState}
-use Rattle.mk_alloc.specs.{Below.Words.Steps.Makes, Closes.EachIsFinished}
-use Rattle.mk_heap.proofs.{BegunHosts.idle_begun, MovedHosts.{idle_moves, taken_own}}
-use Rattle.mk_heap.specs.Ending.{TakesIdleTurn}
+use Rattle.mk_heap.{proofs.{BegunHosts.idle_begun, MovedHosts.{idle_moves, taken_own}}, specs.Ending.{TakesIdleTurn}}
 
 pub cycle_finished : {V : Type 0} (closes : V → PassState → PassState → Type 0) (engine : V)
     {p idle begun ended q : PassState} → TakesIdleTurn p idle → BeginsCycle idle begun → FinishesCycle begun ended

@@ -70,7 +70,7 @@ begins_one b =
 cycle_begins : {p q : PassState} → Has p.seats Host → HasCallers p.table.config p.seats → MakesCycle p q → Begins 1 p q
 cycle_begins {p} {q} host callers m =
     let finish = ends m in
-    begins_then 1 q (begins_none p m.idle (idle_unbegun host callers m.takes m.ends (h_idle m)))
+    begins_then 1 q (begins_none p m.idle (idle_unbegun host callers m.idles.takes m.idles.ends (h_idle m)))
     (begins_then 0 q (begins_one (begins_in m)) (begins_then 0 q
     (begins_none m.begun m.ended (record { more = finish.more; is = finish.is; none = finish.begins_none }))
     (begins_none m.ended q (unbegun_made q Step.Give (t_ended m) refl m.gives))))

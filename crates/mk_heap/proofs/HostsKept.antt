@@ -8,10 +8,9 @@ use Rattle.mk_alloc.proofs.Below.Laws.Vocabulary.{lt-ltb, ltb-true, marker_at, n
 use Rattle.mk_alloc.proofs.Below.Laws.Vocabulary.{true, [], ◌++◌, ◌+◌, ◌<◌, ◌∙◌, ◌∷◌, ◌≡◌, ◌≤◌}
 use Rattle.mk_alloc.proofs.{Below.Laws.ProtocolFrames.others_leave, Below.Words.Seats.{has_all, has_either, has_left}}
 use Rattle.mk_alloc.proofs.Below.Words.Seats.{only_one, others_append, others_none, others_own, without_keeps}
-use Rattle.mk_alloc.proofs.Below.Words.Seats.{without_less}
-use Rattle.mk_alloc.proofs.{Below.Words.LongerLists.longer_lists, Below.Words.Owed.history_more}
+use Rattle.mk_alloc.proofs.{Below.Words.Seats.without_less, Below.Words.LongerLists.longer_lists}
+use Rattle.mk_alloc.{proofs.Below.Words.Owed.{history_more}, specs.Below.Words.States.{PassState, WordsState, now_of}}
 use Rattle.mk_alloc.specs.{Below.Callers.States.IsIdleCaller, Below.Words.Seats.{Has, HasAll}}
-use Rattle.mk_alloc.specs.Below.Words.States.{PassState, WordsState, now_of}
 use Rattle.mk_core.proofs.{Conditions.meets_enabled, Histories.last_enabled}
 use Rattle.mk_core.specs.{Growing.{AreOfOthers, Grows}, History.left_from}
 use Rattle.atomic_table.specs.Seated.{TableId}

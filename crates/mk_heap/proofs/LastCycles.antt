@@ -3,13 +3,12 @@
 use Rattle.mk_alloc.proofs.Below.Laws.Vocabulary.{AreOfOthers, Caller, Config, Cycle, Event, Host, IsHistory, List}
 use Rattle.mk_alloc.proofs.Below.Laws.Vocabulary.{None, Seat, Step, TurnOf, World, ℕ, ap, append-nil, append_assoc}
 use Rattle.mk_alloc.proofs.Below.Laws.Vocabulary.{arith, is_begin, is_close, left, refl, subst, sym, [], ◌++◌, ◌<◌, ◌∙◌}
-use Rattle.mk_alloc.proofs.Below.Laws.Vocabulary.{◌∷◌, ◌≡◌}
-use Rattle.mk_alloc.proofs.ListParts.{Lacks, IsAt, lacks_append, lacks_first, lacks_second, only_at}
-use Rattle.mk_alloc.proofs.CycleParts.{finish_does, finish_in, BeginIn, FinishIn, begin_does, begin_in, begins_held}
-use Rattle.mk_alloc.proofs.Parts.{has_then, history_before, in_turn_then, others_lack, seen_behind}
+use Rattle.mk_alloc.proofs.{Below.Laws.Vocabulary.{◌∷◌, ◌≡◌}, ListParts.{Lacks, IsAt, lacks_append, lacks_first}}
+use Rattle.mk_alloc.proofs.{ListParts.{lacks_second, only_at}, CycleParts.{finish_does, finish_in, BeginIn, FinishIn}}
+use Rattle.mk_alloc.proofs.{CycleParts.{begin_does, begin_in, begins_held}, Parts.{has_then, history_before}}
+use Rattle.mk_alloc.{proofs.Parts.{in_turn_then, others_lack, seen_behind}, proofs.Below.Words.Made.{pass_before}}
 use Rattle.mk_alloc.proofs.{Below.Words.Seats.{others_append, others_none}, OwnGives.{GivesNone, doing_gives}}
 use Rattle.mk_alloc.proofs.{OwnGives.{gives_append, others_give}, Below.Words.Doing.does_then}
-use Rattle.mk_alloc.proofs.Below.Words.Made.{pass_before}
 use Rattle.mk_alloc.specs.{Below.Words.Seats.{Has, HasCallers}, Below.Words.States.{PassState, IsTurn, event_of}}
 use Rattle.mk_alloc.specs.{Below.Words.TurnSteps.turn_stays, Below.Cycles.Telling.IsToldAtClose, Below.Words.Doing.Does}
 use Rattle.mk_heap.proofs.MovedHosts.{turn_moves, MovesOn, moves_does, moves_more}
@@ -21,7 +20,7 @@ use Rattle.mk_core.specs.Growing.{is_same_seat}
 
 module _ {p q : PassState} (m : MakesCycle p q) where
   abbrev taken : PassState
-  taken = m.taken
+  taken = m.idles.taken
 
   abbrev idle : PassState
   idle = m.idle
@@ -33,13 +32,13 @@ module _ {p q : PassState} (m : MakesCycle p q) where
   ended = m.ended
 
   taken_moves : MovesOn p taken
-  taken_moves = turn_moves p taken m.takes
+  taken_moves = turn_moves p taken m.idles.takes
 
   d_idle : Does turn_stays taken idle
-  d_idle = to_idle m.takes m.ends
+  d_idle = to_idle m.idles.takes m.idles.ends
 
   own_idle : Has idle.seats idle.seat
-  own_idle = idle_own m.takes m.ends
+  own_idle = idle_own m.idles.takes m.idles.ends
 
   d_begun : Does turn_stays idle begun
   d_begun = finish_stays (begin_does idle begun own_idle m.begins)
@@ -66,7 +65,7 @@ module _ {p q : PassState} (m : MakesCycle p q) where
   h_idle = history_before turn_stays idle begun d_begun h_begun
 
   t_idle : IsTurn idle
-  t_idle = idle_turn m.takes m.ends h_idle
+  t_idle = idle_turn m.idles.takes m.idles.ends h_idle
 
   t_begun : IsTurn begun
   t_begun = in_turn_then turn_stays idle begun stays t_idle d_begun h_begun
@@ -110,13 +109,13 @@ module _ {p q : PassState} (m : MakesCycle p q) where
   -- the turn
 
   abbrev before_take : List Event
-  before_take = m.takes.waited.seen ++ m.takes.takes.makes.others
+  before_take = m.idles.takes.waited.seen ++ m.idles.takes.takes.makes.others
 
   abbrev take_event : Event
   take_event = record { seat = p.seat; step = Step.Take None }
 
   taken_is : taken.seen ≡ before_take ++ take_event ∷ []
-  taken_is = cc (m.takes.takes.makes.is, ap (λ (r : PassState). r.seat) m.takes.waits.is)
+  taken_is = cc (m.idles.takes.takes.makes.is, ap (λ (r : PassState). r.seat) m.idles.takes.waits.is)
 
   goes_on : GivesNone p.seat inside
   goes_on =
@@ -139,8 +138,8 @@ module _ {p q : PassState} (m : MakesCycle p q) where
         ∙ append_assoc (before_take ++ take_event ∷ []) to_end given
         ∙ append_assoc before_take (take_event ∷ []) inside;
     took =
-        sym (ap (λ (r : PassState). (left r.table.config before_take).now.words.turn) m.takes.waits.is)
-        ∙ sym m.takes.takes.finds;
+        sym (ap (λ (r : PassState). (left r.table.config before_take).now.words.turn) m.idles.takes.waits.is)
+        ∙ sym m.idles.takes.takes.finds;
     goes_on = goes_on;
   }
 

@@ -99,8 +99,8 @@ pub over_unbegun : {p q : PassState} → Has p.seats Host → HasCallers p.table
     → Unbegun p q
 over_unbegun {q = q} host callers o =
     let idle = (pass_before o.says).history in
-    let t_idle = idle_turn o.takes o.ends idle in
-    unbegun_then q (idle_unbegun host callers o.takes o.ends idle) (unbegun_then q
+    let t_idle = idle_turn o.idles.takes o.idles.ends idle in
+    unbegun_then q (idle_unbegun host callers o.idles.takes o.idles.ends idle) (unbegun_then q
     (unbegun_made o.said Step.Over t_idle refl o.says) (unbegun_made q Step.Give (behind_step t_idle o.says refl) refl
     o.gives))
 

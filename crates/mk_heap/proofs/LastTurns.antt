@@ -19,12 +19,12 @@ moved_still seat moves = λ k has. record {
 
 pub over_moves : (p q : PassState) → SaysOver p q → MovesOn p q
 over_moves p q over =
-    let idle = idle_moves p over.idle (record { taken = over.taken; takes = over.takes; ends = over.ends }) in
+    let idle = idle_moves p over.idle over.idles in
     moves_more p over.said q Step.Give (moves_more p over.idle over.said Step.Over idle over.says) over.gives
 
 pub cycle_moves : {p q : PassState} → MakesCycle p q → MovesOn p q
 cycle_moves {p} {q} m =
-    let idle = idle_moves p m.idle (record { taken = m.taken; takes = m.takes; ends = m.ends }) in
+    let idle = idle_moves p m.idle m.idles in
     let ended = finish_moves p m.begun m.ended (begin_moves p m.idle m.begun idle m.begins) m.finishes in
     moves_more p m.ended q Step.Give ended m.gives
 

@@ -6,13 +6,12 @@ use Rattle.mk_alloc.proofs.Below.Laws.Vocabulary.{host_has_turn, inl, inr, is_on
 use Rattle.mk_alloc.proofs.Below.Laws.Vocabulary.{refl, subst, sym, true, true≢false, [], ◌&&◌, ◌++◌, ◌||◌, ◌∙◌, ◌∷◌}
 use Rattle.mk_alloc.proofs.{Below.Laws.Vocabulary.{◌≡◌, ◌⊎◌}, Below.Words.Waiting.{joined_lists, waits_more}}
 use Rattle.mk_alloc.proofs.Below.Words.Seats.{has_not, only_one, others_append, others_one, others_own, same_seat}
-use Rattle.mk_alloc.proofs.{Below.Words.Seats.same_self, Below.Words.Made.own_before}
+use Rattle.mk_alloc.{proofs.{Below.Words.Seats.same_self, Below.Words.Made.own_before}, specs.Below.Words.Steps.{Makes}}
 use Rattle.mk_alloc.specs.Below.Cycles.Kinds.{begins_marking, clears, closes_marks, holds_gates, is_giving_back}
 use Rattle.mk_alloc.specs.{Below.Cycles.Kinds.sets_tallies, Below.Cycles.BeginCycle.BeginsCycle}
 use Rattle.mk_alloc.specs.{Below.Cycles.FinishCycle.FinishesCycle, Below.Words.Doing.{AreOwnOrOfOthers, Does}}
 use Rattle.mk_alloc.specs.{Below.Words.Taking.{TakesTurn, Waits, is_take, waits_for}, Below.Words.Opening.is_open}
 use Rattle.mk_alloc.specs.{Below.Words.Seats.Has, Below.Words.States.{PassState, event_of, now_of}}
-use Rattle.mk_alloc.specs.Below.Words.Steps.{Makes}
 use Rattle.mk_core.specs.Growing.{AreOfOthers, is_same_seat}
 use Rattle.mk_heap.{proofs.HostsKept.{still_rests}, specs.{Ending.TakesIdleTurn, Hosts.{HostState, IsHost, Rests}}}
 

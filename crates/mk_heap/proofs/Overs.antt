@@ -6,7 +6,7 @@ use Rattle.mk_alloc.proofs.Below.Laws.Vocabulary.{eq-eqb, false, has_phase, host
 use Rattle.mk_alloc.proofs.Below.Laws.Vocabulary.{phase_of, refl, subst, true, ◌%◌, ◌+◌, ◌/◌, ◌^◌, ◌∙◌, ◌≡◌, ◌≤◌, ◌⊎◌}
 use Rattle.mk_alloc.proofs.{Below.Laws.Actors.give_phase, Below.Laws.Settled.gone_is_unmapped}
 use Rattle.mk_alloc.proofs.{Below.Laws.Tallies.counts_tidy_more, Below.Cycles.KeptInParts.{free_then, gates_behind}}
-use Rattle.mk_alloc.proofs.Below.Cycles.KeptInParts.{keeps_less, same_config}
+use Rattle.mk_alloc.{proofs.Below.Cycles.KeptInParts.{keeps_less, same_config}, specs.Below.Words.TurnSteps.{world_at}}
 use Rattle.mk_alloc.proofs.Below.Cycles.OwnSteps.{keeps_call, keeps_counts, steady_behind}
 use Rattle.mk_alloc.proofs.{Below.Cycles.Allowed.protocol, Below.Cycles.BeginSteps.none_held_kept}
 use Rattle.mk_alloc.proofs.{Below.Cycles.CleaningSteps.calm_keeps, Below.Cycles.MayAct.may_act, Below.Words.Made.made}
@@ -16,10 +16,9 @@ use Rattle.mk_alloc.specs.{Below.Cycles.FinishCycle.FinishesCycle, Below.Cycles.
 use Rattle.mk_alloc.specs.{Below.Cycles.TurnKeeps.unchanged, Below.Words.Taking.TakesTurn}
 use Rattle.mk_alloc.specs.{Below.Words.Seats.{Has, has_over}, Below.Words.States.{IsTurn, PassState, now_of}}
 use Rattle.mk_alloc.specs.{Below.Words.Steps.{Finds, IsAdmittedTo, IsEnabledTo}, Below.Words.TurnSteps.{Acts, IsFresh}}
-use Rattle.mk_alloc.specs.Below.Words.TurnSteps.{world_at}
 use Rattle.mk_core.proofs.Histories.{calls_more}
-use Rattle.mk_core.specs.{Counts.TalliesAreExact, Frames.CountsAreLeft, Frames.steady_of, Moments.none_is_held}
-use Rattle.mk_heap.proofs.{HomeCallers.taken_overs, MovedHosts.taken_own, MovedHosts.turn_moves}
+use Rattle.mk_core.specs.{Counts.TalliesAreExact, Frames.{CountsAreLeft, steady_of}, Moments.none_is_held}
+use Rattle.mk_heap.proofs.{HomeCallers.taken_overs, MovedHosts.{taken_own, turn_moves}}
 use Rattle.mk_heap.specs.Ending.{IsIdleTurn, TakesIdleTurn}
 
 -- The host's turn before an `over`: whether a cycle is on, and that none is after the end of one.

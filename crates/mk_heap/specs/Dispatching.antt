@@ -5,17 +5,13 @@ use Rattle.mk_never.specs.{declared.operations.Op.Op, Laws.KeepsRegisters}
 use Rattle.mk_core.specs.{declared.events.Answer.Answer, declared.events.Event.Event, declared.events.Group.Group}
 use Rattle.mk_core.specs.{declared.events.Step.Step, Calls.is_under_turn, Decided.entry_of, History.IsHistory}
 use Rattle.mk_core.specs.Order.{group_of}
-use Rattle.mk_alloc.specs.{Below.Words.Doing.{are_of, done_in}, Below.Words.States.PassState}
-use Rattle.mk_alloc.specs.{Below.Callers.States.{caller_of_pass, never_of, Admits}, Laws.OwnAreExact}
 use Rattle.mk_alloc.specs.{Below.Callers.Called.{own_calls, Called}, Below.Callers.Causes.FindsGateHeld}
-use Rattle.mk_alloc.specs.TurnCalls.{CalledInTurn}
-use Rattle.mk_never.specs.declared.operations.Op.TheVariants as op
-use Rattle.mk_core.specs.declared.events.Answer.TheVariants as answer
-use Rattle.mk_core.specs.declared.events.Group.TheVariants as group
+use Rattle.mk_alloc.specs.{Below.Callers.States.{caller_of_pass, never_of, Admits}, Below.Words.Doing.{are_of, done_in}}
+use Rattle.mk_alloc.specs.{Below.Words.States.PassState, Laws.OwnAreExact, TurnCalls.CalledInTurn}
 
 -- A caller isn't told which pointer it loaded.
 abbrev pub as_told : Answer → Answer
-as_told (answer.Word w) = answer.Word 0
+as_told (Answer.Word w) = Answer.Word 0
 as_told a = a
 
 -- The pass did this operation. What its caller is told of the answer is this.
@@ -26,7 +22,7 @@ pub record IsCalled (p : PassState) (o : Op) (told : Answer) (q : PassState) : T
 
 -- the steps of calls that need no turn
 abbrev pub is_of_callers : Group → Bool
-is_of_callers group.Callers = true
+is_of_callers Group.Callers = true
 is_of_callers _ = false
 
 -- a step of a call that needs no turn
@@ -65,7 +61,7 @@ pub record IsPutOff (p : PassState) (o : Op) (q : PassState) : Type 0 where
 
 -- A New that isn't known to be full
 abbrev pub unflagged : Op → Op
-unflagged (op.New d ty full) = op.New d ty false
+unflagged (Op.New d ty full) = Op.New d ty false
 unflagged o = o
 
 -- The caller made one call, of this operation, and is told this of its answer. A New or a Free it made in one turn, and

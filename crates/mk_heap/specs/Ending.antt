@@ -2,13 +2,12 @@
 use Rattle.std.specs.Prelude.{◌≡◌, ◌⊎◌, ℕ, ◌<◌, true, None}
 use Rattle.mk_core.specs.{declared.events.Seat.TheVariants.{Caller, Host}, declared.config.Config.Config}
 use Rattle.mk_core.specs.{Counts.{TalliesAreExact, TalliesAreTidy}, History.World, Moments.none_is_held}
+use Rattle.mk_core.specs.{declared.events.Step.Step, declared.events.Word.Word}
 use Rattle.mk_alloc.specs.{Below.Words.Seats.Has, Below.Words.States.{PassState, now_of}, Below.Words.Steps.Makes}
 use Rattle.mk_alloc.specs.{Below.Words.Taking.TakesTurn, Below.Cycles.EngineLaw.{IsAtPhase, IsFreeForCycle}}
 use Rattle.mk_alloc.specs.{Below.Cycles.BeginCycle.BeginsCycle, Below.Cycles.FinishCycle.FinishesCycle}
 use Rattle.mk_alloc.specs.Below.Cycles.Telling.{IsToldAtClose}
 use Rattle.mk_heap.specs.Hosts.{HostState}
-use Rattle.mk_core.specs.declared.events.Step.TheVariants as step
-use Rattle.mk_core.specs.declared.events.Word.TheVariants as word
 
 -- All callers that were made are joined.
 abbrev pub CallersAreJoined : HostState → Type 0
@@ -17,7 +16,7 @@ CallersAreJoined h = (k : ℕ) → k < h.callers → Has h.pass.seats (Caller k)
 -- It looked whether a cycle is on. One that is on is finished, and where none is on nothing more is done.
 pub record EndsCycle (p q : PassState) : Type 0 where
   pub looked : PassState
-  pub looks : Makes p (step.Look word.Phase) looked
+  pub looks : Makes p (Step.Look Word.Phase) looked
   pub phase : (IsAtPhase p 0) ⊎ (IsAtPhase p 1)
   pub none : IsAtPhase p 0 → q ≡ looked
   pub on : IsAtPhase p 1 → FinishesCycle looked q
@@ -30,25 +29,21 @@ pub record TakesIdleTurn (p q : PassState) : Type 0 where
 
 -- It took the turn, finished a cycle that was on, said that all is over, and gave the turn back.
 pub record SaysOver (p q : PassState) : Type 0 where
-  pub taken : PassState
   pub idle : PassState
   pub said : PassState
-  pub takes : TakesTurn p None taken
-  pub ends : EndsCycle taken idle
-  pub says : Makes idle step.Over said
-  pub gives : Makes said step.Give q
+  pub idles : TakesIdleTurn p idle
+  pub says : Makes idle Step.Over said
+  pub gives : Makes said Step.Give q
 
 -- It took the turn, finished a cycle that was on, made one from its `begin` to its `end`, and gave the turn back.
 pub record MakesCycle (p q : PassState) : Type 0 where
-  pub taken : PassState
   pub idle : PassState
   pub begun : PassState
   pub ended : PassState
-  pub takes : TakesTurn p None taken
-  pub ends : EndsCycle taken idle
+  pub idles : TakesIdleTurn p idle
   pub begins : BeginsCycle idle begun
   pub finishes : FinishesCycle begun ended
-  pub gives : Makes ended step.Give q
+  pub gives : Makes ended Step.Give q
 
 -- It made a cycle so, and this is said of the world in which it closed the cycle's marks. No `close` stands after that
 -- one.

@@ -1,9 +1,9 @@
 -- What contracts see of the host, and what always holds of it.
 use Rattle.std.specs.Prelude.{◌≡◌, ℕ, ◌+◌, ◌<◌, ◌≤◌, false, List, [], ◌∷◌, ◌++◌, Option, Some, None}
+use Rattle.mk_core.specs.{Growing.{AreOfOthers, Grows}, History.IsHistory, Order.host_has_turn}
 use Rattle.mk_core.specs.{declared.events.Event.Event, declared.events.Seat.Seat}
-use Rattle.mk_core.specs.{declared.events.Seat.TheVariants.{Caller, Marker, Host}, Calls.at_rest}
-use Rattle.mk_core.specs.{Growing.{AreOfOthers, Grows}, History.IsHistory}
-use Rattle.mk_core.specs.{Moments.{Moment, flight_of, marker_at, outside}, Order.host_has_turn}
+use Rattle.mk_core.specs.declared.events.Seat.TheVariants.{Caller, Marker, Host}
+pub use Rattle.mk_alloc.specs.Below.Callers.Below.Laws.Waiting.{Rests}
 use Rattle.mk_alloc.specs.{Below.Words.Seats.{Has, all_seats, has_over, without_seat}, Below.Words.Rule.no_config}
 use Rattle.mk_alloc.specs.{Below.Words.States.{WordsState, PassState, now_of}, Below.Words.Sweeping.SweepsNothing}
 
@@ -67,11 +67,6 @@ with_seen h seen = record h { pass = record h.pass { seen = seen } }
 pub record AllAreJoined (h : HostState) : Type 0 where
   pub callers : (k : ℕ) → k < h.callers → Has h.pass.seats (Caller k)
   pub markers : (k : ℕ) → k < h.markers → Has h.pass.seats (Marker k)
-
--- The seat has no call in flight, and as a marker it is out.
-pub record Rests (m : Moment) (s : Seat) : Type 0 where
-  pub call : flight_of m s ≡ at_rest
-  pub out : marker_at m s ≡ outside
 
 -- A pass of one seat, which rests.
 pub record IsDone (p : PassState) : Type 0 where

@@ -3,12 +3,12 @@ use Rattle.std.specs.Prelude.{◌≡◌, ℕ, ◌<◌, false, List, [], ◌∷�
 use Rattle.mk_core.specs.{declared.config.Config.Config, declared.events.Event.Event, declared.events.Seat.Seat}
 use Rattle.mk_core.specs.{declared.events.Seat.TheVariants.{Caller, Host}, Cycles.{TurnOf, BeginsAndEndsIn}}
 use Rattle.mk_core.specs.{Cycles.{before_close, is_close}, Growing.AreOfOthers, History.{World, left}}
+use Rattle.mk_core.specs.declared.events.Step.{Step}
 use Rattle.mk_alloc.specs.TurnCycles.{has_step, within_turn}
-use Rattle.mk_core.specs.declared.events.Step.TheVariants as step
 
 -- the event by which the seat gives its turn back
 abbrev pub give_of : Seat → Event
-give_of s = record { seat = s; step = step.Give }
+give_of s = record { seat = s; step = Step.Give }
 
 -- In one turn of its own the seat begins and ends a cycle, and gives the turn back. After the turn's `take` no caller
 -- steps, and after the cycle's `close` no other stands. This is said of the world left before that `close`.

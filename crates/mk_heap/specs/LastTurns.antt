@@ -4,8 +4,8 @@ use Rattle.mk_core.specs.{declared.config.Config.Config, declared.events.Event.E
 use Rattle.mk_core.specs.{declared.events.Seat.TheVariants.{Caller, Host}, Growing.Grows, History.World}
 use Rattle.mk_alloc.specs.{Below.Words.Seats.{Has, HasCallers, has_over}, Below.Words.States.{WordsState, PassState}}
 use Rattle.mk_alloc.specs.{Below.Cycles.Ways.Ways, Underway.PassKeeps}
-use Rattle.mk_heap.specs.HostTurns.{cycles_begun, cycles_asked}
-use Rattle.mk_heap.specs.{Ending.{CallersAreJoined, MakesToldCycle, SaysOver}, Hosts.{HostState, with_seen}}
+use Rattle.mk_heap.specs.{HostTurns.{cycles_begun, cycles_asked}, Ending.{CallersAreJoined, MakesToldCycle, SaysOver}}
+use Rattle.mk_heap.specs.Hosts.{HostState, with_seen}
 
 -- The host's seat is home and so are those of all callers, and it has not said that all is over.
 pub record HasAllHome (w : WordsState) (h : HostState) : Type 0 where

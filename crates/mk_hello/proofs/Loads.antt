@@ -1,15 +1,19 @@
 -- Each operation of the first program is admitted, and it loads what it stored, or null where the heap was full.
-use Rattle.mk_heap.proofs.Below.Laws.Vocabulary.{Answer, Config, Decided, IsAdmitted, List, NeverState, Op, Some, false}
+use Rattle.mk_heap.proofs.Below.Laws.Vocabulary.{Answer, Config, Decided, IsAdmitted, List, Op, Some, false}
 use Rattle.mk_heap.proofs.Below.Laws.Vocabulary.{after_calls, answer_of, answered, ap, arith, asked, entry_of, inl, inr}
 use Rattle.mk_heap.proofs.Below.Laws.Vocabulary.{map, refl, replies_of, ℕ, [], ◌++◌, ◌∷◌, ◌≡◌, ◌⊎◌}
-use Rattle.mk_heap.proofs.Below.Laws.Vocabulary.{Bool, Event, subst, sym, ◌∙◌}
+use Rattle.mk_heap.proofs.Below.Laws.Vocabulary.{Bool, Event, sym, ◌∙◌}
 use Rattle.mk_heap.specs.{Below.Core.History.never_first, Dispatching.as_told}
 use Rattle.mk_heap.specs.Below.{Objects.TurnCalls.{CalledInTurn, FreesObject, IsAnsweredDouble, IsAnsweredFull}}
 use Rattle.mk_heap.specs.Below.{Objects.declared.making.Full.Full, Words.States.PassState}
 use Rattle.mk_heap.specs.Below.Objects.declared.retirement.{Double.Double, Freed.Freed}
 use Rattle.mk_heap.specs.Below.Never.declared.types.Kind.{Kind}
 use Rattle.std.proofs.Common.{ap₂, Err, IfErr, IfOk, Ok, OnErr, OnOk, Result}
-use Rattle.mk_hello.specs.Hello.{hello_config}
+
+-- the heap of the first program: one page, one caller, and one type: a number
+abbrev pub hello_config : Config
+hello_config =
+    record { pages = 1; resident = 1; callers = 1; markers = 0; types = (Kind.Num ∷ []) ∷ []; globals = [] }
 
 -- the configuration, with these types and globals
 abbrev with_tables : List (List Kind) → List ℕ → Config

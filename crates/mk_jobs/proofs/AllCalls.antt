@@ -1,17 +1,14 @@
 -- All operations, one after the other, as the jobs that they are.
 use Rattle.mk_jobs.proofs.Vocabulary.{AreBelow, AreClears, AreDecidedOnce, AreJobRuns, Asks, Call, IsClear, IsTyped}
 use Rattle.mk_jobs.proofs.Vocabulary.{JobRun, Keeps, Leads, List, NeverState, Op, Option, Plan, Replied, World, []}
-use Rattle.mk_jobs.proofs.Vocabulary.{after_op, all_of, ap, arith, drop, false≢true, inl, inr, length}
-use Rattle.mk_jobs.proofs.Vocabulary.{order_of, own_replied, refl, reply_of, subst, sym, take, ℕ, ◌++◌, ◌<◌}
-use Rattle.mk_jobs.proofs.Vocabulary.{◌∙◌, ◌∷◌, ◌≡◌}
-use Rattle.mk_jobs.proofs.Owners.{nothing_idle, own_owed, own_private}
-use Rattle.mk_jobs.proofs.Callers.{cons_head, mine, nothing_left, put, put_same}
-use Rattle.mk_jobs.proofs.Owing.{Doing, IsAtJob, Now, Work, clears, does, first_of_job, owed_now, rest_of}
-use Rattle.mk_jobs.proofs.Interleaving.{Inv, IsDoing, IsDoingNow, IsLocal, Stepped, steps}
-use Rattle.mk_jobs.proofs.Cleared.{clears_one, is_clearing}
-use Rattle.mk_jobs.proofs.Running.{AllWork, Ran, RunsOn, goes_on}
-use Rattle.mk_jobs.proofs.Renewed.{IsSettled, begins, begins_at, ends_clear, new_inv, new_works, no_jobs_left}
-use Rattle.mk_jobs.proofs.Renewed.{renewed, settled, settles_at}
+use Rattle.mk_jobs.proofs.Vocabulary.{after_op, all_of, ap, arith, drop, false≢true, inl, inr, length, order_of}
+use Rattle.mk_jobs.proofs.Vocabulary.{own_replied, refl, reply_of, subst, sym, take, ℕ, ◌++◌, ◌<◌, ◌∙◌, ◌∷◌, ◌≡◌}
+use Rattle.mk_jobs.proofs.{Owners.{nothing_idle, own_owed, own_private}, Callers.{cons_head, mine, nothing_left, put}}
+use Rattle.mk_jobs.proofs.{Callers.put_same, Owing.{Doing, IsAtJob, Now, Work, clears, does, first_of_job, owed_now}}
+use Rattle.mk_jobs.proofs.{Owing.rest_of, Interleaving.{Inv, IsDoing, IsDoingNow, IsLocal, Stepped, steps}}
+use Rattle.mk_jobs.proofs.{Cleared.{clears_one, is_clearing}, Running.{AllWork, Ran, RunsOn, goes_on}}
+use Rattle.mk_jobs.proofs.Renewed.{IsSettled, begins, begins_at, ends_clear, new_inv, new_works, no_jobs_left, renewed}
+use Rattle.mk_jobs.proofs.Renewed.{settled, settles_at}
 
 module _ {Job Done Point State : Type 0} {p : Plan Job Done Point} {left_by : State → Job → Done → Option State}
     {first : State} {content : NeverState → List ℕ → State → Type 0} {Shared : World → State → Type 0}

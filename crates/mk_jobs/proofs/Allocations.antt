@@ -1,17 +1,16 @@
 -- Each allocation stays as its role says.
 use Rattle.std.proofs.lemmas.List.{get_or_at}
-use Rattle.mk_never.proofs.{Edits.{freed_exists, set_by}, Later.{old_stays}}
-use Rattle.mk_never.specs.declared.operations.Op.TheVariants as op
+use Rattle.mk_never.proofs.{Edits.{freed_exists, set_by}, Later.old_stays}
 use Rattle.mk_jobs.proofs.Vocabulary.{Allocation, Bool, Fits, Gone, IsSound, List, NeverState, Nothing, Null, Num, Op}
-use Rattle.mk_jobs.proofs.Vocabulary.{Private, Ptr, Public, Reply, Role, Taken, Target, Unborn, Unmapped, Value}
-use Rattle.mk_jobs.proofs.Vocabulary.{WordOf, [], after_free, after_op, allocation_at, ap, arith, cases_eq, cond}
-use Rattle.mk_jobs.proofs.Vocabulary.{eq-eqb, false, false≢true, freed_by, get_or, get_or-set_other, get_or-set_same}
-use Rattle.mk_jobs.proofs.Vocabulary.{if◌then◌else◌, inl, inr, is_pointer_to, is_same, lea_reply, left_at, length}
-use Rattle.mk_jobs.proofs.Vocabulary.{length-append, length-set, ne_eqb, no_allocation, refl, register_at, reply_at}
-use Rattle.mk_jobs.proofs.Vocabulary.{reply_of, subst, sym, target_of, true, with_freed, with_new, with_register}
-use Rattle.mk_jobs.proofs.Vocabulary.{with_word, word_at, ℕ, ◌+◌, ◌==◌, ◌∙◌, ◌≡◌, ◌≢◌, ◌⊎◌}
-use Rattle.mk_jobs.proofs.Owners.{RolePasses, publishes, takes_out, unmoved}
-use Rattle.mk_jobs.proofs.Ways.{is_quiet}
+use Rattle.mk_jobs.proofs.Vocabulary.{Private, Ptr, Public, Reply, Role, Taken, Target, Unborn, Unmapped, Value, WordOf}
+use Rattle.mk_jobs.proofs.Vocabulary.{[], after_free, after_op, allocation_at, ap, arith, cases_eq, cond, eq-eqb, false}
+use Rattle.mk_jobs.proofs.Vocabulary.{false≢true, freed_by, get_or, get_or-set_other, get_or-set_same, if◌then◌else◌}
+use Rattle.mk_jobs.proofs.Vocabulary.{inl, inr, is_pointer_to, is_same, lea_reply, left_at, length, length-append}
+use Rattle.mk_jobs.proofs.Vocabulary.{length-set, ne_eqb, no_allocation, refl, register_at, reply_at, reply_of, subst}
+use Rattle.mk_jobs.proofs.Vocabulary.{sym, target_of, true, with_freed, with_new, with_register, with_word, word_at, ℕ}
+use Rattle.mk_jobs.proofs.{Vocabulary.{◌+◌, ◌==◌, ◌∙◌, ◌≡◌, ◌≢◌, ◌⊎◌}, Owners.{RolePasses, publishes, takes_out}}
+use Rattle.mk_jobs.proofs.{Owners.unmoved, Ways.is_quiet}
+use Rattle.mk_never.specs.declared.operations.Op.TheVariants as op
 
 abbrev pub is_gone : Role → Bool
 is_gone Gone = true

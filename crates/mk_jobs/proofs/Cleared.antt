@@ -1,17 +1,13 @@
 -- What is left where a caller that is at no job sets a register to null.
-use Rattle.mk_never.proofs.{Later.op_stays, Registers.{op_keeps as registers_keep}, TypedCalls.{op_keeps as types_keep}}
-use Rattle.mk_never.specs.declared.operations.Op.TheVariants as op
 use Rattle.mk_jobs.proofs.Vocabulary.{AreClears, Covers, Hold, IsClear, IsTyped, Keeps, List, NeverState, None, Op}
 use Rattle.mk_jobs.proofs.Vocabulary.{Option, Ordered, Plan, Replied, Role, Value, World, [], after_op, arith, refl}
-use Rattle.mk_jobs.proofs.Vocabulary.{register_at, subst, sym, there, ℕ, ◌<◌, ◌∙◌, ◌∷◌, ◌≡◌, ◌≢◌}
-use Rattle.mk_jobs.proofs.Holds.{same_so}
+use Rattle.mk_jobs.proofs.{Vocabulary.{register_at, subst, sym, there, ℕ, ◌<◌, ◌∙◌, ◌∷◌, ◌≡◌, ◌≢◌}, Holds.same_so}
 use Rattle.mk_jobs.proofs.Owners.{IsOwner, idle_owner, nothing_idle, others_owner, unmoved}
-use Rattle.mk_jobs.proofs.Allocations.{fits_pass, quiet_keeps}
-use Rattle.mk_jobs.proofs.Left.{same_owner}
-use Rattle.mk_jobs.proofs.Waiting.{Holding, Standing, is_there}
-use Rattle.mk_jobs.proofs.Callers.{put_by}
-use Rattle.mk_jobs.proofs.Owing.{IsOnce, Now, Work, clears, does, holds_at}
+use Rattle.mk_jobs.proofs.{Allocations.{fits_pass, quiet_keeps}, Left.same_owner, Waiting.{Holding, Standing, is_there}}
+use Rattle.mk_jobs.proofs.{Callers.put_by, Owing.{IsOnce, Now, Work, clears, does, holds_at}}
 use Rattle.mk_jobs.proofs.Interleaving.{Inv, IsLocal, Stepped}
+use Rattle.mk_never.proofs.{Later.op_stays, Registers.{op_keeps as registers_keep}, TypedCalls.{op_keeps as types_keep}}
+use Rattle.mk_never.specs.declared.operations.Op.TheVariants as op
 
 pub record IsClearing (o : Op) : Type 0 where
   pub d : ℕ

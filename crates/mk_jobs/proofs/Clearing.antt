@@ -1,10 +1,8 @@
 -- A caller sets its registers to null, one after the other.
-use Rattle.mk_jobs.proofs.RunVocabulary.{Answer, Answers, CallerState, Clears, IsMadeFor, NeverState, Null}
-use Rattle.mk_jobs.proofs.RunVocabulary.{Leads, Op, PassState, Plan, Replied, StaysAdmitted, caller_of_pass}
-use Rattle.mk_jobs.proofs.RunVocabulary.{register_at}
-use Rattle.mk_jobs.proofs.RunVocabulary.{never_of, replied_to, reply_of, value_of}
-use Rattle.mk_jobs.proofs.{Replies.once_open, Stepping.may_clear, Walking.{admitted_by_registers, goes_through}}
-use Rattle.mk_jobs.proofs.Walking.{seen_then}
+use Rattle.mk_jobs.proofs.RunVocabulary.{Answer, Answers, CallerState, Clears, IsMadeFor, NeverState, Null, Leads, Op}
+use Rattle.mk_jobs.proofs.RunVocabulary.{PassState, Plan, Replied, StaysAdmitted, caller_of_pass, register_at, never_of}
+use Rattle.mk_jobs.proofs.{RunVocabulary.{replied_to, reply_of, value_of}, Replies.once_open, Stepping.may_clear}
+use Rattle.mk_jobs.proofs.Walking.{admitted_by_registers, goes_through, seen_then}
 use Rattle.mk_laws.proofs.Vocabulary.{Bool, List, ℕ, ap, append-nil, append_assoc, arith, cases_eq, get_or-set_other}
 use Rattle.mk_laws.proofs.Vocabulary.{get_or-set_same, inl, inr, length, refl, subst, sym, with_register, [], ◌*◌, ◌++◌}
 use Rattle.mk_laws.proofs.Vocabulary.{◌+◌, ◌<◌, ◌∙◌, ◌∷◌, ◌≡◌, ◌≢◌, ◌⊎◌}

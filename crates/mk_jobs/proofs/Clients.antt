@@ -1,22 +1,17 @@
 -- What a client shows of each kind of operation: what is its own to show, where the layer knows the rest.
-use Rattle.mk_laws.proofs.Vocabulary.{List, NeverState, None, Null, Num, Op, Option, Ptr, Some, Value}
-use Rattle.mk_laws.proofs.Vocabulary.{ap}
-use Rattle.mk_laws.proofs.Vocabulary.{arith, false, get_or, global_at, inl, inr, kinds_of, length, nat_lt}
-use Rattle.mk_laws.proofs.Vocabulary.{no_allocation}
-use Rattle.mk_laws.proofs.Vocabulary.{number_of, refl, register_at, subst, sym, true, word_at, words_of, ℕ, ◌∙◌, ◌≡◌}
-use Rattle.mk_laws.proofs.Vocabulary.{◌≢◌}
-use Rattle.mk_laws.proofs.Vocabulary.{Kind, eqb-true, ltb-true, ◌≤◌, ◌⊎◌}
+use Rattle.mk_laws.proofs.Vocabulary.{List, NeverState, None, Null, Num, Op, Option, Ptr, Some, Value, ap, arith, false}
+use Rattle.mk_laws.proofs.Vocabulary.{get_or, global_at, inl, inr, kinds_of, length, nat_lt, no_allocation, number_of}
+use Rattle.mk_laws.proofs.Vocabulary.{refl, register_at, subst, sym, true, word_at, words_of, ℕ, ◌∙◌, ◌≡◌, ◌≢◌, Kind}
+use Rattle.mk_laws.proofs.Vocabulary.{eqb-true, ltb-true, ◌≤◌, ◌⊎◌}
 use Rattle.mk_never.specs.{Laws.StoresTo, NeverHeap.{Allocation, after_op, reply_of}, Types.zero_words}
 use Rattle.mk_never.specs.declared.operations.Reply.{Reply}
 use Rattle.mk_jobs.specs.{Jobs.{Asks, number_replied}, Laws.is_pointer_to, Plans.{Hold, Plan}, Typing.hold_of}
-use Rattle.mk_jobs.specs.Keeping.{Covers, Decides, Gone, IsOf, IsShown, IsThere, Moves, Private, Public}
-use Rattle.mk_jobs.specs.Keeping.{TakesPublic, Unborn, World, after, is_owed}
-use Rattle.mk_jobs.proofs.Asked.{new_ways, one_way, two_ways}
-use Rattle.mk_jobs.proofs.Covering.{by_free, by_grant, by_look, by_own_write}
+use Rattle.mk_jobs.specs.Keeping.{Covers, Decides, Gone, IsOf, IsShown, IsThere, Moves, Private, Public, TakesPublic}
+use Rattle.mk_jobs.{specs.Keeping.{Unborn, World, after, is_owed}, proofs.Operations.{stores_register, was_same}}
+use Rattle.mk_jobs.proofs.{Asked.{new_ways, one_way, two_ways}, Covering.{by_free, by_grant, by_look, by_own_write}}
 use Rattle.mk_jobs.proofs.{Heaps.{Creates, Frees, Sets, Stores}, Puts.{Puts, points_to, puts_at, puts_new}}
 use Rattle.mk_jobs.proofs.Operations.{creates_there, exchanges, frees_there, is_null, leaves_all, loads, next_is_unborn}
 use Rattle.mk_jobs.proofs.Operations.{not_null, number_loaded, reached, sets_there, stores_nowhere, stores_number}
-use Rattle.mk_jobs.proofs.Operations.{stores_register, was_same}
 
 -- What a client states; that what all know stays leaves it; and that its objects are small
 pub record Client {Job Done Point State : Type 0} (p : Plan Job Done Point)

@@ -1,25 +1,20 @@
 -- All that happened on an object: it was made, the jobs were done, and the host came last, with markers beside them.
 use Rattle.std.proofs.{Common.{IfOk, Ok, ⊎_elim}, lemmas.Result.IfOk-weaker}
 use Rattle.mk_jobs.proofs.RunVocabulary.{AreOfOthers, Caller, CallerState, Config, Event, Grows, Has, HasCallers}
-use Rattle.mk_jobs.proofs.RunVocabulary.{NeverState}
-use Rattle.mk_jobs.proofs.RunVocabulary.{HasMade, HaveDone, Host, HostState, IsAtHome, IsHistory}
-use Rattle.mk_jobs.proofs.RunVocabulary.{IsMadeFor}
-use Rattle.mk_jobs.proofs.RunVocabulary.{Jobs, Joined, PassState, Plan, Replied, Seat, TurnsOfAreExact}
-use Rattle.mk_jobs.proofs.RunVocabulary.{WordsState}
-use Rattle.mk_jobs.proofs.RunVocabulary.{pass_for, replied_to}
-use Rattle.mk_jobs.proofs.{JobRuns.are_jobs_of, JoinedJobs.{exact_on, next_unasked, still_have}}
-use Rattle.mk_laws.proofs.Vocabulary.{Bool, List, ℕ, ap, arith, false, Option, is_one_of, length, subst, sym}
-use Rattle.mk_laws.proofs.Vocabulary.{true}
+use Rattle.mk_jobs.proofs.RunVocabulary.{NeverState, HasMade, HaveDone, Host, HostState, IsAtHome, IsHistory, IsMadeFor}
+use Rattle.mk_jobs.proofs.RunVocabulary.{Jobs, Joined, PassState, Plan, Replied, Seat, TurnsOfAreExact, WordsState}
+use Rattle.mk_jobs.proofs.{RunVocabulary.{pass_for, replied_to}, JobRuns.are_jobs_of}
+use Rattle.mk_jobs.{proofs.JoinedJobs.{exact_on, next_unasked, still_have}, specs.Runs.{AreExplainedJobs, IsRun}}
+use Rattle.mk_laws.proofs.Vocabulary.{Bool, List, ℕ, ap, arith, false, Option, is_one_of, length, subst, sym, true}
 use Rattle.mk_laws.proofs.Vocabulary.{true≢false, [], ◌++◌, ◌+◌, ◌<◌, ◌∙◌, ◌∷◌, ◌≡◌, ◌≤◌}
 use Rattle.mk_heap.proofs.{Below.Objects.Bounds.quarantines_are_bounded, Below.Words.Seats.others_own}
 use Rattle.mk_heap.proofs.{Below.Objects.EndedCycles.{others_at, others_behind}, HostTurns.{comes_last, still_last}}
 use Rattle.mk_heap.proofs.Below.Objects.ListParts.{InFirst, InSecond, stands}
-use Rattle.mk_heap.specs.{Below.Words.Seats.has_over, Crews.JoinsMarkers, Ending.CallersAreJoined, Hosts.AllAreJoined}
-use Rattle.mk_heap.specs.{LastTurns.{BeginsAsAsked, CallersAreStill}, Reports.{HasCounts, IsWhole}}
-use Rattle.mk_jobs.specs.{declared.runs.Outcome.Outcome, declared.working.Ended.Ended}
-use Rattle.mk_jobs.specs.{Laws.IsAlwaysExplained, Jobs.IsEnd, Joining.{HaveEnded, HaveFoundedAndWorked, IsFounding}}
-use Rattle.mk_jobs.specs.{Passes.Founds, Runs.{AreExplainedJobs, IsRun}}
-use Rattle.mk_heap.specs.{Below.Objects.Bounds.HostBeginsLast, HostTurns.HostComesLast, Hosts.with_seen}
+use Rattle.mk_heap.specs.{Below.Words.Seats.has_over, Crews.JoinsMarkers, Ending.CallersAreJoined}
+use Rattle.mk_heap.specs.{Hosts.{AllAreJoined, with_seen}, LastTurns.{BeginsAsAsked, CallersAreStill}}
+use Rattle.mk_heap.specs.{Reports.{HasCounts, IsWhole}, Below.Objects.Bounds.HostBeginsLast, HostTurns.HostComesLast}
+use Rattle.mk_jobs.specs.{declared.runs.Outcome.Outcome, declared.working.Ended.Ended, Laws.IsAlwaysExplained}
+use Rattle.mk_jobs.specs.{Jobs.{IsEnd, IsFounding}, Joining.{HaveEnded, HaveFoundedAndWorked}, Passes.Founds}
 use Rattle.mk_heap.specs.Reports as report
 
 -- Where the host comes last, so does each of its cycles.

@@ -3,15 +3,11 @@ use Rattle.mk_never.proofs.TypedCalls.{start_is_typed}
 use Rattle.mk_jobs.proofs.Vocabulary.{AreDecidedOnce, Call, Gone, IsAlwaysExplained, IsExplained, IsInterleaved}
 use Rattle.mk_jobs.proofs.Vocabulary.{IsTyped, JobRun, Keeps, List, NeverState, None, Null, Option, Plan, Private}
 use Rattle.mk_jobs.proofs.Vocabulary.{Public, Replied, Role, Taken, Unborn, World, [], after_calls, ap, arith, bit}
-use Rattle.mk_jobs.proofs.Vocabulary.{drop, false≢true, first_world, found, jobs_of_first, length}
-use Rattle.mk_jobs.proofs.Vocabulary.{length-replicate, order_of, own_decisions, refl, start_of, subst, suc, sym}
-use Rattle.mk_jobs.proofs.Vocabulary.{take, times_freed, zero, ℕ, ◌*◌, ◌<◌, ◌∙◌, ◌≡◌}
-use Rattle.mk_jobs.proofs.Allocations.{is_gone}
-use Rattle.mk_jobs.proofs.Waiting.{Holding, Standing, born_below}
-use Rattle.mk_jobs.proofs.Owing.{Work, clears, does, holds_at}
-use Rattle.mk_jobs.proofs.Interleaving.{Inv, IsLocal, IsWork}
-use Rattle.mk_jobs.proofs.Running.{Ran}
-use Rattle.mk_jobs.proofs.AllCalls.{run_all}
+use Rattle.mk_jobs.proofs.Vocabulary.{drop, false≢true, first_world, found, jobs_of_first, length, length-replicate}
+use Rattle.mk_jobs.proofs.Vocabulary.{order_of, own_decisions, refl, start_of, subst, suc, sym, take, times_freed, zero}
+use Rattle.mk_jobs.proofs.{Vocabulary.{ℕ, ◌*◌, ◌<◌, ◌∙◌, ◌≡◌}, Allocations.is_gone, Waiting.{Holding, Standing}}
+use Rattle.mk_jobs.proofs.{Waiting.born_below, Owing.{Work, clears, does, holds_at}, Interleaving.{Inv, IsLocal}}
+use Rattle.mk_jobs.proofs.{Interleaving.IsWork, Running.Ran, AllCalls.run_all}
 
 module _ {Job Done Point State : Type 0} {p : Plan Job Done Point} {left_by : State → Job → Done → Option State}
     {first : State} {content : NeverState → List ℕ → State → Type 0} {Shared : World → State → Type 0}
@@ -37,7 +33,7 @@ module _ {Job Done Point State : Type 0} {p : Plan Job Done Point} {left_by : St
     w = first_world p left_by callers
 
     abbrev W : ℕ → Work p
-    W = first_work founding h.found runs
+    W = first_work founding h.founds.found runs
 
     stands : Standing p callers w
     stands = record {
@@ -85,7 +81,7 @@ module _ {Job Done Point State : Type 0} {p : Plan Job Done Point} {left_by : St
     unfolding first_work
     first_works zero = record {
       own = h.own zero;
-      doing = record { leads = h.founds; goal = h.founded; job = λ e. (K.founding callers).2 };
+      doing = record { leads = h.founds.founds; goal = h.founds.founded; job = λ e. (K.founding callers).2 };
       later = h.jobs zero;
       exists = λ at_job. absurd at_job;
     }

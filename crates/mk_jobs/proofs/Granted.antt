@@ -3,9 +3,8 @@ use Rattle.mk_jobs.proofs.Vocabulary.{Bool, Gone, Hold, IsOf, List, Owns, Privat
 use Rattle.mk_jobs.proofs.Vocabulary.{all_give, ap, arith, cases_eq, cond, eq-eqb, eqb-true, false, false≢true, freed}
 use Rattle.mk_jobs.proofs.Vocabulary.{gives, hold_of, if◌then◌else◌, inl, inr, is_owed, is_own, is_pointer_to}
 use Rattle.mk_jobs.proofs.Vocabulary.{is_private, ne_eqb, refl, sym, true, with_hold, ℕ, ◌<◌, ◌==◌, ◌∙◌, ◌≡◌, ◌≢◌}
-use Rattle.mk_jobs.proofs.Holds.{all_so, hold_other, hold_set}
-use Rattle.mk_jobs.proofs.Owners.{Finds, IsOwner, RoleMoves, frees, grants, own_owed, own_private, own_role}
-use Rattle.mk_jobs.proofs.Owners.{own_unborn, passes_on, private_taken, unmoved}
+use Rattle.mk_jobs.proofs.{Holds.{all_so, hold_other, hold_set}, Owners.{Finds, IsOwner, RoleMoves, frees, grants}}
+use Rattle.mk_jobs.proofs.Owners.{own_owed, own_private, own_role, own_unborn, passes_on, private_taken, unmoved}
 
 gives_private : (h g : Hold) → gives h g ≡ true → is_private g ≡ is_private h
 gives_private x0 x1 e = grind arith

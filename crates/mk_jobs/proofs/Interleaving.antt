@@ -3,16 +3,11 @@ use Rattle.mk_jobs.proofs.Vocabulary.{AreClears, AreDecidedOnce, AreJobRuns, Ask
 use Rattle.mk_jobs.proofs.Vocabulary.{Keeps, Leads, List, Moves, NeverState, None, Op, Option, Ordered, Plan, Replied}
 use Rattle.mk_jobs.proofs.Vocabulary.{Reply, World, after, after_op, all_of, bit, drop, freed_by, length, order_of}
 use Rattle.mk_jobs.proofs.Vocabulary.{own_replied, refl, reply_of, subst, sym, take, ℕ, ◌++◌, ◌+◌, ◌<◌, ◌∙◌, ◌∷◌, ◌≡◌}
-use Rattle.mk_jobs.proofs.Vocabulary.{◌≢◌}
-use Rattle.mk_jobs.proofs.Meeting.{sound}
-use Rattle.mk_jobs.proofs.Ways.{asks_way}
-use Rattle.mk_jobs.proofs.Allocations.{is_gone}
-use Rattle.mk_jobs.proofs.Left.{Left, leaves}
+use Rattle.mk_jobs.proofs.{Vocabulary.◌≢◌, Meeting.sound, Ways.asks_way, Allocations.is_gone, Left.{Left, leaves}}
 use Rattle.mk_jobs.proofs.Waiting.{Holding, Standing, asked_admitted, holds_on, is_there, others_hold, stands_on}
-use Rattle.mk_jobs.proofs.Waiting.{state_of, waits}
-use Rattle.mk_jobs.proofs.Callers.{put, put_by}
-use Rattle.mk_jobs.proofs.Owing.{Doing, IsAtJob, IsDecided, IsGoal, IsLeft, IsOnce, Now, Work, clears, decided_so}
-use Rattle.mk_jobs.proofs.Owing.{does, holds_at, job_of, owed_by, rest_of, undecided}
+use Rattle.mk_jobs.proofs.{Waiting.{state_of, waits}, Callers.{put, put_by}, Owing.{Doing, IsAtJob, IsDecided, IsGoal}}
+use Rattle.mk_jobs.proofs.Owing.{IsLeft, IsOnce, Now, Work, clears, decided_so, does, holds_at, job_of, owed_by}
+use Rattle.mk_jobs.proofs.Owing.{rest_of, undecided}
 
 module _ {Job Done Point State : Type 0} {p : Plan Job Done Point} {left_by : State → Job → Done → Option State}
     {first : State} {content : NeverState → List ℕ → State → Type 0} {Shared : World → State → Type 0}

@@ -1,10 +1,9 @@
 -- A caller does one job more of its list.
 use Rattle.std.proofs.lemmas.List.{take_more}
 use Rattle.mk_jobs.proofs.RunVocabulary.{AreJobRuns, DoesJob, DoesJobs, JobRun, PassState, Plan, Replied, all_of}
-use Rattle.mk_jobs.proofs.RunVocabulary.{replied_to}
-use Rattle.mk_laws.proofs.Vocabulary.{List, ℕ, ap, append-nil, append_assoc, get_or, length, refl, sym, take, []}
-use Rattle.mk_laws.proofs.Vocabulary.{◌++◌, ◌+◌, ◌<◌, ◌∙◌, ◌∷◌, ◌≡◌}
-use Rattle.mk_jobs.specs.{JobLists.{dones_of, jobs_of}, Jobs.IsJobRun}
+use Rattle.mk_jobs.{proofs.RunVocabulary.{replied_to}, specs.{JobLists.{dones_of, jobs_of}, Jobs.IsJobRun}}
+use Rattle.mk_laws.proofs.Vocabulary.{List, ℕ, ap, append-nil, append_assoc, get_or, length, refl, sym, take, [], ◌++◌}
+use Rattle.mk_laws.proofs.Vocabulary.{◌+◌, ◌<◌, ◌∙◌, ◌∷◌, ◌≡◌}
 
 all_in_parts : {Job Done : Type 0} (rs ss : List (JobRun Job Done)) → all_of (rs ++ ss) ≡ all_of rs ++ all_of ss
 all_in_parts [] ss = refl

@@ -1,14 +1,12 @@
 -- Lists of jobs that callers did are the jobs of a history.
 use Rattle.std.proofs.lemmas.List.{length-replicate}
 use Rattle.mk_jobs.proofs.RunVocabulary.{AreAdmitted, AreBelow, AreJobRuns, Call, Config, Dones, Event, HaveDone}
-use Rattle.mk_jobs.proofs.RunVocabulary.{IsHistory}
-use Rattle.mk_jobs.proofs.RunVocabulary.{JobRun, Jobs, NeverState, Null, Plan, Replied, after_op, all_of, asked}
-use Rattle.mk_jobs.proofs.RunVocabulary.{calls, never_first, own_replied, replied_in, reply_of}
-use Rattle.mk_laws.proofs.Vocabulary.{Bool, Kind, List, ℕ, ap, arith, false, if◌then◌else◌, length, ne_eqb, refl}
-use Rattle.mk_laws.proofs.Vocabulary.{suc, true, zero, [], ◌*◌, ◌++◌, ◌+◌, ◌<◌, ◌==◌, ◌∙◌, ◌∷◌, ◌≡◌, ◌≤◌, sym}
-use Rattle.mk_never.proofs.Later.{op_stays}
-use Rattle.mk_never.specs.NeverHeap.{start_of}
-use Rattle.mk_jobs.specs.{Jobs.{jobs_of_first}, Joining.IsFounding, Runs.{AreJobsOf, AreRunsOf}}
+use Rattle.mk_jobs.proofs.RunVocabulary.{IsHistory, JobRun, Jobs, NeverState, Null, Plan, Replied, after_op, all_of}
+use Rattle.mk_jobs.proofs.RunVocabulary.{asked, calls, never_first, own_replied, replied_in, reply_of}
+use Rattle.mk_laws.proofs.Vocabulary.{Bool, Kind, List, ℕ, ap, arith, false, if◌then◌else◌, length, ne_eqb, refl, suc}
+use Rattle.mk_laws.proofs.Vocabulary.{true, zero, [], ◌*◌, ◌++◌, ◌+◌, ◌<◌, ◌==◌, ◌∙◌, ◌∷◌, ◌≡◌, ◌≤◌, sym}
+use Rattle.mk_never.{proofs.Later.{op_stays}, specs.NeverHeap.{start_of}}
+use Rattle.mk_jobs.specs.{Jobs.{IsFounding, jobs_of_first}, Runs.{AreJobsOf, AreRunsOf}}
 
 -- Admitted calls are of callers that exist.
 are_below : (globals : List ℕ) (n : NeverState) (callers : ℕ) (xs : List Call) → length n.registers ≡ 8 * callers
@@ -100,9 +98,7 @@ module _ {Job Done Point : Type 0} (p : Plan Job Done Point) (c : Config) (es : 
         one_each = as_many founding 0 lists all h;
         are = same_at founding 0 lists all h;
         interleaved = record {
-          found = founds.found;
-          founds = founds.founds;
-          founded = founds.founded;
+          founds = founds;
           jobs = are_runs_at founding 0 lists all h;
           own = λ k.
               ap (λ (ts : List (List Kind)). own_replied k (start_of ts c.callers) (asked (calls c es))) (sym types)

@@ -2,22 +2,17 @@
 use Rattle.std.proofs.{Common.{Err, IfOk, IsOk, Ok, OnOk, Result, slice_get}, lemmas.List.drop_more}
 use Rattle.std.proofs.{lemmas.Option.slice_get-get_or, lemmas.Result.IfOk-weaker}
 use Rattle.mk_jobs.proofs.RunVocabulary.{Caller, CallerState, Config, DoesJobs, Dones, Event, Grows, Has, HasDone}
-use Rattle.mk_jobs.proofs.RunVocabulary.{HasMade}
-use Rattle.mk_jobs.proofs.RunVocabulary.{HaveDone, HaveWorked, Host, HostState, IsAtHome, IsBetweenJobs, IsMadeFor}
-use Rattle.mk_jobs.proofs.RunVocabulary.{IsReady}
-use Rattle.mk_jobs.proofs.RunVocabulary.{Jobs, Joined, OwnAreExact, PassState, Plan, Replied, Seat, TurnsOfAreExact}
-use Rattle.mk_jobs.proofs.RunVocabulary.{WordsState, all_of, caller_of_pass, pass_for, replied_in, replied_to}
-use Rattle.mk_jobs.proofs.RunVocabulary.{with_joined}
-use Rattle.mk_jobs.proofs.{OwnCalls.none_of, Replies.same_replied}
+use Rattle.mk_jobs.proofs.RunVocabulary.{HasMade, HaveDone, HaveWorked, Host, HostState, IsAtHome, IsBetweenJobs}
+use Rattle.mk_jobs.proofs.RunVocabulary.{IsMadeFor, IsReady, Jobs, Joined, OwnAreExact, PassState, Plan, Replied, Seat}
+use Rattle.mk_jobs.proofs.RunVocabulary.{TurnsOfAreExact, WordsState, all_of, caller_of_pass, pass_for, replied_in}
+use Rattle.mk_jobs.proofs.{RunVocabulary.{replied_to, with_joined}, OwnCalls.none_of, Replies.same_replied}
 use Rattle.mk_jobs.specs.{declared.joining.Worked.Worked, Joining.{AreExactFrom, HasWorked}}
 use Rattle.mk_laws.proofs.Vocabulary.{Bool, List, Some, ℕ, ap, arith, caller_number, drop, get_or, length, refl, subst}
-use Rattle.mk_laws.proofs.Vocabulary.{sym, true, []}
-use Rattle.mk_laws.proofs.Vocabulary.{◌++◌, ◌+◌, ◌<◌, ◌∙◌, ◌∷◌, ◌≡◌, ◌≤◌, ◌⊎◌, inl, inr, suc}
+use Rattle.mk_laws.proofs.Vocabulary.{sym, true, [], ◌++◌, ◌+◌, ◌<◌, ◌∙◌, ◌∷◌, ◌≡◌, ◌≤◌, ◌⊎◌, inl, inr, suc}
 use Rattle.mk_never.specs.declared.never_heap.NoMemory.{NoMemory}
 use Rattle.mk_core.specs.History.{calls_from}
-use Rattle.mk_heap.proofs.Below.Objects.ExactTurns.{stay_exact_behind_others}
-use Rattle.mk_heap.proofs.Below.Words.Seats.{has_first, has_left, has_right, others_own}
-use Rattle.mk_heap.proofs.HostTurns.{host_is_still, unseen_by_host}
+use Rattle.mk_heap.proofs.{Below.Objects.ExactTurns.stay_exact_behind_others, Below.Words.Seats.{has_first, has_left}}
+use Rattle.mk_heap.proofs.{Below.Words.Seats.{has_right, others_own}, HostTurns.{host_is_still, unseen_by_host}}
 use Rattle.mk_heap.specs.{Below.Callers.States.IsIdleCaller, Below.Words.Seats.has_over}
 
 -- What a caller did stands where the list goes on by events of others.

@@ -2,20 +2,15 @@
 use Rattle.std.proofs.Common.{IfSome}
 use Rattle.mk_laws.proofs.Vocabulary.{Answer, Bool, List, NeverState, None, Null, Num, Op, Option, Ptr, Some, To, Value}
 use Rattle.mk_laws.proofs.Vocabulary.{answer_of, ap, arith, bit, eqb-true, false, false≢true, flagged, get_or-set_other}
-use Rattle.mk_laws.proofs.Vocabulary.{get_or, get_or-set_same, if◌then◌else◌, inl, inr, is_same, length}
-use Rattle.mk_laws.proofs.Vocabulary.{ltb-true}
-use Rattle.mk_laws.proofs.Vocabulary.{nat_lt, refl, register_at, subst, sym, target_of, true, with_new}
-use Rattle.mk_laws.proofs.Vocabulary.{with_register}
-use Rattle.mk_laws.proofs.Vocabulary.{word_at, ℕ, ◌*◌, ◌+◌, ◌<◌, ◌==◌, ◌∙◌, ◌≡◌, ◌⊎◌}
-use Rattle.mk_laws.proofs.Vocabulary.{after_free}
+use Rattle.mk_laws.proofs.Vocabulary.{get_or, get_or-set_same, if◌then◌else◌, inl, inr, is_same, length, ltb-true}
+use Rattle.mk_laws.proofs.Vocabulary.{nat_lt, refl, register_at, subst, sym, target_of, true, with_new, with_register}
+use Rattle.mk_laws.proofs.Vocabulary.{word_at, ℕ, ◌*◌, ◌+◌, ◌<◌, ◌==◌, ◌∙◌, ◌≡◌, ◌⊎◌, after_free}
 use Rattle.mk_never.specs.{Admitted.IsOfKind, NeverHeap.{after_op, global_at, reply_of}}
 use Rattle.mk_never.specs.declared.operations.Reply.{Reply}
 use Rattle.mk_heap.specs.Dispatching.{as_told}
-use Rattle.mk_jobs.specs.Plans.{Hold, Anything, MayPoint, Points, Owns, Owes, Plan}
-use Rattle.mk_jobs.specs.Jobs.{Asks, Has}
+use Rattle.mk_jobs.specs.{Plans.{Hold, Anything, MayPoint, Points, Owns, Owes, Plan}, Jobs.{Asks, Has, number_replied}}
 use Rattle.mk_jobs.specs.{declared.steps.Step.Step, Advancing.{next_by, number_answered, op_of, says_yes}}
-use Rattle.mk_jobs.specs.{Jobs.number_replied, Typing.IsTypedStep}
-use Rattle.mk_jobs.specs.Typing.{found, freed, global_type, hold_of, is_freed, is_number_there, is_there}
+use Rattle.mk_jobs.specs.Typing.{IsTypedStep, found, freed, global_type, hold_of, is_number_there, is_own, is_there}
 use Rattle.mk_jobs.specs.Typing.{kind_there, leads, leads_shared, loaded, may_go, may_set, taken, type_there, with_hold}
 use Rattle.mk_jobs.proofs.Holds.{HoldsIn, both, lead_so, pointer_may, same_so, set_so, share_so}
 use Rattle.mk_jobs.proofs.Meeting.{IsStateOf, global_so, loads, sound, there_so, type_so, word_met}
@@ -143,7 +138,7 @@ module _ {Job Done Point : Type 0} (p : Plan Job Done Point) {n : NeverState} {k
       let three = both (leads p (with_hold hs d (Owns ty)) to) (leads p hs full) two.1 in
       news d ty to full hs (set_lt p.registers hs d one.0) three.0 three.1 h a
   steps_on hs (step.Free r to) typed h = λ a bases image.
-      let two = both (is_freed (hold_of hs r)) _ (both (nat_lt r 8) _ typed).1 in (
+      let two = both (is_own (hold_of hs r)) _ (both (nat_lt r 8) _ typed).1 in (
         (refl, refl),
         same_so v _ (p.holds to) (λ x lt. free_registers n (v r) k x)
             (lead_so v (with_hold hs r (freed (hold_of hs r))) (p.holds to) two.1

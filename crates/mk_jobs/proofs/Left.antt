@@ -1,22 +1,18 @@
 -- What one operation of a caller leaves of roles, and of what it owns.
-use Rattle.mk_never.specs.declared.operations.Op.TheVariants as op
 use Rattle.mk_jobs.proofs.Vocabulary.{Bool, Fits, Gone, Hold, IsOf, IsSound, List, NeverState, Null, Num, Op, Owns}
 use Rattle.mk_jobs.proofs.Vocabulary.{Private, Ptr, Reply, Role, Unborn, Value, World, after_free, after_op, all_give}
 use Rattle.mk_jobs.proofs.Vocabulary.{allocation_at, ap, arith, bit, cases_Bool, eq-eqb, eqb-true, false, false≢true}
 use Rattle.mk_jobs.proofs.Vocabulary.{free_reply, freed, freed_by, get_or-set_other, get_or-set_same, gives, hold_of}
-use Rattle.mk_jobs.proofs.Vocabulary.{if◌then◌else◌, inl, inr, is_done, is_held_no_more, is_owed, is_own}
-use Rattle.mk_jobs.proofs.Vocabulary.{is_pointer_to, is_private, length, refl, register_at, reply_of}
-use Rattle.mk_jobs.proofs.Vocabulary.{role_after, subst, sym, true, with_hold, ℕ, ◌*◌, ◌+◌, ◌<◌, ◌==◌, ◌∙◌, ◌≡◌, ◌≢◌}
-use Rattle.mk_jobs.proofs.Holds.{HoldsIn, lead_so, same_so, set_so, shares_so}
-use Rattle.mk_jobs.proofs.Stepping.{freed_has}
-use Rattle.mk_jobs.proofs.Losses.{loses, lost_so}
-use Rattle.mk_jobs.proofs.Owners.{IsOwner, RoleMoves, RolePasses, own_role, passes_on}
-use Rattle.mk_jobs.proofs.Passing.{Goes}
-use Rattle.mk_jobs.proofs.Passed.{passed_role, passes_owner, passes_roles}
-use Rattle.mk_jobs.proofs.Granted.{freed_owner, freed_roles, granted_owner, granted_roles, is_else}
-use Rattle.mk_jobs.proofs.Ways.{Way, creates, frees_own, is_quiet, passes}
-use Rattle.mk_jobs.proofs.Allocations.{fits_free, fits_new, fits_pass, gone_passes, is_gone, quiet_frees_none}
-use Rattle.mk_jobs.proofs.Allocations.{quiet_keeps, quiet_single}
+use Rattle.mk_jobs.proofs.Vocabulary.{if◌then◌else◌, inl, inr, is_done, is_held_no_more, is_owed, is_own, is_pointer_to}
+use Rattle.mk_jobs.proofs.Vocabulary.{is_private, length, refl, register_at, reply_of, role_after, subst, sym, true}
+use Rattle.mk_jobs.proofs.{Vocabulary.{with_hold, ℕ, ◌*◌, ◌+◌, ◌<◌, ◌==◌, ◌∙◌, ◌≡◌, ◌≢◌}, Holds.{HoldsIn, lead_so}}
+use Rattle.mk_jobs.proofs.{Holds.{same_so, set_so, shares_so}, Stepping.freed_has, Losses.{loses, lost_so}}
+use Rattle.mk_jobs.proofs.{Owners.{IsOwner, RoleMoves, RolePasses, own_role, passes_on}, Passing.Goes}
+use Rattle.mk_jobs.proofs.{Passed.{passed_role, passes_owner, passes_roles}, Granted.{freed_owner, freed_roles}}
+use Rattle.mk_jobs.proofs.{Granted.{granted_owner, granted_roles, is_else}, Ways.{Way, creates, frees_own, is_quiet}}
+use Rattle.mk_jobs.proofs.{Ways.passes, Allocations.{fits_free, fits_new, fits_pass, gone_passes, is_gone}}
+use Rattle.mk_jobs.proofs.Allocations.{quiet_frees_none, quiet_keeps, quiet_single}
+use Rattle.mk_never.specs.declared.operations.Op.TheVariants as op
 
 quiet_role : (w : World) (k : ℕ) (o : Op) (hs gs : List Hold) (a : ℕ) → is_quiet o ≡ true → role_after w k o hs gs a
     ≡ passed_role (is_held_no_more is_private w.n k a 0 hs gs) (is_held_no_more is_owed w.n k a 0 gs hs) k (w.role a)

@@ -1,13 +1,12 @@
 -- An access through a register that holds a pointer meets a word of its kind.
 use Rattle.mk_jobs.proofs.Vocabulary.{Anything, Bool, Has, HasTypes, Hold, IsCaller, IsOfKind, IsSound, Kind, List}
-use Rattle.mk_jobs.proofs.Vocabulary.{MayPoint, Meets, NeverState, None, Null, Num, Number, Option, Owes, Owns}
-use Rattle.mk_jobs.proofs.Vocabulary.{Points, Ptr, Some, Suits, To, Unmapped, Value, WordOf, [], allocation_at, ap}
-use Rattle.mk_jobs.proofs.Vocabulary.{arith, eqb-true, false, false≢true, global_type, if◌then◌else◌, is_number_there}
+use Rattle.mk_jobs.proofs.Vocabulary.{MayPoint, Meets, NeverState, None, Null, Num, Number, Option, Owes, Owns, Points}
+use Rattle.mk_jobs.proofs.Vocabulary.{Ptr, Some, Suits, To, Unmapped, Value, WordOf, [], allocation_at, ap, arith}
+use Rattle.mk_jobs.proofs.Vocabulary.{eqb-true, false, false≢true, global_type, if◌then◌else◌, is_number_there}
 use Rattle.mk_jobs.proofs.Vocabulary.{is_there, is_unmapped, kind_of, kind_there, kinds_of, left_at, length, ltb-true}
 use Rattle.mk_jobs.proofs.Vocabulary.{may_go, nat_lt, refl, register_at, slice_get, slice_index_or, subst, suc, sym}
-use Rattle.mk_jobs.proofs.Vocabulary.{target_of, true, type_there, word_at, words_of, zero, ℕ, ◌*◌, ◌+◌, ◌<◌, ◌∙◌}
-use Rattle.mk_jobs.proofs.Vocabulary.{◌∷◌, ◌≡◌}
-use Rattle.mk_jobs.proofs.Holds.{pointer_may}
+use Rattle.mk_jobs.proofs.Vocabulary.{target_of, true, type_there, word_at, words_of, zero, ℕ, ◌*◌, ◌+◌, ◌<◌, ◌∙◌, ◌∷◌}
+use Rattle.mk_jobs.proofs.{Vocabulary.◌≡◌, Holds.pointer_may}
 
 -- a state of a heap for these jobs, and one of its callers
 pub record IsStateOf (types : List (List Kind)) (globals : List ℕ) (n : NeverState) (k : ℕ) : Type 0 where

@@ -1,9 +1,8 @@
 -- What callers still have to do, and what is still to be decided of it.
+use Rattle.mk_jobs.{specs.Jobs.{IsEnd}, proofs.Vocabulary.{take, ℕ, ◌∙◌, ◌∷◌, ◌≡◌}}
+use Rattle.mk_jobs.proofs.Vocabulary.{AreDecidedOnce, Decides, Hold, JobRun, List, None, Option, Ordered, Plan, Replied}
+use Rattle.mk_jobs.proofs.Vocabulary.{Some, [], ap, drop, left_by_all, length, nothing, order_of, refl, settles, sym}
 use Rattle.mk_jobs.specs.declared.steps.Step.TheVariants as step
-use Rattle.mk_jobs.specs.Jobs.{IsEnd}
-use Rattle.mk_jobs.proofs.Vocabulary.{AreDecidedOnce, Decides, Hold, JobRun, List, None, Option, Ordered, Plan}
-use Rattle.mk_jobs.proofs.Vocabulary.{Replied, Some, [], ap, drop, left_by_all, length, nothing, order_of, refl}
-use Rattle.mk_jobs.proofs.Vocabulary.{settles, sym, take, ℕ, ◌∙◌, ◌∷◌, ◌≡◌}
 
 module _ {Job Done Point : Type 0} (p : Plan Job Done Point) where
   -- a job that a caller is at: its point, what it was decided as, what it still does until its goal, and which it is.

@@ -2,13 +2,10 @@
 -- public.
 use Rattle.mk_jobs.proofs.Vocabulary.{Bool, Hold, List, Private, Public, Role, Taken, Value, ap, arith, cases_Bool}
 use Rattle.mk_jobs.proofs.Vocabulary.{false, false≢true, hold_of, if◌then◌else◌, inl, inr, is_owed, is_own}
-use Rattle.mk_jobs.proofs.Vocabulary.{is_pointer_to, is_private, refl, shares, sym, true, ℕ, ◌<◌, ◌∙◌, ◌≡◌}
-use Rattle.mk_jobs.proofs.Vocabulary.{◌⊎◌}
-use Rattle.mk_jobs.proofs.Losses.{Loses}
-use Rattle.mk_jobs.proofs.Owners.{Finds, IsOwner, RolePasses, own_is, own_owed, own_private, own_public, own_role}
-use Rattle.mk_jobs.proofs.Owners.{private_not_owed, private_public, private_taken, publishes, taken_public, takes_out}
-use Rattle.mk_jobs.proofs.Owners.{unmoved}
-use Rattle.mk_jobs.proofs.Passing.{Goes, Takes}
+use Rattle.mk_jobs.proofs.Vocabulary.{is_pointer_to, is_private, refl, shares, sym, true, ℕ, ◌<◌, ◌∙◌, ◌≡◌, ◌⊎◌}
+use Rattle.mk_jobs.proofs.{Losses.Loses, Owners.{Finds, IsOwner, RolePasses, own_is, own_owed, own_private, own_public}}
+use Rattle.mk_jobs.proofs.Owners.{own_role, private_not_owed, private_public, private_taken, publishes, taken_public}
+use Rattle.mk_jobs.proofs.{Owners.{takes_out, unmoved}, Passing.{Goes, Takes}}
 
 -- the role, by whether it is published, or taken
 abbrev pub passed_role : Bool → Bool → ℕ → Role → Role

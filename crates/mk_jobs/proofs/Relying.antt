@@ -1,10 +1,9 @@
 -- What callers may rely on after each kind of operation.
-use Rattle.mk_laws.proofs.Vocabulary.{List, Null, Value, ap, cases_eq, get_or, global_at, inl, inr}
-use Rattle.mk_laws.proofs.Vocabulary.{no_allocation, subst, sym, word_at, ℕ, ◌∙◌, ◌≡◌, ◌≢◌, ◌⊎◌}
+use Rattle.mk_laws.proofs.Vocabulary.{List, Null, Value, ap, cases_eq, get_or, global_at, inl, inr, no_allocation}
+use Rattle.mk_laws.proofs.Vocabulary.{subst, sym, word_at, ℕ, ◌∙◌, ◌≡◌, ◌≢◌, ◌⊎◌}
 use Rattle.mk_never.specs.NeverHeap.{Allocation}
-use Rattle.mk_jobs.specs.Keeping.{Covers, IsShown, Private, Public, Role, Taken, World}
+use Rattle.mk_jobs.{specs.Keeping.{Covers, IsShown, Private, Public, Role, Taken, World}, proofs.Chains.{word_of}}
 use Rattle.mk_jobs.proofs.{Having.{IsPassed, IsShownOf, Relies}, Heaps.{Frees, Stores}, Puts.{Puts, PutsTwo}}
-use Rattle.mk_jobs.proofs.Chains.{word_of}
 
 -- What is shown stays shown, and what is passed stays passed.
 abbrev pub Onward : (ℕ → Role) → (ℕ → Role) → Type 0

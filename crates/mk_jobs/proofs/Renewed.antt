@@ -1,19 +1,14 @@
 -- Where a caller has ended what it was at: it owns nothing, nothing is owed, and it begins its next job.
-use Rattle.mk_jobs.specs.declared.steps.Step.TheVariants as step
 use Rattle.mk_jobs.proofs.Vocabulary.{Anything, AreClears, AreDecidedOnce, AreJobRuns, Asks, Call, Hold, IsJobRun}
 use Rattle.mk_jobs.proofs.Vocabulary.{IsTyped, IsTypedStep, JobRun, Keeps, Leads, List, NeverState, None, Option}
-use Rattle.mk_jobs.proofs.Vocabulary.{Ordered, Plan, Replied, Some, Step, World, [], all_give, all_of, ap, arith}
-use Rattle.mk_jobs.proofs.Vocabulary.{false, gives, inl, inr, is_own, leads, own_decisions, refl, register_at, subst}
-use Rattle.mk_jobs.proofs.Vocabulary.{sym, true, ℕ, ◌++◌, ◌<◌, ◌∙◌, ◌∷◌, ◌≡◌}
-use Rattle.mk_jobs.proofs.Holds.{all_so}
-use Rattle.mk_jobs.proofs.Owners.{IsIdle, idle_owner, nothing_idle}
-use Rattle.mk_jobs.proofs.Waiting.{Holding}
-use Rattle.mk_jobs.proofs.Callers.{nothing_left, put, put_back, put_by}
+use Rattle.mk_jobs.proofs.Vocabulary.{Ordered, Plan, Replied, Some, Step, World, [], all_give, all_of, ap, arith, false}
+use Rattle.mk_jobs.proofs.Vocabulary.{gives, inl, inr, is_own, leads, own_decisions, refl, register_at, subst, sym}
+use Rattle.mk_jobs.proofs.{Vocabulary.{true, ℕ, ◌++◌, ◌<◌, ◌∙◌, ◌∷◌, ◌≡◌}, Holds.all_so, Owners.{IsIdle, idle_owner}}
+use Rattle.mk_jobs.proofs.{Owners.nothing_idle, Waiting.Holding, Callers.{nothing_left, put, put_back, put_by}}
 use Rattle.mk_jobs.proofs.Owing.{Agrees, AgreesNow, Doing, IsAtJob, IsGoal, IsJob, IsOnce, Now, Work, clears, does}
-use Rattle.mk_jobs.specs.Jobs.{IsEnd}
-use Rattle.mk_jobs.proofs.Owing.{first_of_job, job_of, holds_at, owed_by, owed_now, rest_of}
-use Rattle.mk_jobs.proofs.Interleaving.{Inv, IsDoing, IsDoingNow, IsLocal, IsWork}
-use Rattle.mk_jobs.proofs.Running.{AllWork, Ran}
+use Rattle.mk_jobs.{proofs.Owing.{first_of_job, job_of, holds_at, owed_by, owed_now, rest_of}, specs.Jobs.{IsEnd}}
+use Rattle.mk_jobs.proofs.{Interleaving.{Inv, IsDoing, IsDoingNow, IsLocal, IsWork}, Running.{AllWork, Ran}}
+use Rattle.mk_jobs.specs.declared.steps.Step.TheVariants as step
 
 gives_none : (h : Hold) → gives h Anything ≡ true → is_own h ≡ false
 gives_none x0 e = grind arith

@@ -6,14 +6,12 @@ use Rattle.mk_jobs.proofs.RunVocabulary.{never_of, own_replied, register_at, rep
 use Rattle.mk_jobs.proofs.OwnCalls.{none_since}
 use Rattle.mk_laws.proofs.Vocabulary.{Bool, KeepsRegisters, List, ℕ, ap, append-nil, arith, bases_of, eq-eqb, false}
 use Rattle.mk_laws.proofs.Vocabulary.{if◌then◌else◌, is_under_turn, length, map-append, refl, subst, sym, [], ◌++◌, ◌<◌}
-use Rattle.mk_laws.proofs.Vocabulary.{◌==◌, ◌∙◌, ◌∷◌, ◌≡◌}
-use Rattle.mk_laws.proofs.{CallSorts.flag_is, LastEvents.{comes_last, stands}}
+use Rattle.mk_laws.proofs.{Vocabulary.{◌==◌, ◌∙◌, ◌∷◌, ◌≡◌}, CallSorts.flag_is, LastEvents.{comes_last, stands}}
 use Rattle.mk_never.specs.Admitted.{IsCaller}
 use Rattle.mk_core.proofs.{Histories.calls_more, HistoryParts.calls_in_parts}
 use Rattle.mk_heap.proofs.Below.Objects.OneCalls.{OneCall, before_call, one_call, through_call}
-use Rattle.mk_heap.proofs.Below.Callers.OwnSteps.{calls_by}
+use Rattle.mk_heap.{proofs.Below.Callers.OwnSteps.{calls_by}, specs.Dispatching.{Answers, MakesNoCall, as_told}}
 use Rattle.mk_heap.specs.{Below.Objects.TurnCalls.CalledInTurn, Below.Callers.Called.{IsDecidedIn, own_calls}}
-use Rattle.mk_heap.specs.Dispatching.{Answers, MakesNoCall, as_told}
 
 -- A caller's operations in two parts
 

@@ -1,13 +1,12 @@
 -- Objects with a root, to which global 0 points once it is placed: how they are founded, and how jobs begin.
-use Rattle.mk_laws.proofs.Vocabulary.{Kind, List, None, Null, Op, Option, Ptr, Some, allocation_at, ap, arith}
-use Rattle.mk_laws.proofs.Vocabulary.{cases_eq, kinds_of, length, suc, zero, [], ◌∷◌, ◌≤◌}
-use Rattle.mk_laws.proofs.Vocabulary.{global_at, inl, inr, refl, register_at, subst, sym, ℕ, ◌∙◌, ◌≡◌, ◌≢◌, ◌⊎◌}
-use Rattle.mk_never.specs.{NeverHeap.{reply_of, start_of}, declared.operations.Reply.{Reply}}
+use Rattle.mk_laws.proofs.Vocabulary.{Kind, List, None, Null, Op, Option, Ptr, Some, allocation_at, ap, arith, cases_eq}
+use Rattle.mk_laws.proofs.Vocabulary.{kinds_of, length, suc, zero, [], ◌∷◌, ◌≤◌, global_at, inl, inr, refl, register_at}
+use Rattle.mk_laws.proofs.Vocabulary.{subst, sym, ℕ, ◌∙◌, ◌≡◌, ◌≢◌, ◌⊎◌}
+use Rattle.mk_never.specs.{NeverHeap.{reply_of, start_of}, declared.operations.Reply.Reply}
 use Rattle.mk_jobs.specs.Keeping.{Covers, Gone, IsShown, IsThere, Moves, Public, Role, Unborn, World, after}
-use Rattle.mk_jobs.specs.{Linked.node_kinds, Plans.Plan}
+use Rattle.mk_jobs.{specs.{Linked.node_kinds, Plans.Plan}, proofs.Having.{IsShownOf, not_null}}
 use Rattle.mk_jobs.proofs.Clients.{Client, by_load_global, by_null, decides_so, undecided, was_decided, when_null}
-use Rattle.mk_jobs.proofs.{Clients.when_some, Heaps.Frees, Puts.{Puts, PutsTwo}}
-use Rattle.mk_jobs.proofs.Having.{HasRoot, IsFounder, IsPassed, IsShownOf, not_null}
+use Rattle.mk_jobs.proofs.{Clients.when_some, Heaps.Frees, Puts.{Puts, PutsTwo}, Having.{HasRoot, IsFounder, IsPassed}}
 
 -- There is no root yet, and no object of type ty is known.
 pub record IsUnfounded {State : Type 0} (ty : ℕ) (first : State) (w : World) (x : State) : Type 0 where

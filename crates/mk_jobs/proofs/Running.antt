@@ -1,13 +1,11 @@
 -- One operation before all later ones: the order of the jobs, and that each is decided once.
 use Rattle.mk_jobs.proofs.Vocabulary.{AreJobRuns, Call, Fits, IsTyped, JobRun, Keeps, List, NeverState, NoneIsDouble}
 use Rattle.mk_jobs.proofs.Vocabulary.{Op, Option, Ordered, Plan, Private, Replied, Role, Some, Taken, World}
-use Rattle.mk_jobs.proofs.Vocabulary.{after_calls, all_of, ap, arith, bit, left_by_all, length, order_of}
-use Rattle.mk_jobs.proofs.Vocabulary.{own_decisions, own_replied, replies_of, reply_of, subst, suc, sym, times_freed}
-use Rattle.mk_jobs.proofs.Vocabulary.{ℕ, ◌++◌, ◌+◌, ◌<◌, ◌∙◌, ◌∷◌, ◌≡◌}
-use Rattle.mk_jobs.proofs.Allocations.{is_gone}
-use Rattle.mk_jobs.proofs.Callers.{cons_tail, decision_of_other, mine, my_decision, of_other, put, put_back, put_by}
-use Rattle.mk_jobs.proofs.Owing.{IsOnce, Work, explained_more, rest_of}
-use Rattle.mk_jobs.proofs.Interleaving.{Inv, IsWork, Stepped}
+use Rattle.mk_jobs.proofs.Vocabulary.{after_calls, all_of, ap, arith, bit, left_by_all, length, order_of, own_decisions}
+use Rattle.mk_jobs.proofs.Vocabulary.{own_replied, replies_of, reply_of, subst, suc, sym, times_freed, ℕ, ◌++◌, ◌+◌}
+use Rattle.mk_jobs.proofs.{Vocabulary.{◌<◌, ◌∙◌, ◌∷◌, ◌≡◌}, Allocations.is_gone, Callers.{cons_tail, decision_of_other}}
+use Rattle.mk_jobs.proofs.{Callers.{mine, my_decision, of_other, put, put_back, put_by}, Owing.{IsOnce, Work}}
+use Rattle.mk_jobs.proofs.{Owing.{explained_more, rest_of}, Interleaving.{Inv, IsWork, Stepped}}
 
 module _ {Job Done Point State : Type 0} {p : Plan Job Done Point} {left_by : State → Job → Done → Option State}
     {first : State} {content : NeverState → List ℕ → State → Type 0} {Shared : World → State → Type 0}

@@ -1,19 +1,17 @@
 -- The operation of a step may be asked where its registers are typed, leads where the step says, and leaves what the
 -- next point holds.
+use Rattle.mk_jobs.proofs.Vocabulary.{AccessIsAdmitted, Anything, Bool, Has, Hold, IfSome, IsAdmitted, IsBase, IsNumber}
+use Rattle.mk_jobs.proofs.Vocabulary.{IsOfKind, IsPointer, IsTypedStep, Kind, List, MayPoint, Meets, NeverState}
+use Rattle.mk_jobs.proofs.Vocabulary.{Nothing, Null, Num, Number, Op, OperandsAreInRange, Option, Owes, Owns, Plan}
+use Rattle.mk_jobs.proofs.Vocabulary.{Points, Ptr, Some, Step, StoreIsAdmitted, Target, To, Unmapped, Value, WordOf, ap}
+use Rattle.mk_jobs.proofs.Vocabulary.{arith, false, false≢true, freed, global_type, hold_of, if◌then◌else◌}
+use Rattle.mk_jobs.proofs.Vocabulary.{is_number_there, is_own, is_there, kind_there, left_at, length, ltb-true, may_go}
+use Rattle.mk_jobs.proofs.Vocabulary.{may_set, nat_lt, not, op_of, refl, register_at, subst, sym, true, type_there}
+use Rattle.mk_jobs.proofs.{Vocabulary.{with_word, ℕ, ◌&&◌, ◌<◌, ◌∙◌, ◌≡◌}, Holds.{HoldsIn, both}}
+use Rattle.mk_jobs.proofs.Meeting.{IsStateOf, global_so, go_so, is_number_so, meets, sound, there_so, type_so, word_met}
 use Rattle.mk_jobs.specs.declared.steps.Step.TheVariants as step
-use Rattle.mk_jobs.proofs.Vocabulary.{AccessIsAdmitted, Anything, Bool, Has, Hold, IfSome, IsAdmitted, IsBase}
-use Rattle.mk_jobs.proofs.Vocabulary.{IsNumber, IsOfKind, IsPointer, IsTypedStep, Kind, List, MayPoint, Meets}
-use Rattle.mk_jobs.proofs.Vocabulary.{NeverState, Nothing, Null, Num, Number, Op, OperandsAreInRange, Option, Owes}
-use Rattle.mk_jobs.proofs.Vocabulary.{Owns, Plan, Points, Ptr, Some, Step, StoreIsAdmitted, Target, To, Unmapped}
-use Rattle.mk_jobs.proofs.Vocabulary.{Value, WordOf, ap, arith, false, false≢true, freed, global_type, hold_of}
-use Rattle.mk_jobs.proofs.Vocabulary.{if◌then◌else◌, is_freed, is_number_there, is_own, is_there, kind_there, left_at}
-use Rattle.mk_jobs.proofs.Vocabulary.{length, ltb-true, may_go, may_set, nat_lt, not, op_of, refl, register_at, subst}
-use Rattle.mk_jobs.proofs.Vocabulary.{sym, true, type_there, with_word, ℕ, ◌&&◌, ◌<◌, ◌∙◌, ◌≡◌}
-use Rattle.mk_jobs.proofs.Holds.{HoldsIn, both}
-use Rattle.mk_jobs.proofs.Meeting.{IsStateOf, global_so, go_so, is_number_so, meets, sound, there_so, type_so}
-use Rattle.mk_jobs.proofs.Meeting.{word_met}
 
-freed_base : (h : Hold) (v : Value) → is_freed h ≡ true → Has v h → IsBase v
+freed_base : (h : Hold) (v : Value) → is_own h ≡ true → Has v h → IsBase v
 freed_base (Owns t) v e has = subst IsBase (sym has.is) refl
 freed_base (Owes t) Null e has = tt
 freed_base (Owes t) (Num m) e has = absurd has
@@ -83,7 +81,7 @@ module _ {Job Done Point : Type 0} (p : Plan Job Done Point) {n : NeverState} {k
   admits hs (step.Free r to) typed h =
       let one = both (nat_lt r 8) _ typed in
       let lt = ltb-true r 8 one.0 in
-      let two = both (is_freed (hold_of hs r)) _ one.1 in
+      let two = both (is_own (hold_of hs r)) _ one.1 in
       admitted (Op.Free r) lt tt (freed_base (hold_of hs r) (v r) two.0 (h r lt))
   admits hs (step.GetNum q i to) typed h =
       let one = both (nat_lt q 8) _ typed.0 in

@@ -1,9 +1,7 @@
 -- The words that the proofs of this crate share: they import them from here.
 pub use Rattle.std.proofs.Common.{Bool, IfSome, List, [], ap, append-nil, append_assoc, arith, drop, false, get_or, inl}
-pub use Rattle.std.proofs.Common.{inr}
-pub use Rattle.std.proofs.Common.{length, length-append, length-set, map, refl, subst, suc, sym, take, true, zero, ℕ}
-pub use Rattle.std.proofs.Common.{◌%◌, ◌*◌, ◌++◌}
-pub use Rattle.std.{proofs.Common.{◌+◌, ◌-◌, ◌/◌, ◌<◌, ◌^◌, ◌↔◌, ◌∙◌, ◌∷◌, ◌≡◌, ◌≢◌, ◌≤◌, ◌⊎◌}}
+pub use Rattle.std.proofs.Common.{inr, length, length-append, length-set, map, refl, subst, suc, sym, take, true, zero}
+pub use Rattle.std.proofs.Common.{ℕ, ◌%◌, ◌*◌, ◌++◌, ◌+◌, ◌-◌, ◌/◌, ◌<◌, ◌^◌, ◌↔◌, ◌∙◌, ◌∷◌, ◌≡◌, ◌≢◌, ◌≤◌, ◌⊎◌}
 pub use Rattle.std.proofs.lemmas.Bool.{and_from, and_parts, cases_Bool, cases_eq, cases_lt, eq-eqb, eqb-false, eqb-true}
 pub use Rattle.std.proofs.lemmas.Bool.{false_from_ne_true, false≢true, lt-ltb, ltb-true, ne_eqb, not-true, or_cases}
 pub use Rattle.std.proofs.lemmas.Bool.{or_from, or_left, or_parts, or_right, true≢false}
@@ -14,27 +12,23 @@ pub use Rattle.mk_never.specs.Admitted.{AccessIsAdmitted, IsAdmitted, IsBase, Is
 pub use Rattle.mk_never.specs.{Admitted.{Meets, OperandsAreInRange, StoreIsAdmitted}, Laws.{Continues, StoresTo}}
 pub use Rattle.mk_never.specs.NeverHeap.{Allocation, Call, NeverState, after_calls, after_free, after_op, allocation_at}
 pub use Rattle.mk_never.specs.NeverHeap.{bit, global_at, is_same, is_unmapped, left_at, no_allocation, register_at}
-pub use Rattle.mk_never.specs.NeverHeap.{free_reply, lea_reply, reply_at}
-pub use Rattle.mk_never.specs.NeverHeap.{replies_of, reply_of, start_of, target_of, with_freed, with_global, with_new}
-pub use Rattle.mk_never.specs.NeverHeap.{with_register, with_word, word_at, words_of}
-pub use Rattle.mk_never.specs.{Typed.{IsSound, IsTyped as HasTypes, Suits}, Types.kinds_of}
+pub use Rattle.mk_never.specs.NeverHeap.{free_reply, lea_reply, reply_at, replies_of, reply_of, start_of, target_of}
+pub use Rattle.mk_never.specs.NeverHeap.{with_freed, with_global, with_new, with_register, with_word, word_at, words_of}
 pub use Rattle.mk_never.specs.{declared.operations.Op.Op, declared.operations.Reply.Reply, declared.types.Kind.Kind}
-pub use Rattle.mk_never.specs.declared.types.Kind.TheVariants.{Num as Number, To}
 pub use Rattle.mk_never.specs.{declared.values.Target.Target, declared.values.Target.TheVariants.{Nothing, Unmapped}}
 pub use Rattle.mk_never.specs.{declared.values.Target.TheVariants.WordOf, declared.values.Value.Value}
 pub use Rattle.mk_never.specs.declared.values.Value.TheVariants.{Null, Num, Ptr}
 pub use Rattle.mk_jobs.specs.Jobs.{AreBelow, AreJobRuns, Asks, Has, HoldsAt, IsInterleaved, IsJobRun, IsPointerTo}
-pub use Rattle.mk_jobs.specs.Jobs.{JobRun, Leads, Replied, all_of, jobs_of_first, number_replied, own_replied}
+pub use Rattle.mk_jobs.specs.Jobs.{JobRun, Leads, Replied, all_of, jobs_of_first, number_replied, own_replied, IsClear}
 pub use Rattle.mk_jobs.specs.Keeping.{Decides, Fits, Gone, IsOf, IsShown, IsThere, Keeps, Moves, Private, Public, Role}
 pub use Rattle.mk_jobs.specs.Keeping.{Taken, TakesPublic, Unborn, Waits, World, after, first_world, is_held_no_more}
-pub use Rattle.mk_jobs.specs.Keeping.{is_owed, is_private, nothing, role_after, settles}
+pub use Rattle.mk_jobs.specs.Keeping.{is_owed, is_private, nothing, role_after, settles, Covers}
 pub use Rattle.mk_jobs.specs.Laws.{IsAlwaysExplained, IsExplained, IsOneOf, LeaksNothing, NoneIsDouble, freed_by}
-pub use Rattle.mk_jobs.specs.Laws.{is_done, is_pointer_to, times_freed}
-pub use Rattle.mk_jobs.specs.Orders.{AreDecidedOnce, Ordered, left_by_all, order_of, own_decisions}
-pub use Rattle.mk_jobs.specs.{Plans.{Anything, Hold, MayPoint, Owes, Owns, Plan, Points}, declared.steps.Step.Step}
-pub use Rattle.mk_jobs.specs.Typing.{IsTyped, IsTypedStep, all_give, found, freed, gives, global_type, hold_of}
-pub use Rattle.mk_jobs.specs.Typing.{is_freed}
-pub use Rattle.mk_jobs.specs.Typing.{is_number_there, is_own, is_there, kind_of, kind_there, leads, leads_shared}
-pub use Rattle.mk_jobs.specs.Typing.{loaded}
-pub use Rattle.mk_jobs.specs.Typing.{may_go, may_set, shares, taken, there, type_there, with_hold}
-pub use Rattle.mk_jobs.specs.{Advancing.{AreClears, op_of}, Jobs.IsClear, Keeping.Covers}
+pub use Rattle.mk_jobs.specs.{Laws.{is_done, is_pointer_to, times_freed}, Orders.{AreDecidedOnce, Ordered, left_by_all}}
+pub use Rattle.mk_jobs.specs.{Orders.{order_of, own_decisions}, Plans.{Anything, Hold, MayPoint, Owes, Owns, Plan}}
+pub use Rattle.mk_jobs.specs.{Plans.Points, declared.steps.Step.Step, Typing.{IsTyped, IsTypedStep, all_give, found}}
+pub use Rattle.mk_jobs.specs.Typing.{freed, gives, global_type, hold_of, is_number_there, is_own, is_there}
+pub use Rattle.mk_jobs.specs.Typing.{kind_of, kind_there, leads, leads_shared, loaded, may_go, may_set, shares, taken}
+pub use Rattle.mk_jobs.specs.{Typing.{there, type_there, with_hold}, Advancing.{AreClears, op_of}}
+pub use Rattle.mk_never.specs.{Typed.{IsSound, IsTyped as HasTypes, Suits}, Types.kinds_of}
+pub use Rattle.mk_never.specs.declared.types.Kind.TheVariants.{Num as Number, To}

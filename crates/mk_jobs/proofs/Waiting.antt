@@ -1,19 +1,16 @@
 -- What an operation leaves to the callers that wait: what they have in registers, and what they own.
 use Rattle.mk_never.proofs.{Edits.{left_at_by, if_by, set_by}, Later.{old_stays, op_stays}, Sameness.equal_from_same}
-use Rattle.mk_never.proofs.{Registers.{destination, op_keeps as registers_keep}, TypedCalls.{op_keeps as types_keep}}
-use Rattle.mk_jobs.specs.declared.steps.Step.TheVariants as step
-use Rattle.mk_never.specs.declared.operations.Op.TheVariants as op
 use Rattle.mk_jobs.proofs.Vocabulary.{Allocation, Asks, Fits, HasTypes, Hold, IfSome, IsAdmitted, IsOf, IsThere}
 use Rattle.mk_jobs.proofs.Vocabulary.{IsTypedStep, List, NeverState, Null, Num, Op, Option, Plan, Ptr, Reply, Role}
 use Rattle.mk_jobs.proofs.Vocabulary.{Step, StoresTo, Unborn, Value, Waits, World, after, after_free, after_op, ap}
 use Rattle.mk_jobs.proofs.Vocabulary.{arith, cases_lt, false, inl, inr, is_same, length, no_allocation, op_of, refl}
-use Rattle.mk_jobs.proofs.Vocabulary.{register_at, reply_of, subst, sym, target_of, true, with_word, word_at}
-use Rattle.mk_jobs.proofs.Vocabulary.{words_of, ℕ, ◌*◌, ◌<◌, ◌∙◌, ◌≡◌, ◌≢◌}
-use Rattle.mk_jobs.proofs.Holds.{HoldsIn, same_so}
-use Rattle.mk_jobs.proofs.Meeting.{IsStateOf}
-use Rattle.mk_jobs.proofs.Stepping.{admits}
-use Rattle.mk_jobs.proofs.Owners.{IsOwner, LeavesRole, leaves_role, others_owner, own_unborn}
+use Rattle.mk_jobs.proofs.Vocabulary.{register_at, reply_of, subst, sym, target_of, true, with_word, word_at, words_of}
+use Rattle.mk_jobs.proofs.{Vocabulary.{ℕ, ◌*◌, ◌<◌, ◌∙◌, ◌≡◌, ◌≢◌}, Holds.{HoldsIn, same_so}, Meeting.IsStateOf}
+use Rattle.mk_jobs.proofs.{Stepping.admits, Owners.{IsOwner, LeavesRole, leaves_role, others_owner, own_unborn}}
 use Rattle.mk_jobs.proofs.Left.{Left}
+use Rattle.mk_never.proofs.{Registers.{destination, op_keeps as registers_keep}, TypedCalls.{op_keeps as types_keep}}
+use Rattle.mk_jobs.specs.declared.steps.Step.TheVariants as step
+use Rattle.mk_never.specs.declared.operations.Op.TheVariants as op
 
 -- Words in which an operation stores nothing stay.
 abbrev Same : NeverState → ℕ → NeverState → Type 0

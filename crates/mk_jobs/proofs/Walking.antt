@@ -3,17 +3,15 @@ use Rattle.std.proofs.Common.{IfSome}
 use Rattle.mk_jobs.proofs.RunVocabulary.{Answer, Answers, Asks, CallerState, GoesToPoint, HoldsAt, IsHistory, IsMadeFor}
 use Rattle.mk_jobs.proofs.RunVocabulary.{IsReady, Leads, Op, PassState, Plan, Replied, StaysAdmitted, Step, as_told}
 use Rattle.mk_jobs.proofs.RunVocabulary.{after_op, answer_of, caller_of_pass, flagged, never_of, next_by, op_of}
-use Rattle.mk_jobs.proofs.RunVocabulary.{register_at, replied_to, reply_of, value_of}
-use Rattle.mk_jobs.proofs.{Holds.{HoldsIn, same_so}, Leading.steps_on, Meeting.IsStateOf}
-use Rattle.mk_jobs.proofs.{Replies.{Happens, from_turn, once_open, stays}, Stepping.admits}
-use Rattle.mk_jobs.proofs.Unused.{SetsBelow, from_stays, used_only}
-use Rattle.mk_jobs.specs.Jobs.{IsEnd}
+use Rattle.mk_jobs.proofs.{RunVocabulary.{register_at, replied_to, reply_of, value_of}, Holds.{HoldsIn, same_so}}
+use Rattle.mk_jobs.proofs.{Leading.steps_on, Meeting.IsStateOf, Replies.{Happens, from_turn, once_open, stays}}
+use Rattle.mk_jobs.proofs.{Stepping.admits, Unused.{SetsBelow, from_stays, used_only}}
+use Rattle.mk_jobs.specs.{Jobs.IsEnd, Typing.IsTyped}
 use Rattle.mk_laws.proofs.Vocabulary.{Bool, List, Option, Some, ℕ, ap, append-nil, append_assoc, arith, false, inl, inr}
 use Rattle.mk_laws.proofs.Vocabulary.{is_under_turn, refl, subst, sym, true, [], ◌++◌, ◌<◌, ◌∙◌, ◌∷◌, ◌≡◌}
 use Rattle.mk_laws.proofs.{CallSorts.flag_is, LastEvents.stands}
-use Rattle.mk_never.specs.{Admitted.IsAdmitted, Typed.IsTyped as IsTypedState}
 use Rattle.mk_heap.specs.{Below.Callers.States.Admits, Below.Objects.TurnCalls.MayTakeTurns, Dispatching.unflagged}
-use Rattle.mk_jobs.specs.Typing.{IsTyped}
+use Rattle.mk_never.specs.{Admitted.IsAdmitted, Typed.IsTyped as IsTypedState}
 use Rattle.mk_jobs.specs.declared.steps.Step.TheVariants as step
 
 -- what holds of the operation that is asked

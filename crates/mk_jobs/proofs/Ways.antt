@@ -1,23 +1,20 @@
 -- What the operation of a typed step is, and what its answer leads to: it creates an object, frees one that its caller
 -- owns, or does neither.
-use Rattle.mk_jobs.specs.declared.steps.Step.TheVariants as step
-use Rattle.mk_never.specs.declared.operations.Op.TheVariants as op
 use Rattle.mk_jobs.proofs.Vocabulary.{Anything, Asks, Bool, Has, Hold, IfSome, IsOfKind, IsTypedStep, List, MayPoint}
 use Rattle.mk_jobs.proofs.Vocabulary.{NeverState, None, Null, Num, Op, Option, Owes, Owns, Plan, Points, Ptr, Public}
 use Rattle.mk_jobs.proofs.Vocabulary.{Reply, Role, Some, Step, TakesPublic, Target, To, Value, World, after_op}
 use Rattle.mk_jobs.proofs.Vocabulary.{all_give, and_parts, ap, arith, bit, cond, eqb-true, false, false≢true, found}
-use Rattle.mk_jobs.proofs.Vocabulary.{freed, get_or-set_other, get_or-set_same, gives, global_at, global_type}
-use Rattle.mk_jobs.proofs.Vocabulary.{hold_of, inl, inr, is_freed, is_number_there, is_owed, is_own, is_pointer_to}
-use Rattle.mk_jobs.proofs.Vocabulary.{is_same, is_there, kind_there, leads, leads_shared, left_at, length, loaded}
-use Rattle.mk_jobs.proofs.Vocabulary.{ltb-true, may_go, may_set, nat_lt, not, number_replied, refl, register_at}
-use Rattle.mk_jobs.proofs.Vocabulary.{reply_of, subst, sym, taken, target_of, true, type_there, with_hold}
-use Rattle.mk_jobs.proofs.Vocabulary.{with_register, word_at, ℕ, ◌&&◌, ◌*◌, ◌+◌, ◌<◌, ◌==◌, ◌∙◌, ◌≡◌, ◌⊎◌}
-use Rattle.mk_jobs.proofs.Holds.{HoldsIn, pointer_may}
+use Rattle.mk_jobs.proofs.Vocabulary.{freed, get_or-set_other, get_or-set_same, gives, global_at, global_type, hold_of}
+use Rattle.mk_jobs.proofs.Vocabulary.{inl, inr, is_number_there, is_owed, is_own, is_pointer_to, is_same}
+use Rattle.mk_jobs.proofs.Vocabulary.{is_there, kind_there, leads, leads_shared, left_at, length, loaded, ltb-true}
+use Rattle.mk_jobs.proofs.Vocabulary.{may_go, may_set, nat_lt, not, number_replied, refl, register_at, reply_of, subst}
+use Rattle.mk_jobs.proofs.Vocabulary.{sym, taken, target_of, true, type_there, with_hold, with_register, word_at, ℕ}
+use Rattle.mk_jobs.proofs.{Vocabulary.{◌&&◌, ◌*◌, ◌+◌, ◌<◌, ◌==◌, ◌∙◌, ◌≡◌, ◌⊎◌}, Holds.{HoldsIn, pointer_may}}
 use Rattle.mk_jobs.proofs.Meeting.{IsStateOf, global_so, loads, sound, there_so, type_so, word_met}
-use Rattle.mk_jobs.proofs.Stepping.{cond_registers, left_registers, set_lt}
-use Rattle.mk_jobs.proofs.Owners.{not_owed}
-use Rattle.mk_jobs.proofs.Passing.{Change, Goes, goes_change, goes_quiet, goes_set, leads_by, leads_shared_by, sets}
-use Rattle.mk_jobs.proofs.Passing.{stays, takes}
+use Rattle.mk_jobs.proofs.{Stepping.{cond_registers, left_registers, set_lt}, Owners.not_owed, Passing.{Change, Goes}}
+use Rattle.mk_jobs.proofs.Passing.{goes_change, goes_quiet, goes_set, leads_by, leads_shared_by, sets, stays, takes}
+use Rattle.mk_jobs.specs.declared.steps.Step.TheVariants as step
+use Rattle.mk_never.specs.declared.operations.Op.TheVariants as op
 
 -- It creates and frees nothing.
 abbrev pub is_quiet : Op → Bool
@@ -97,9 +94,6 @@ taken_owes : (h g : Hold) → Taking h g → is_own h ≡ false → is_owed (tak
 taken_owes h g (gets t u e owes was is) none owed = rw owes refl
 taken_owes h g (leaves is) none owed = absurd (false≢true (sym (not_owed h none) ∙ ap is_owed (sym is) ∙ owed))
 
-pub freed_is_own : (h : Hold) → is_freed h ≡ true → is_own h ≡ true
-freed_is_own x0 e = grind arith
-
 pub not_own : (b c : Bool) → (b && not c) ≡ true → c ≡ false
 not_own x0 x1 e = grind arith
 
@@ -170,9 +164,9 @@ module _ {Job Done Point : Type 0} (p : Plan Job Done Point) (w : World) {k : �
       ]
   asks_way (step.Free r to) typed o t asks public =
       let one = and_parts (nat_lt r 8) _ typed in
-      let two = and_parts (is_freed (hold_of hs r)) _ one.1 in
+      let two = and_parts (is_own (hold_of hs r)) _ one.1 in
       at o (op.Free r) t to asks.0 asks.1
-      (frees_own r refl (ltb-true r 8 one.0) (freed_is_own (hold_of hs r) two.0) two.1)
+      (frees_own r refl (ltb-true r 8 one.0) two.0 two.1)
   asks_way (step.GetNum q i to) typed o t asks public =
       at o (op.GetNum q i) t _ asks.0 asks.1 (passes refl (quiet_to w.n _ (λ r lt. refl)
       (typed.1 (number_replied (reply_of w.n k o)))))

@@ -5,56 +5,53 @@ use Rattle.mk_never.specs.{declared.operations.Op.Op, declared.values.Value.TheV
 use Rattle.mk_core.specs.declared.events.Answer.{Answer}
 use Rattle.mk_heap.specs.{Below.Words.States.PassState, Below.Callers.States.value_of}
 use Rattle.mk_jobs.specs.{declared.steps.Step.Step, Jobs.{IsClear, Replied}, Passes.replied_to}
-use Rattle.mk_jobs.specs.declared.steps.Step.TheVariants as step
-use Rattle.mk_never.specs.declared.operations.Op.TheVariants as op
-use Rattle.mk_core.specs.declared.events.Answer.TheVariants as answer
 
 -- the operation of a step, if it asks for one
 abbrev pub op_of : {Point Done : Type 0} → Step Point Done → Option Op
-op_of (step.New d ty to full) = Some (op.New d ty false)
-op_of (step.Free p to) = Some (op.Free p)
-op_of (step.GetNum q i to) = Some (op.GetNum q i)
-op_of (step.SetNum q i n to) = Some (op.SetNum q i n)
-op_of (step.GetPtr d q i to) = Some (op.GetPtr d q i)
-op_of (step.SetPtr q i p to) = Some (op.SetPtr q i p)
-op_of (step.CasPtr q i p r so not_so) = Some (op.CasPtr q i p r)
-op_of (step.GetGlobal d g to) = Some (op.GetGlobal d g)
-op_of (step.SetGlobal g p to) = Some (op.SetGlobal g p)
-op_of (step.Clear d to) = Some (op.Clear d)
-op_of (step.Same p q so not_so) = Some (op.Same p q)
-op_of (step.IsNull p so not_so) = Some (op.IsNull p)
-op_of (step.End done) = None
+op_of (Step.New d ty to full) = Some (Op.New d ty false)
+op_of (Step.Free p to) = Some (Op.Free p)
+op_of (Step.GetNum q i to) = Some (Op.GetNum q i)
+op_of (Step.SetNum q i n to) = Some (Op.SetNum q i n)
+op_of (Step.GetPtr d q i to) = Some (Op.GetPtr d q i)
+op_of (Step.SetPtr q i p to) = Some (Op.SetPtr q i p)
+op_of (Step.CasPtr q i p r so not_so) = Some (Op.CasPtr q i p r)
+op_of (Step.GetGlobal d g to) = Some (Op.GetGlobal d g)
+op_of (Step.SetGlobal g p to) = Some (Op.SetGlobal g p)
+op_of (Step.Clear d to) = Some (Op.Clear d)
+op_of (Step.Same p q so not_so) = Some (Op.Same p q)
+op_of (Step.IsNull p so not_so) = Some (Op.IsNull p)
+op_of (Step.End done) = None
 
 -- the answer is Full
 abbrev pub says_full : Answer → Bool
-says_full answer.Full = true
+says_full Answer.Full = true
 says_full _ = false
 
 -- the answer is 1
 abbrev pub says_yes : Answer → Bool
-says_yes (answer.Num n) = n == 1
+says_yes (Answer.Num n) = n == 1
 says_yes _ = false
 
 -- the number of the answer
 abbrev pub number_answered : Answer → ℕ
-number_answered (answer.Num n) = n
+number_answered (Answer.Num n) = n
 number_answered _ = 0
 
 -- the point to which the answer leads
 abbrev pub next_by : {Point Done : Type 0} → (Point → ℕ → Point) → Point → Step Point Done → Answer → Point
-next_by w s (step.New d ty to full) told = if says_full told then full else to
-next_by w s (step.Free p to) told = to
-next_by w s (step.GetNum q i to) told = w to (number_answered told)
-next_by w s (step.SetNum q i n to) told = to
-next_by w s (step.GetPtr d q i to) told = to
-next_by w s (step.SetPtr q i p to) told = to
-next_by w s (step.CasPtr q i p r so not_so) told = if says_yes told then so else not_so
-next_by w s (step.GetGlobal d g to) told = to
-next_by w s (step.SetGlobal g p to) told = to
-next_by w s (step.Clear d to) told = to
-next_by w s (step.Same p q so not_so) told = if says_yes told then so else not_so
-next_by w s (step.IsNull p so not_so) told = if says_yes told then so else not_so
-next_by w s (step.End done) told = s
+next_by w s (Step.New d ty to full) told = if says_full told then full else to
+next_by w s (Step.Free p to) told = to
+next_by w s (Step.GetNum q i to) told = w to (number_answered told)
+next_by w s (Step.SetNum q i n to) told = to
+next_by w s (Step.GetPtr d q i to) told = to
+next_by w s (Step.SetPtr q i p to) told = to
+next_by w s (Step.CasPtr q i p r so not_so) told = if says_yes told then so else not_so
+next_by w s (Step.GetGlobal d g to) told = to
+next_by w s (Step.SetGlobal g p to) told = to
+next_by w s (Step.Clear d to) told = to
+next_by w s (Step.Same p q so not_so) told = if says_yes told then so else not_so
+next_by w s (Step.IsNull p so not_so) told = if says_yes told then so else not_so
+next_by w s (Step.End done) told = s
 
 -- Each of these operations is a Clear, answered Done.
 abbrev pub AreClears : List Replied → Type 0

@@ -1,14 +1,10 @@
 -- A job as operations of the heap that never reuses storage: which one comes next, by the replies so far.
-use Rattle.std.specs.Prelude.{◌≡◌, ◌⊎◌, ℕ, zero, suc, ◌<◌, ◌==◌, true, false, List, [], ◌∷◌, ◌++◌}
-use Rattle.std.specs.Prelude.{if◌then◌else◌}
+use Rattle.std.specs.Prelude.{◌≡◌, ◌⊎◌, ℕ, zero, suc, ◌<◌, ◌==◌, true, false, List, [], ◌∷◌, ◌++◌, if◌then◌else◌}
 use Rattle.mk_never.specs.{declared.operations.Op.Op, declared.operations.Reply.Reply, declared.values.Value.Value}
-use Rattle.mk_never.specs.{declared.values.Value.TheVariants.Ptr, declared.types.Kind.TheVariants.To}
-use Rattle.mk_never.specs.{Admitted.IsOfKind, NeverHeap.{NeverState, Call, reply_of, after_op}}
+use Rattle.mk_never.specs.{declared.values.Value.TheVariants.Ptr, declared.types.Kind.TheVariants.To, Admitted.IsOfKind}
+use Rattle.mk_never.specs.NeverHeap.{NeverState, Call, reply_of, after_op}
 use Rattle.mk_jobs.specs.{Plans.{Plan, Hold, Anything, MayPoint, Points, Owns, Owes}, declared.steps.Step.Step}
 use Rattle.mk_jobs.specs.Typing.{hold_of}
-use Rattle.mk_jobs.specs.declared.steps.Step.TheVariants as step
-use Rattle.mk_never.specs.declared.operations.Op.TheVariants as op
-use Rattle.mk_never.specs.declared.operations.Reply.TheVariants as reply
 
 -- an operation, and what it was replied
 pub record Replied : Type 0 where
@@ -17,37 +13,37 @@ pub record Replied : Type 0 where
 
 -- the number of the reply
 abbrev pub number_replied : Reply → ℕ
-number_replied (reply.Num n) = n
+number_replied (Reply.Num n) = n
 number_replied _ = 0
 
 -- The operation of a step is asked, is replied so, and leads there. What isn't replied yes leads where no does.
 abbrev pub Asks : {Point Done : Type 0} → (Point → ℕ → Point) → Step Point Done → Op → Reply → Point → Type 0
-Asks w (step.New d ty to full) o r t =
-    ((o ≡ op.New d ty false) × (t ≡ to)) ⊎ ((o ≡ op.New d ty true) × (t ≡ full))
-Asks w (step.Free p to) o r t = (o ≡ op.Free p) × (t ≡ to)
-Asks w (step.GetNum q i to) o r t = (o ≡ op.GetNum q i) × (t ≡ w to (number_replied r))
-Asks w (step.SetNum q i n to) o r t = (o ≡ op.SetNum q i n) × (t ≡ to)
-Asks w (step.GetPtr d q i to) o r t = (o ≡ op.GetPtr d q i) × (t ≡ to)
-Asks w (step.SetPtr q i p to) o r t = (o ≡ op.SetPtr q i p) × (t ≡ to)
-Asks w (step.CasPtr q i p x so not_so) o r t =
-    (o ≡ op.CasPtr q i p x) × (((r ≡ reply.Num 1) × (t ≡ so)) ⊎ ((r ≡ reply.Num 1 → ⊥) × (t ≡ not_so)))
-Asks w (step.GetGlobal d g to) o r t = (o ≡ op.GetGlobal d g) × (t ≡ to)
-Asks w (step.SetGlobal g p to) o r t = (o ≡ op.SetGlobal g p) × (t ≡ to)
-Asks w (step.Clear d to) o r t = (o ≡ op.Clear d) × (t ≡ to)
-Asks w (step.Same p q so not_so) o r t =
-    (o ≡ op.Same p q) × (((r ≡ reply.Num 1) × (t ≡ so)) ⊎ ((r ≡ reply.Num 1 → ⊥) × (t ≡ not_so)))
-Asks w (step.IsNull p so not_so) o r t =
-    (o ≡ op.IsNull p) × (((r ≡ reply.Num 1) × (t ≡ so)) ⊎ ((r ≡ reply.Num 1 → ⊥) × (t ≡ not_so)))
-Asks w (step.End done) o r t = ⊥
+Asks w (Step.New d ty to full) o r t =
+    ((o ≡ Op.New d ty false) × (t ≡ to)) ⊎ ((o ≡ Op.New d ty true) × (t ≡ full))
+Asks w (Step.Free p to) o r t = (o ≡ Op.Free p) × (t ≡ to)
+Asks w (Step.GetNum q i to) o r t = (o ≡ Op.GetNum q i) × (t ≡ w to (number_replied r))
+Asks w (Step.SetNum q i n to) o r t = (o ≡ Op.SetNum q i n) × (t ≡ to)
+Asks w (Step.GetPtr d q i to) o r t = (o ≡ Op.GetPtr d q i) × (t ≡ to)
+Asks w (Step.SetPtr q i p to) o r t = (o ≡ Op.SetPtr q i p) × (t ≡ to)
+Asks w (Step.CasPtr q i p x so not_so) o r t =
+    (o ≡ Op.CasPtr q i p x) × (((r ≡ Reply.Num 1) × (t ≡ so)) ⊎ ((r ≡ Reply.Num 1 → ⊥) × (t ≡ not_so)))
+Asks w (Step.GetGlobal d g to) o r t = (o ≡ Op.GetGlobal d g) × (t ≡ to)
+Asks w (Step.SetGlobal g p to) o r t = (o ≡ Op.SetGlobal g p) × (t ≡ to)
+Asks w (Step.Clear d to) o r t = (o ≡ Op.Clear d) × (t ≡ to)
+Asks w (Step.Same p q so not_so) o r t =
+    (o ≡ Op.Same p q) × (((r ≡ Reply.Num 1) × (t ≡ so)) ⊎ ((r ≡ Reply.Num 1 → ⊥) × (t ≡ not_so)))
+Asks w (Step.IsNull p so not_so) o r t =
+    (o ≡ Op.IsNull p) × (((r ≡ Reply.Num 1) × (t ≡ so)) ⊎ ((r ≡ Reply.Num 1 → ⊥) × (t ≡ not_so)))
+Asks w (Step.End done) o r t = ⊥
 
 -- Nothing is asked any more.
 abbrev pub IsEnd : {Point Done : Type 0} → Step Point Done → Type 0
-IsEnd (step.End done) = Unit {0}
+IsEnd (Step.End done) = Unit {0}
 IsEnd _ = ⊥
 
 -- It clears one of the eight registers.
 abbrev pub IsClear : Op → Type 0
-IsClear (op.Clear d) = d < 8
+IsClear (Op.Clear d) = d < 8
 IsClear _ = ⊥
 
 -- It points to the first word of an object of this type.
@@ -103,12 +99,18 @@ module _ {Job Done Point : Type 0} (p : Plan Job Done Point) where
 
   -- The operations lead from the job's start to its outcome.
   abbrev pub IsJobRun : JobRun Job Done → Type 0
-  IsJobRun r = (t : Point) × Leads (p.starting r.job) r.all t × (p.step t ≡ step.End r.done)
+  IsJobRun r = (t : Point) × Leads (p.starting r.job) r.all t × (p.step t ≡ Step.End r.done)
 
   -- Each is the run of a job.
   abbrev pub AreJobRuns : List (JobRun Job Done) → Type 0
   AreJobRuns [] = Unit {0}
   AreJobRuns (r ∷ rs) = IsJobRun r × AreJobRuns rs
+
+  -- These operations make the object.
+  pub record IsFounding (founding : List Replied) : Type 0 where
+    pub found : Point
+    pub founds : Leads p.founding founding found
+    pub founded : IsEnd (p.step found)
 
   -- what the registers hold at a point
   abbrev pub HoldsAt : (ℕ → Value) → Point → Type 0
@@ -117,9 +119,7 @@ module _ {Job Done Point : Type 0} (p : Plan Job Done Point) where
   -- Each caller below this number does its jobs one after the other, whatever the others do between.
   pub record IsInterleaved (n : NeverState) (callers : ℕ) (founding : List Replied) (runs : ℕ → List (JobRun Job Done))
       (calls : List Call) : Type 0 where
-    pub found : Point
-    pub founds : Leads p.founding founding found
-    pub founded : IsEnd (p.step found)
+    pub founds : IsFounding founding
     pub jobs : (k : ℕ) → AreJobRuns (runs k)
     pub own : (k : ℕ) → own_replied k n calls ≡ jobs_of_first k founding ++ all_of (runs k)
     pub exist : AreBelow callers calls

@@ -6,11 +6,9 @@ use Rattle.mk_core.specs.declared.events.Seat.TheVariants.{Caller, Host}
 use Rattle.mk_heap.specs.{Below.Words.Seats.{Has, has_over}, Below.Words.States.{WordsState, PassState}}
 use Rattle.mk_heap.specs.{Below.Callers.States.IsIdleCaller, Below.Objects.Laws.OwnAreExact, Hosts.HostState}
 use Rattle.mk_heap.specs.{Below.Objects.TurnCycles.TurnsOfAreExact, HostTurns.HostComesLast}
-use Rattle.mk_jobs.specs.{declared.job_lists.Jobs.Jobs}
-use Rattle.mk_jobs.specs.{declared.joining.Callers.Callers, declared.joining.Joined.Joined}
-use Rattle.mk_jobs.specs.{declared.joining.Worked.Worked, declared.working.Ended.Ended}
-use Rattle.mk_jobs.specs.{Engines.AreEnginesFrom, JobLists.{HasDone, HaveDone}, Jobs.{IsEnd, Leads, Replied}}
-use Rattle.mk_jobs.specs.Plans.{Plan}
+use Rattle.mk_jobs.specs.{Engines.AreEnginesFrom, JobLists.{HasDone, HaveDone}, Jobs.{IsFounding, Replied}, Plans.Plan}
+use Rattle.mk_jobs.specs.{declared.job_lists.Jobs.Jobs, declared.joining.Callers.Callers}
+use Rattle.mk_jobs.specs.{declared.joining.Joined.Joined, declared.joining.Worked.Worked, declared.working.Ended.Ended}
 
 -- The pass of caller k between two jobs, which its own thread may take.
 pub record IsBetweenJobs (on : Bool) (w : WordsState) (k : ℕ) (p : PassState) : Type 0 where
@@ -29,12 +27,6 @@ pub record AreCallersFrom {E : Type 0} (on : Bool) (made_for : E → ℕ) (w : W
 -- The turns of the callers from k on, so many, did with cycles what their operations ask.
 abbrev pub AreExactFrom : Bool → Config → ℕ → ℕ → List Event → Type 0
 AreExactFrom on c k count es = (j : ℕ) → k ≤ j → j < k + count → TurnsOfAreExact on c (Caller j) es
-
--- These operations make the object.
-pub record IsFounding {Job Done Point : Type 0} (p : Plan Job Done Point) (founding : List Replied) : Type 0 where
-  pub found : Point
-  pub founds : Leads p p.founding founding found
-  pub founded : IsEnd (p.step found)
 
 module _ {Job Done Point : Type 0} (p : Plan Job Done Point) (on : Bool) (w : WordsState) where
   -- Caller k did its jobs on a thread of its own, all of them where memory sufficed.

@@ -1,15 +1,10 @@
 -- How a client proves that its jobs are always explained: what holds between any two operations, one at a time.
 use Rattle.std.specs.Prelude.{◌≡◌, ◌&&◌, ◌||◌, ◌==◌, ◌<◌, ◌≤◌, ◌+◌, ◌*◌, ℕ, Bool, true, false, not, List, [], ◌∷◌}
-use Rattle.std.specs.Prelude.{length, Option, Some, None}
-use Rattle.std.specs.Prelude.{if◌then◌else◌}
-use Rattle.mk_never.specs.{declared.operations.Op.Op}
-use Rattle.mk_never.specs.NeverHeap.{NeverState, after_op, allocation_at, global_at, register_at, reply_of}
-use Rattle.mk_never.specs.{Laws.StoresTo, NeverHeap.{start_of, words_of}, Typed.IsTyped}
-use Rattle.mk_jobs.specs.{Plans.{Plan, Hold, Owns, Owes}, Jobs.{Asks, HoldsAt}}
-use Rattle.mk_jobs.specs.Typing.{hold_of}
-use Rattle.mk_jobs.specs.Laws.{IsOneOf, is_pointer_to}
-use Rattle.mk_never.specs.declared.operations.Op.TheVariants as op
-use Rattle.mk_jobs.specs.declared.steps.Step.TheVariants as step
+use Rattle.std.specs.Prelude.{length, Option, Some, None, if◌then◌else◌}
+use Rattle.mk_never.specs.{declared.operations.Op.Op, NeverHeap.{NeverState, after_op, allocation_at, global_at}}
+use Rattle.mk_never.specs.{NeverHeap.{register_at, reply_of, start_of, words_of}, Laws.StoresTo, Typed.IsTyped}
+use Rattle.mk_jobs.specs.{Plans.{Plan, Hold, Owns, Owes}, Jobs.{Asks, HoldsAt}, Typing.hold_of}
+use Rattle.mk_jobs.specs.{Laws.{IsOneOf, is_pointer_to}, declared.steps.Step.Step}
 
 -- who knows an allocation
 pub data Role : Type 0 where
@@ -72,15 +67,15 @@ is_held_no_more f n k a r (h ∷ hs) gs =
 -- Who knows what after an operation: what is created is its caller's, what isn't held as private any more is public,
 -- what is owed from now on is taken, and what isn't owed any more is gone.
 abbrev pub role_after : World → ℕ → Op → List Hold → List Hold → ℕ → Role
-role_after w k (op.New d ty false) hs gs a = if a == length w.n.allocations then Private k else w.role a
-role_after w k (op.Free p) hs gs a = if is_pointer_to a (register_at w.n k p) then Gone else w.role a
+role_after w k (Op.New d ty false) hs gs a = if a == length w.n.allocations then Private k else w.role a
+role_after w k (Op.Free p) hs gs a = if is_pointer_to a (register_at w.n k p) then Gone else w.role a
 role_after w k o hs gs a =
     if is_held_no_more is_private w.n k a 0 hs gs then Public
     else if is_held_no_more is_owed w.n k a 0 gs hs then Taken k else w.role a
 
 -- What an exchange takes out was public.
 abbrev pub TakesPublic : World → ℕ → Op → List Hold → List Hold → Type 0
-TakesPublic w k (op.CasPtr q i x r) hs gs =
+TakesPublic w k (Op.CasPtr q i x r) hs gs =
     is_owed (hold_of gs x) ≡ true → is_owed (hold_of hs x) ≡ false
     → (a : ℕ) → is_pointer_to a (register_at w.n k x) ≡ true → w.role a ≡ Public
 TakesPublic w k _ hs gs = Unit {0}
@@ -143,7 +138,7 @@ module _ {Job Done Point State : Type 0} (p : Plan Job Done Point) (left_by : St
         × (job_at p.founding ≡ None)
     pub begins : (w : World) (k : ℕ) (j : Job) → Local w k (p.starting j) None × (job_at (p.starting j) ≡ Some j)
     pub ends : (w : World) (k : ℕ) (s : Point) (u : Option Done) (d : Done) (j : Job) → Local w k s u
-        → p.step s ≡ step.End d → (u ≡ None → job_at s ≡ Some j) → u ≡ Some d
+        → p.step s ≡ Step.End d → (u ≡ None → job_at s ≡ Some j) → u ≡ Some d
     pub waits : (callers j k : ℕ) (s : Point) (u : Option Done) (w w' : World) → (j ≡ k → ⊥) → IsThere callers w k s
         → Waits k w w' → Rely j w w' → Local w k s u → Local w' k s u
     pub covers : (j : ℕ) (x : State) (w w' : World) → Covers w w' → Shared w x → Shared w' x × Rely j w w'

@@ -1,8 +1,7 @@
 -- Objects of a heap that are linked in a row, each by the same word to the next.
 use Rattle.std.specs.Prelude.{◌≡◌, ℕ, List, [], ◌∷◌}
 use Rattle.mk_never.specs.{declared.values.Value.Value, declared.values.Value.TheVariants.{Null, Ptr}}
-use Rattle.mk_never.specs.declared.types.Kind.{Kind}
-use Rattle.mk_never.specs.NeverHeap.{NeverState, number_of, word_at}
+use Rattle.mk_never.specs.{declared.types.Kind.Kind, NeverHeap.{NeverState, number_of, word_at}}
 
 -- a node of a number and a link
 abbrev pub node_kinds : List Kind

@@ -4,9 +4,8 @@ use Rattle.mk_never.specs.declared.values.Value.TheVariants.{Null}
 use Rattle.mk_core.specs.{declared.config.Config.Config, declared.events.Event.Event, Decided.asked}
 use Rattle.mk_core.specs.History.{calls, never_first}
 use Rattle.mk_heap.specs.{Below.Words.States.PassState, Below.Callers.States.{CallerState, caller_of_pass, value_of}}
-use Rattle.mk_heap.specs.Below.Objects.{Laws.OwnAreExact, TurnCalls.MayTakeTurns}
-use Rattle.mk_jobs.specs.{Plans.Plan, Jobs.{Replied, Leads, own_replied}}
-use Rattle.mk_jobs.specs.declared.steps.Step.TheVariants as step
+use Rattle.mk_heap.specs.{Below.Objects.Laws.OwnAreExact, Below.Objects.TurnCalls.MayTakeTurns}
+use Rattle.mk_jobs.specs.{Plans.Plan, Jobs.{Replied, Leads, own_replied}, declared.steps.Step.Step}
 
 -- the operations of caller k in a history, with the replies of the heap that never reuses storage
 abbrev pub replied_in : Config → ℕ → List Event → List Replied
@@ -44,7 +43,7 @@ module _ {Job Done Point : Type 0} (p : Plan Job Done Point) where
   pub record GoesToEnd (q : PassState) (s : Point) (q' : PassState) (done : Done) : Type 0 where
     pub last : Point
     pub goes : GoesToPoint q s q' last
-    pub ended : p.step last ≡ step.End done
+    pub ended : p.step last ≡ Step.End done
 
   -- Its caller made the object.
   pub record Founds (q q' : PassState) : Type 0 where

@@ -5,9 +5,9 @@ use Rattle.mk_core.specs.{declared.config.Config.Config, declared.events.Event.E
 use Rattle.mk_core.specs.declared.events.Seat.TheVariants.{Caller}
 use Rattle.mk_heap.specs.{Below.Objects.Bounds.QuarantineIsBounded, Below.Objects.TurnCycles.TurnsOfAreExact}
 use Rattle.mk_heap.specs.{Below.Words.Seats.has_over, HostTurns.HostComesLast, Reports.{HasCounts, IsWhole}}
-use Rattle.mk_jobs.specs.{declared.job_lists.Dones.Dones, declared.job_lists.Jobs.Jobs}
-use Rattle.mk_jobs.specs.{declared.runs.Outcome.Outcome, JobLists.{dones_of, jobs_of}}
-use Rattle.mk_jobs.specs.{Jobs.{IsInterleaved, JobRun, Replied}, Laws.IsExplained, Plans.Plan}
+use Rattle.mk_jobs.specs.{declared.job_lists.Dones.Dones, declared.job_lists.Jobs.Jobs, declared.runs.Outcome.Outcome}
+use Rattle.mk_jobs.specs.{JobLists.{dones_of, jobs_of}, Jobs.{IsInterleaved, JobRun, Replied}, Laws.IsExplained}
+use Rattle.mk_jobs.specs.Plans.{Plan}
 use Rattle.mk_heap.specs.Reports as report
 
 -- The runs of caller k are its list of jobs, in order, and this became of each.

@@ -1,10 +1,9 @@
 -- What holds of a queue, and of each caller at its point, at every place of an interleaving.
 use Rattle.mk_laws.proofs.Vocabulary.{List, None, Null, Option, Ptr, Some, Value, get_or, global_at, number_of}
 use Rattle.mk_laws.proofs.Vocabulary.{register_at, suc, word_at, zero, ℕ, [], ◌∷◌, ◌≡◌, ◌≢◌, ◌⊎◌}
-use Rattle.mk_jobs.specs.Keeping.{Public, World}
+use Rattle.mk_jobs.{specs.Keeping.{Public, World}, proofs.{Roots.{IsChecked, IsShared}, Rows.HasRow}}
 use Rattle.mk_jobs.proofs.Having.{HasOwn, HasRoot, IsFounder, IsPassed, IsShownOf, PointsTo, Relies}
-use Rattle.mk_jobs.proofs.{Roots.{IsChecked, IsShared}, Rows.HasRow}
-use Rattle.mk_queue.specs.declared.{jobs.Done.{Done}, jobs.Job.{Job}, points.Point.{Point}}
+use Rattle.mk_queue.specs.{declared.jobs.Done.Done, declared.jobs.Job.Job, declared.points.Point.Point}
 
 -- The number of a node stays, and its link, once it isn't null.
 abbrev pub Final : ℕ → Value → Type 0

@@ -1,23 +1,20 @@
 -- Each operation of a queue's jobs.
 use Rattle.mk_laws.proofs.Vocabulary.{Bool, Kind, List, None, Op, Option, Some, Value, ap, arith, cond, eq-eqb, inl}
 use Rattle.mk_laws.proofs.Vocabulary.{inr, number_of, refl, subst, sym, word_at, ℕ, [], ◌++◌, ◌∙◌, ◌∷◌, ◌≡◌}
-use Rattle.mk_jobs.specs.Keeping.{Public, Taken, World, after}
-use Rattle.mk_jobs.proofs.{Chains.{IsPart, word_of}, Heaps.Stores, Longer.row_longer}
-use Rattle.mk_jobs.proofs.Clients.{Client, MovesAt, by_dropping, by_exchange, by_freeing, by_load, by_load_number}
-use Rattle.mk_jobs.proofs.Clients.{by_new, by_null, by_store, by_store_global, by_store_number, decides_so, leads}
-use Rattle.mk_jobs.proofs.Clients.{takes_public, undecided, was_decided, when_null, when_some}
-use Rattle.mk_jobs.proofs.Having.{IsPassed, PointsTo, founder_on, not_null, own_beside, own_new, own_now, own_stays}
-use Rattle.mk_jobs.proofs.Having.{part_is_shown, points_stay, public_or_passed, root_stays}
-use Rattle.mk_jobs.proofs.{Operations.{global_there, register_has}, Puts.{puts_one, puts_two}}
-use Rattle.mk_jobs.proofs.Relying.{onward_own, onward_taken, onward_two, relies_freed, relies_placed, relies_stored}
-use Rattle.mk_jobs.proofs.Roots.{by_checking, by_starting, dropped, founded_still, none_passed, of_root, placed}
-use Rattle.mk_jobs.proofs.Roots.{shared_two, small_linked, unfounded}
-use Rattle.mk_jobs.proofs.Rows.{HasRow, first_of, not_root, row_popped}
-use Rattle.mk_queue.specs.{Points.{holds, queue_plan}, Queue.left_by}
-use Rattle.mk_queue.specs.declared.{jobs.Done.{Done}, jobs.Job.{Job}, points.Point.{Point}}
-use Rattle.mk_queue.proofs.Invariant.{Local, Rely, Shared, done_without, job_at}
-use Rattle.mk_queue.proofs.Changing.{covered, is_empty, link_of, queue_stored, rely_at, rely_founding, tail_moved}
-use Rattle.mk_queue.proofs.Staying.{ends, enqueuing, followed, next, tail, taken}
+use Rattle.mk_jobs.{specs.Keeping.{Public, Taken, World, after}, proofs.Rows.{HasRow, first_of, not_root, row_popped}}
+use Rattle.mk_jobs.proofs.{Chains.{IsPart, word_of}, Heaps.Stores, Longer.row_longer, Clients.{Client, MovesAt}}
+use Rattle.mk_jobs.proofs.Clients.{by_dropping, by_exchange, by_freeing, by_load, by_load_number, by_new, by_null}
+use Rattle.mk_jobs.proofs.Clients.{by_store, by_store_global, by_store_number, decides_so, leads, takes_public}
+use Rattle.mk_jobs.proofs.{Clients.{undecided, was_decided, when_null, when_some}, Having.{IsPassed, PointsTo}}
+use Rattle.mk_jobs.proofs.Having.{founder_on, not_null, own_beside, own_new, own_now, own_stays, part_is_shown}
+use Rattle.mk_jobs.proofs.{Having.{points_stay, public_or_passed, root_stays}, Operations.{global_there, register_has}}
+use Rattle.mk_jobs.proofs.{Puts.{puts_one, puts_two}, Relying.{onward_own, onward_taken, onward_two, relies_freed}}
+use Rattle.mk_jobs.proofs.{Relying.{relies_placed, relies_stored}, Roots.{by_checking, by_starting, dropped}}
+use Rattle.mk_jobs.proofs.Roots.{founded_still, none_passed, of_root, placed, shared_two, small_linked, unfounded}
+use Rattle.mk_queue.specs.{Points.{holds, queue_plan}, Queue.left_by, declared.jobs.Done.Done, declared.jobs.Job.Job}
+use Rattle.mk_queue.{specs.declared.points.Point.{Point}, proofs.Staying.{ends, enqueuing, followed, next, tail, taken}}
+use Rattle.mk_queue.proofs.{Invariant.{Local, Rely, Shared, done_without, job_at}, Changing.{covered, is_empty}}
+use Rattle.mk_queue.proofs.Changing.{link_of, queue_stored, rely_at, rely_founding, tail_moved}
 
 abbrev pub client : Client queue_plan left_by
 client = record {

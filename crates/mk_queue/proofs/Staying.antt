@@ -1,12 +1,10 @@
 -- What a caller has stays so after an operation on which it may rely.
 use Rattle.mk_laws.proofs.Vocabulary.{List, Null, Option, Some, Value, ap, arith, get_or, inl, inr, number_of}
 use Rattle.mk_laws.proofs.Vocabulary.{register_at, subst, sym, word_at, ℕ, ◌∙◌, ◌≡◌, ◌≢◌}
-use Rattle.mk_jobs.specs.Keeping.{Waits, World}
-use Rattle.mk_jobs.proofs.{Clients.OwnStays, Having.root_stays}
-use Rattle.mk_jobs.proofs.Having.{HasOwn, IsSame, PointsTo, founder_waits, not_null, own_stays, own_waits, points_stay}
-use Rattle.mk_queue.specs.declared.{jobs.Done.{Done}, points.Point.{Point}}
+use Rattle.mk_jobs.{specs.Keeping.{Waits, World}, proofs.Having.{own_stays, own_waits, points_stay}}
+use Rattle.mk_jobs.proofs.{Clients.OwnStays, Having.{root_stays, HasOwn, IsSame, PointsTo, founder_waits, not_null}}
+use Rattle.mk_queue.{specs.{declared.jobs.Done.Done, declared.points.Point.Point}, proofs.Invariant.{Rely}}
 use Rattle.mk_queue.proofs.Invariant.{HasEnds, HasHead, HasNext, HasTail, HasTaken, IsEnqueuing, IsFounding, Local}
-use Rattle.mk_queue.proofs.Invariant.{Rely}
 
 module _ {j k : ℕ} {w w' : World} (rely : Rely j w w') where
   unfoldable pub ends : {u : Option Done} → IsSame w w' k 0 → HasEnds w k u → HasEnds w' k u

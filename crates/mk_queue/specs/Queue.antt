@@ -1,10 +1,9 @@
 -- A plain queue of numbers: what a job leaves of it, and what it is that a heap has one.
 use Rattle.std.specs.Prelude.{◌≡◌, ◌⊎◌, ◌==◌, ℕ, List, [], ◌∷◌, ◌++◌, Option, Some, None, Result, Ok, Err}
 use Rattle.std.specs.Prelude.{if◌then◌else◌}
-use Rattle.mk_jobs.specs.declared.linked.Full.{Full}
 use Rattle.mk_never.specs.{declared.values.Value.TheVariants.{Null, Ptr}, NeverHeap.{NeverState, global_at, word_at}}
-use Rattle.mk_jobs.specs.Linked.{AreLinked, numbers_in}
-use Rattle.mk_queue.specs.declared.jobs.{Job.{Job}, Done.{Done}}
+use Rattle.mk_jobs.specs.{declared.linked.Full.Full, Linked.{AreLinked, numbers_in}}
+use Rattle.mk_queue.specs.{declared.jobs.Job.Job, declared.jobs.Done.Done}
 
 -- What the job leaves of the list, where the list explains what became of it.
 abbrev pub left_by : List ℕ → Job → Done → Option (List ℕ)

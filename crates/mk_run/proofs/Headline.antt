@@ -1,22 +1,18 @@
 -- The history of a run keeps all promises, and its texts are all that is printed of it.
-use Rattle.std.proofs.{Common.slice_get, Common.take_all, lemmas.Bool.Decides.nat_tests}
+use Rattle.std.proofs.{Common.{slice_get, take_all}, lemmas.Bool.Decides.nat_tests}
 use Rattle.std.specs.List.{flat_map, range_with_len}
 use Rattle.mk_laws.proofs.Vocabulary.{Answer, Bool, Caller, Config, Decided, Event, List, Op, Some, ℕ, ap, arith, asked}
 use Rattle.mk_laws.proofs.Vocabulary.{calls, length, refl, seat_exists, subst, suc, sym, true, [], ◌++◌, ◌+◌, ◌<◌, ◌==◌}
-use Rattle.mk_laws.proofs.Vocabulary.{◌∙◌, ◌∷◌, ◌≡◌}
-use Rattle.mk_run.proofs.Vocabulary.{IsRunOf, IsScript, IsWhole, Item, Outcome, Text, answers_in, config_of}
-use Rattle.mk_run.proofs.Vocabulary.{feed, slice_get_within}
-use Rattle.mk_laws.proofs.Promises.{histories_keep_all_promises}
-use Rattle.mk_check.{proofs.GivenAnswers.serves, specs.Feed.has_ended, specs.Laws.AreNotedBy}
-use Rattle.mk_check.{specs.Laws.ops_of_caller, specs.Output.answers_among}
-use Rattle.mk_check.{specs.Output.answers_given, specs.Output.ended_calls, specs.Output.text_behind}
+use Rattle.mk_laws.proofs.{Vocabulary.{◌∙◌, ◌∷◌, ◌≡◌}, Promises.histories_keep_all_promises}
+use Rattle.mk_laws.{proofs.Waiting.{resting_calls_are_admitted}, specs.Waiting.{CallsInFlightAreAdmitted}}
+use Rattle.mk_run.proofs.Vocabulary.{IsRunOf, IsScript, IsWhole, Item, Outcome, Text, answers_in, config_of, feed}
+use Rattle.mk_run.{proofs.Vocabulary.{slice_get_within}, specs.Headline.{cycles_go_on}}
+use Rattle.mk_check.{proofs.GivenAnswers.{serves}, specs.Output.{ended_calls, text_behind}}
+use Rattle.mk_check.specs.{Feed.has_ended, Laws.{AreNotedBy, ops_of_caller}, Output.{answers_among, answers_given}}
 use Rattle.mk_heap.proofs.{BoundedQuarantine.quarantine_is_bounded, UnsweptHistories.unswept_is_precise}
-use Rattle.mk_heap.proofs.Below.Objects.{DeedBounds.bounds_are_over_deeds, DeedFulls.deeds_say_why_full}
+use Rattle.mk_heap.proofs.{Below.Objects.DeedBounds.bounds_are_over_deeds, Below.Objects.DeedFulls.deeds_say_why_full}
 use Rattle.mk_heap.proofs.Below.Objects.Deeds.{deeds_leave_the_storage}
-use Rattle.mk_laws.proofs.Waiting.{resting_calls_are_admitted}
-use Rattle.mk_laws.specs.Waiting.{CallsInFlightAreAdmitted}
 use Rattle.mk_run.specs.Headline.{NoAnswerIsLeft, RunsKeepTheirPromises, RunsPrintTheirTexts, RunsStandInOneHistory}
-use Rattle.mk_run.specs.Headline.{cycles_go_on}
 use Rattle.mk_heap.specs.Reports as report
 
 -- A caller has as many answers among the calls as operations.

@@ -1,17 +1,15 @@
 -- A script's caller makes one call more, and what is known then.
 use Rattle.std.proofs.{Common.length-append, lemmas.List.Sums.{count_by-le-length, sum_by_push}}
 use Rattle.mk_laws.proofs.Vocabulary.{Answer, Bool, Caller, Config, Decided, Event, IsAdmitted, IsHistory, List, Op}
-use Rattle.mk_laws.proofs.Vocabulary.{Seat, Some, ℕ, ap, arith, asked, caller_number, calls, entry_of}
-use Rattle.mk_laws.proofs.Vocabulary.{if◌then◌else◌, length, map, map-append, never_behind, refl, subst, sym, [], ◌++◌}
-use Rattle.mk_laws.proofs.Vocabulary.{◌+◌, ◌<◌, ◌==◌, ◌∙◌, ◌∷◌, ◌≡◌, ◌≤◌}
+use Rattle.mk_laws.proofs.Vocabulary.{Seat, Some, ℕ, ap, arith, asked, caller_number, calls, entry_of, if◌then◌else◌}
+use Rattle.mk_laws.proofs.Vocabulary.{length, map, map-append, never_behind, refl, subst, sym, [], ◌++◌, ◌+◌, ◌<◌, ◌==◌}
+use Rattle.mk_laws.proofs.Vocabulary.{◌∙◌, ◌∷◌, ◌≡◌, ◌≤◌}
 use Rattle.mk_run.proofs.Vocabulary.{Answers, FollowsScript, IsChecked, IsFedWith, IsHomePass, IsScript, Item}
 use Rattle.mk_run.proofs.Vocabulary.{PassState, StaysAdmitted, answers_in, calls_by, config_of, feed, is_refusal}
-use Rattle.mk_run.proofs.Vocabulary.{next_op, script_names}
-use Rattle.mk_heap.{proofs.Dispatched.then_seen, specs.Dispatching.as_told}
-use Rattle.mk_heap.specs.Below.Objects.TurnCycles.{TurnsOfAreExact}
-use Rattle.mk_heap.specs.Below.Callers.States.{Admits, caller_of_pass}
-use Rattle.mk_run.specs.Scripts.{CountsHaveRoom, IsRunning, Script, ScriptTakesAnswer, script_of}
-use Rattle.mk_run.specs.declared.scripts.Counts.{Counts}
+use Rattle.mk_run.{proofs.Vocabulary.{next_op, script_names}, specs.declared.scripts.Counts.{Counts}}
+use Rattle.mk_heap.{proofs.Dispatched.{then_seen}, specs.Below.Callers.States.{Admits, caller_of_pass}}
+use Rattle.mk_heap.specs.{Dispatching.as_told, Below.Objects.TurnCycles.TurnsOfAreExact}
+use Rattle.mk_run.specs.Scripts.{CountsHaveRoom, Script, ScriptTakesAnswer, script_of}
 use Rattle.mk_check.proofs.{AdmittedScripts.next_is_admitted, FeedLaws.{feed_push, ops-feed_push}, Observed.word_taken}
 use Rattle.mk_check.proofs.FewOperations.{scripts_ask_for_few}
 use Rattle.mk_check.specs.{Feed.{Fed, Scope, take_answer}, Blocks.Blocks, Declarations.globals_of}
@@ -160,6 +158,12 @@ exists_on p q k program is number script config = grind arith
 pub seat_is : (p : PassState) {q : PassState} (k : ℕ) → q ≡ record p { seen = q.seen } → IsHomePass q
     → caller_of_pass p ≡ k → p.seat ≡ Caller k
 seat_is p k is of_home number = cc (is, of_home.idle.seat, number)
+
+-- The pass that began as the first is at the second, and its caller follows the script, which is fed with all answers.
+pub record IsRunning (on : Bool) (program : List Item) (k : ℕ) (p q : PassState) (s : Script) : Type 0 where
+  pub is : q ≡ record p { seen = q.seen }
+  pub follows : FollowsScript on program k p.table.config q.seen
+  pub fed : IsFedWith program k (answers_in p.table.config k q.seen) s
 
 module _ {on : Bool} {program : List Item} {k : ℕ} {p q : PassState} {s : Script} (run : IsRunning on program k p q s)
     (seat : p.seat ≡ Caller k) (o : Op) (next : next_op program k (answers_in p.table.config k q.seen) ≡ Some o) where

@@ -10,14 +10,12 @@ pub use Rattle.mk_heap.specs.{Below.Objects.TurnCycles.has_step, Below.Objects.U
 pub use Rattle.mk_heap.specs.{Below.Callers.Causes.FindsGateHeld, Below.Callers.States.{CallerState, IsAtHome}}
 pub use Rattle.mk_heap.specs.{Below.Callers.States.IsHomePass, Below.Words.Seats.{Has, HasCallers}}
 pub use Rattle.mk_heap.specs.{Below.Words.States.{PassState, WordsState}, Below.Words.TurnSteps.turn_stays}
+pub use Rattle.mk_heap.specs.{Ending.SaysOver, Hosts.{HostState, with_joined}, Reports.IsWhole, HostTurns.HostComesLast}
+pub use Rattle.mk_heap.specs.{LastTurns.{CallersAreStill, TakesLastTurns}, Dispatching.{Answers, StaysAdmitted}}
+pub use Rattle.mk_heap.specs.{Dispatching.StaysBeside, Crews.{HasMade, IsFirstPass}}
 pub use Rattle.mk_check.specs.{Declarations.config_of, Feed.{feed, is_refusal}, Feeding.next_op}
 pub use Rattle.mk_check.specs.{Laws.{IsChecked, IsScript}, declared.text.Text.Text}
-pub use Rattle.mk_heap.specs.{Ending.SaysOver, Hosts.{HostState, with_joined}, Reports.IsWhole}
 pub use Rattle.mk_script.specs.{Scopes.script_names, declared.items.Item.Item}
-pub use Rattle.mk_heap.specs.{HostTurns.HostComesLast, LastTurns.{CallersAreStill, TakesLastTurns}}
-pub use Rattle.mk_heap.specs.Dispatching.{Answers, StaysAdmitted, StaysBeside}
 pub use Rattle.mk_run.specs.{Ready.{AreReadyFrom, IsReadyScript}, Marking.IsOver, Scripts.IsFedWith}
-pub use Rattle.mk_heap.specs.Crews.{HasMade, IsFirstPass}
-pub use Rattle.mk_run.specs.Joining.{AreTextsFrom, HasJoined}
-pub use Rattle.mk_run.specs.Running.{EndsScript, FollowsScript, IsRunOf, IsTextOf, answers_in}
-pub use Rattle.mk_run.specs.declared.outcomes.Outcome.{Outcome}
+pub use Rattle.mk_run.specs.{Joining.{AreTextsFrom, HasJoined}, Running.{EndsScript, FollowsScript, IsRunOf, IsTextOf}}
+pub use Rattle.mk_run.specs.{Running.answers_in, declared.outcomes.Outcome.Outcome}

@@ -1,22 +1,18 @@
 -- What is promised of the scripts of a program that ran.
 use Rattle.std.specs.{Prelude.{◌≡◌, ℕ, Bool, true, false, List, length, nat_lt}, List.flat_map}
-use Rattle.mk_core.specs.{declared.config.Config.Config, declared.events.Event.Event}
-use Rattle.mk_core.specs.{declared.events.Seat.TheVariants.Caller, Decided.asked, History.calls}
+use Rattle.mk_core.specs.{declared.events.Event.Event, declared.events.Seat.TheVariants.Caller, Decided.asked}
+use Rattle.mk_core.specs.History.{calls, left}
+use Rattle.mk_laws.specs.{Precision.CyclesArePrecise, Promises.{AtEachMoment, KeepsAllPromises}}
+use Rattle.mk_laws.specs.Waiting.{NobodyWaitsInARing}
 use Rattle.mk_script.specs.declared.items.Item.{Item}
 use Rattle.mk_check.specs.{Declarations.config_of, Feed.{feed, has_ended}, Laws.{AreNotedBy, IsScript}}
 use Rattle.mk_check.specs.{Output.{answers_given, output}, declared.text.Text.Text}
-use Rattle.mk_heap.specs.Reports.{IsWhole}
-use Rattle.mk_heap.specs.{Below.Cycles.Roots.CyclesMarkRootsFirst, Below.Objects.TurnCycles.TurnsOfAreExact}
-use Rattle.mk_heap.specs.{Below.Words.Seats.has_over, Below.Objects.Bounds.QuarantineIsBounded}
-use Rattle.mk_heap.specs.{Below.Cycles.Begun.CyclesHoldGatesFirst, Reports.MarkersAreBelow}
-use Rattle.mk_heap.specs.Below.Objects.{DeedLaws.{DeedsBoundQuarantine, deeds_of}, Deeds.FullsHaveCauses}
-use Rattle.mk_heap.specs.Below.Objects.Deeds.{storage_after}
-use Rattle.mk_core.specs.History.{left}
-use Rattle.mk_laws.specs.{Precision.CyclesArePrecise, Promises.{AtEachMoment, KeepsAllPromises}}
-use Rattle.mk_laws.specs.Waiting.{NobodyWaitsInARing}
-use Rattle.mk_heap.specs.HostTurns.{HostComesLast}
+use Rattle.mk_heap.specs.{Reports.{IsWhole, MarkersAreBelow}, Below.Objects.DeedLaws.{DeedsBoundQuarantine, deeds_of}}
+use Rattle.mk_heap.specs.{Below.Objects.Deeds.{FullsHaveCauses, storage_after}, Below.Cycles.Roots.CyclesMarkRootsFirst}
+use Rattle.mk_heap.specs.{Below.Objects.TurnCycles.TurnsOfAreExact, Below.Words.Seats.has_over}
+use Rattle.mk_heap.specs.{Below.Objects.Bounds.QuarantineIsBounded, Below.Cycles.Begun.CyclesHoldGatesFirst}
+use Rattle.mk_heap.specs.{HostTurns.HostComesLast, Unswept.IsUnswept}
 use Rattle.mk_run.specs.{declared.outcomes.Outcome.Outcome, Running.IsRunOf, Said.CyclesSweep}
-use Rattle.mk_heap.specs.Unswept.{IsUnswept}
 use Rattle.mk_heap.specs.Reports as report
 
 -- Whether the cycle that a Free begins goes on after its call: where there are markers to work on it.

@@ -5,11 +5,10 @@
 use Rattle.std.specs.Prelude.{◌≡◌, ◌≤◌, ℕ, false, List, []}
 use Rattle.mk_core.specs.{declared.config.Config.Config, declared.events.Event.Event, declared.events.Seat.Seat}
 use Rattle.mk_core.specs.declared.events.Seat.TheVariants.{Caller, Host}
-use Rattle.mk_heap.specs.Below.{Cycles.{Begun.AreBegunFirst, Ways.Ways}, Objects.Closes.AreFinishedAtOnce}
-use Rattle.mk_heap.specs.Below.Objects.Closes.{AreSaidAtCloses}
+use Rattle.mk_heap.specs.{Below.Cycles.Begun.AreBegunFirst, Below.Cycles.Ways.Ways}
+use Rattle.mk_heap.specs.{Below.Objects.Closes.{AreFinishedAtOnce, AreSaidAtCloses}, UnsweptSeats.SeatSweepsNothing}
 use Rattle.mk_script.specs.declared.items.Item.{Item}
 use Rattle.mk_check.specs.Laws.{IsScript}
-use Rattle.mk_heap.specs.UnsweptSeats.{SeatSweepsNothing}
 
 -- in a history, as `PassKeeps` of mk_alloc says of what its pass saw since,
 pub record SeatKeeps {V : Type 0} (ways : Ways V) (c : Config) (s : Seat) (es : List Event)

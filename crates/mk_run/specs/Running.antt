@@ -6,8 +6,7 @@ use Rattle.mk_script.specs.{declared.items.Item.Item, Scopes.script_names}
 use Rattle.mk_check.specs.{Declarations.config_of, Feed.{feed, has_ended, is_refusal}, Laws.{AreNotedBy, IsScript}}
 use Rattle.mk_check.specs.{Output.answers_among, declared.text.Text.Text}
 use Rattle.mk_heap.specs.{Below.Words.Seats.has_over, Below.Objects.TurnCycles.TurnsOfAreExact}
-use Rattle.mk_heap.specs.Reports.{IsWhole, HasCounts}
-use Rattle.mk_heap.specs.HostTurns.{HostComesLast}
+use Rattle.mk_heap.specs.{Reports.{IsWhole, HasCounts}, HostTurns.HostComesLast}
 use Rattle.mk_run.specs.declared.outcomes.Outcome.{Outcome}
 use Rattle.mk_heap.specs.Reports as report
 

@@ -4,7 +4,7 @@ use Rattle.mk_core.specs.{declared.config.Config.Config, declared.events.Event.E
 use Rattle.mk_core.specs.Cycles.{At, IsInSnapshot, Releasing, before_close, is_begin, is_close, through}
 use Rattle.mk_core.specs.History.{World, left}
 use Rattle.mk_laws.specs.Precision.{through_release}
-use Rattle.mk_heap.specs.Below.{Objects.Closes.{IsFinishedAtOnce, IsSaid}, Words.States.PassState}
+use Rattle.mk_heap.specs.{Below.Objects.Closes.{IsFinishedAtOnce, IsSaid}, Below.Words.States.PassState}
 use Rattle.mk_why.specs.{Below.Sweeps.Swept.{IsSwept, SweptAreMarked}, Stops.{IsClosedBefore, IsToldBefore}}
 
 -- At each close an engine of the scripts says it, or one of the host. Only private functions cite this.

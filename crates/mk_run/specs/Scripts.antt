@@ -1,10 +1,9 @@
 -- A script under way: what it keeps of the calls that it has its caller make.
-use Rattle.std.specs.Prelude.{◌≡◌, ℕ, ◌<◌, ◌≤◌, Bool, List, [], ◌∷◌, ◌++◌, length, count_by}
+use Rattle.std.specs.Prelude.{◌≡◌, ℕ, ◌<◌, ◌≤◌, List, [], ◌∷◌, ◌++◌, length, count_by}
 use Rattle.mk_core.specs.declared.events.Answer.{Answer}
-use Rattle.mk_heap.specs.Below.Words.States.{PassState}
 use Rattle.mk_script.specs.declared.items.Item.{Item}
 use Rattle.mk_check.specs.{Feed.is_refusal, Feeding.{FeedState, FeedStandsFor}}
-use Rattle.mk_run.specs.{declared.scripts.Counts.Counts, Running.{answers_in, FollowsScript}}
+use Rattle.mk_run.specs.declared.scripts.Counts.{Counts}
 
 -- A script under way, with the counts of its answers and of those that refuse.
 pub record Script : Type 0 where
@@ -26,12 +25,6 @@ pub record IsFedWith (program : List Item) (k : ℕ) (answers : List Answer) (s 
 abbrev pub ScriptTakesAnswer : Answer → Script → Script → Type 0
 ScriptTakesAnswer a old new = (program : List Item) (k : ℕ) (answers : List Answer)
     → IsFedWith program k answers old → IsFedWith program k (answers ++ a ∷ []) new
-
--- The pass that began as the first is at the second, and its caller follows the script, which is fed with all answers.
-pub record IsRunning (on : Bool) (program : List Item) (k : ℕ) (p q : PassState) (s : Script) : Type 0 where
-  pub is : q ≡ record p { seen = q.seen }
-  pub follows : FollowsScript on program k p.table.config q.seen
-  pub fed : IsFedWith program k (answers_in p.table.config k q.seen) s
 
 -- One more answer may be counted.
 pub record CountsHaveRoom (s : Counts) : Type 0 where

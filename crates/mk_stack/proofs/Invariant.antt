@@ -1,10 +1,9 @@
 -- What holds of a stack, and of each caller at its point, at every place of an interleaving.
-use Rattle.mk_laws.proofs.Vocabulary.{List, None, Null, Option, Some, Value, get_or, number_of, register_at, ℕ, []}
-use Rattle.mk_laws.proofs.Vocabulary.{◌≡◌, ◌⊎◌}
-use Rattle.mk_jobs.specs.Keeping.{World}
-use Rattle.mk_jobs.proofs.Having.{HasOwn, HasRoot, HasWord, IsFounder, PointsTo, Relies}
-use Rattle.mk_jobs.proofs.{Roots.{IsChecked, IsShared}, Rows.HasRow}
-use Rattle.mk_stack.specs.declared.{jobs.Done.{Done}, jobs.Job.{Job}, points.Point.{Point}}
+use Rattle.mk_laws.proofs.Vocabulary.{List, None, Null, Option, Some, Value, get_or, number_of, register_at, ℕ, [], ◌≡◌}
+use Rattle.mk_laws.proofs.Vocabulary.{◌⊎◌}
+use Rattle.mk_jobs.{specs.Keeping.{World}, proofs.Rows.{HasRow}}
+use Rattle.mk_jobs.proofs.{Having.{HasOwn, HasRoot, HasWord, IsFounder, PointsTo, Relies}, Roots.{IsChecked, IsShared}}
+use Rattle.mk_stack.specs.{declared.jobs.Done.Done, declared.jobs.Job.Job, declared.points.Point.Point}
 
 -- The nodes that are linked from top t have these numbers.
 pub record IsStack (w : World) (t : ℕ) (xs : List ℕ) : Type 0 where

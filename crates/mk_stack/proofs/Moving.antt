@@ -1,21 +1,17 @@
 -- Each operation of a stack's jobs.
-use Rattle.mk_laws.proofs.Vocabulary.{Bool, Kind, List, None, Option, Some, Value, ap, arith, cond, eq-eqb}
-use Rattle.mk_laws.proofs.Vocabulary.{false≢true, inl, inr, number_of, refl, subst}
-use Rattle.mk_laws.proofs.Vocabulary.{sym, word_at, ℕ, [], ◌∙◌, ◌∷◌, ◌≡◌}
-use Rattle.mk_jobs.specs.Keeping.{Public, Taken, World}
+use Rattle.mk_laws.proofs.Vocabulary.{Bool, Kind, List, None, Option, Some, Value, ap, arith, cond, eq-eqb, false≢true}
+use Rattle.mk_laws.proofs.Vocabulary.{inl, inr, number_of, refl, subst, sym, word_at, ℕ, [], ◌∙◌, ◌∷◌, ◌≡◌}
+use Rattle.mk_jobs.{specs.Keeping.{Public, Taken, World}, proofs.Rows.{points_first, row_popped, row_pushed}}
 use Rattle.mk_jobs.proofs.Clients.{Client, MovesAt, by_exchange, by_freeing, by_load, by_load_number, by_new, by_null}
 use Rattle.mk_jobs.proofs.Clients.{by_store, by_store_global, by_store_number, decides_so, leads, takes_public}
-use Rattle.mk_jobs.proofs.Clients.{undecided, was_decided, when_null, when_some}
-use Rattle.mk_jobs.proofs.Having.{founder_on, has_word, not_null, own_new, own_now, own_stays, points_stay, word_stays}
-use Rattle.mk_jobs.proofs.{Operations.{global_there, register_has}, Puts.puts_one}
-use Rattle.mk_jobs.proofs.Relying.{onward_own, onward_taken, relies_placed, relies_stored}
-use Rattle.mk_jobs.proofs.Roots.{by_checking, by_starting, founded_still, of_root, placed, shared_one, small_linked}
-use Rattle.mk_jobs.proofs.Roots.{unfounded}
-use Rattle.mk_jobs.proofs.Rows.{first_of, not_root, points_first, row_popped, row_pushed}
-use Rattle.mk_stack.specs.{Points.{holds, stack_plan}, Stack.left_by}
-use Rattle.mk_stack.specs.declared.{jobs.Done.{Done}, jobs.Job.{Job}, points.Point.{Point}}
-use Rattle.mk_stack.proofs.Invariant.{Local, Rely, Shared, done_without, job_at}
-use Rattle.mk_stack.proofs.Staying.{at_top, covered, taken}
+use Rattle.mk_jobs.proofs.{Clients.{undecided, was_decided, when_null, when_some}, Having.{founder_on, has_word}}
+use Rattle.mk_jobs.proofs.Having.{not_null, own_new, own_now, own_stays, points_stay, word_stays}
+use Rattle.mk_jobs.proofs.{Operations.{global_there, register_has}, Puts.puts_one, Relying.{onward_own, onward_taken}}
+use Rattle.mk_jobs.proofs.{Relying.{relies_placed, relies_stored}, Roots.{by_checking, by_starting, founded_still}}
+use Rattle.mk_jobs.proofs.{Roots.{of_root, placed, shared_one, small_linked, unfounded}, Rows.{first_of, not_root}}
+use Rattle.mk_stack.specs.{Points.{holds, stack_plan}, Stack.left_by, declared.jobs.Done.Done, declared.jobs.Job.Job}
+use Rattle.mk_stack.specs.declared.points.Point.{Point}
+use Rattle.mk_stack.proofs.{Invariant.{Local, Rely, Shared, done_without, job_at}, Staying.{at_top, covered, taken}}
 
 abbrev pub client : Client stack_plan left_by
 client = record {

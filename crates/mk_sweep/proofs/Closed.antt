@@ -6,8 +6,7 @@ use Rattle.mk_sweep.proofs.Vocabulary.{still_words, word_points_well, words_belo
 use Rattle.mk_sweep.proofs.{ScannedCells.{unused_is_zero, used_word}, CountedWords.some_there, EachOnce.looked_at_once}
 use Rattle.mk_cycle.proofs.Below.Laws.Vocabulary.{Bool, List, ℕ, all_below-at, ap, arith, eqb-true, false, refl}
 use Rattle.mk_cycle.proofs.Below.Laws.Vocabulary.{slice_index, subst, sym, true, ◌+◌, ◌<◌, ◌==◌, ◌∙◌, ◌≡◌}
-use Rattle.mk_cycle.proofs.MoreMarks.{well_more, well_none, zero_none}
-use Rattle.mk_cycle.specs.Grays.{RootsPointWell}
+use Rattle.mk_cycle.{proofs.MoreMarks.{well_more, well_none, zero_none}, specs.Grays.{RootsPointWell}}
 use Rattle.mk_core.specs.Cells.{is_used}
 
 pub roots_stay : {pages : ℕ} {w v : Words} → MarksMore w v → RootsPointWell pages w → RootsPointWell pages v

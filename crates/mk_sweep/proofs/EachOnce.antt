@@ -11,9 +11,8 @@ use Rattle.mk_cycle.proofs.Below.Laws.Vocabulary.{Bool, List, ℕ, and_from, and
 use Rattle.mk_cycle.proofs.Below.Laws.Vocabulary.{inr, length, never_granted, refl, sym, true, true≢false, ◌&&◌, ◌*◌}
 use Rattle.mk_cycle.proofs.Below.Laws.Vocabulary.{◌+◌, ◌<◌, ◌∙◌, ◌≡◌, ◌≢◌, ◌≤◌}
 use Rattle.mk_cycle.proofs.Below.Laws.InvariantHistories.{allocations_are_disjoint, allocations_stand}
-use Rattle.mk_cycle.proofs.Below.Laws.MappedWords.{mapped_stays}
+use Rattle.mk_cycle.proofs.{Below.Laws.MappedWords.mapped_stays, SumsBelow.one_if_any}
 use Rattle.mk_core.specs.ClosedMarks.{is_scanned_allocation}
-use Rattle.mk_cycle.proofs.SumsBelow.{one_if_any}
 
 module _ {c : Config} {es : List Event} (h : IsHistory c es) (settled : IsSettled (left c es)) where
   abbrev w : Words

@@ -1,10 +1,9 @@
 -- Roots that a sweep marks from, one after the other.
 use Rattle.mk_sweep.proofs.Vocabulary.{MarksMore, SweepsOn, TurnState, points_well, still_words}
+use Rattle.mk_sweep.{proofs.SweepSteps.{quiet_then, sweeps_from}, specs.Sweeping.{IsSweeping}}
 use Rattle.mk_cycle.proofs.{Below.Laws.Vocabulary.{Word, ℕ, refl, true, [], ◌+◌, ◌≡◌}, MoreMarks.more_same}
-use Rattle.mk_cycle.proofs.RootMarks.{RootsMarked, next_root, no_root_yet}
-use Rattle.mk_cycle.specs.Stops.{is_root}
+use Rattle.mk_cycle.{proofs.RootMarks.{RootsMarked, next_root, no_root_yet}, specs.Stops.{is_root}}
 use Rattle.mk_core.specs.Words.{named_word}
-use Rattle.mk_sweep.{proofs.SweepSteps.quiet_then, proofs.SweepSteps.sweeps_from, specs.Sweeping.IsSweeping}
 
 -- The sweep goes on, and what each root below one pointed into is marked.
 pub record RootsSwept (pages : ℕ) (t u : TurnState) (root : ℕ → Word) (n : ℕ) : Type 0 where

@@ -20,9 +20,8 @@ use Rattle.mk_cycle.proofs.{Below.Laws.FreeWords.free_cells_are_zero, Below.Laws
 use Rattle.mk_cycle.proofs.{Below.Laws.KnownWorlds.{KnownWorld, known_world}, Below.Laws.MappedWords.mapped_stays}
 use Rattle.mk_cycle.proofs.{Below.Laws.ReadingsStands.freed_cell, Below.Laws.Serving.{Laid, own_claim}}
 use Rattle.mk_cycle.proofs.{Below.Laws.Settled.{unmapped_run, unreleased_are_apart}, Below.Laws.TellGuard.guard_in}
-use Rattle.mk_cycle.proofs.Below.Laws.LayoutScene.{Unmapped}
+use Rattle.mk_cycle.proofs.{Below.Laws.LayoutScene.Unmapped, Below.Laws.Terrain.IsCellOf}
 use Rattle.mk_cycle.specs.Below.Laws.SettledPages.{StandsUsed}
-use Rattle.mk_cycle.proofs.Below.Laws.Terrain.{IsCellOf}
 use Rattle.mk_core.proofs.{PointedAllocations.{cell_word_is_its_own, taken_cell_is}, StandingAllocations.cell_is_known}
 use Rattle.mk_core.specs.{Cells.is_used, ClosedMarks.is_scanned_allocation, Effects.{is_mapped_cell, is_ungranted}}
 

@@ -1,10 +1,9 @@
 -- Where the words but the phase, and the allocations, are left as they are, what is swept stays marked.
-use Rattle.mk_sweep.proofs.Vocabulary.{AreOfOthers, Config, Event, IsHistory, IsSwept, PlacedAllocation, TurnState}
-use Rattle.mk_sweep.proofs.Vocabulary.{Words, World, left, placed_at, world_of}
-use Rattle.mk_sweep.proofs.CycleParts.{swept_alike}
-use Rattle.mk_cycle.proofs.Below.Laws.Vocabulary.{List, Steady, ap, sym, true, ◌++◌, ◌∙◌, ◌≡◌}
-use Rattle.mk_cycle.proofs.Below.{Laws.ProtocolFrames.others_leave, Words.Seats.others_own}
-use Rattle.mk_cycle.{proofs.Stilled.{but_phase, words_left}, specs.Stops.IsWanted}
+use Rattle.mk_sweep.proofs.Vocabulary.{AreOfOthers, Config, Event, IsHistory, PlacedAllocation, TurnState}
+use Rattle.mk_sweep.proofs.{Vocabulary.{Words, World, left, placed_at, world_of}, CycleParts.swept_alike}
+use Rattle.mk_cycle.{proofs.Below.Laws.Vocabulary.{List, Steady, ap, sym, ◌++◌, ◌∙◌, ◌≡◌}, specs.Stops.{IsWanted}}
+use Rattle.mk_cycle.proofs.{Below.Laws.ProtocolFrames.others_leave, Below.Words.Seats.others_own}
+use Rattle.mk_cycle.proofs.Stilled.{but_phase, words_left}
 use Rattle.mk_core.specs.ClosedMarks.{is_marked_allocation}
 use Rattle.mk_sweep.specs.Swept.{SweptAreMarked}
 

@@ -1,21 +1,21 @@
 -- A whole cycle with one sweep marks what is swept and releases what isn't, where no marker steps.
-use Rattle.mk_sweep.proofs.Vocabulary.{AreOfOthers, Cell, Config, Event, Has, Holds, IsEnabledTo, IsHistory}
-use Rattle.mk_sweep.proofs.Vocabulary.{IsSwept, PassState, PlacedAllocation, Seat, Step, Sweeps, World, before_release}
-use Rattle.mk_sweep.proofs.Vocabulary.{cell_of_allocation, is_marked, is_tracing, left, others_are_held, phase_of}
-use Rattle.mk_sweep.proofs.Vocabulary.{Untouched, Words, placed_at}
-use Rattle.mk_sweep.proofs.BesideTurn.{IsOf, OthersAreNoMarkers, PartOfTurn, holds_still, leave_first}
+use Rattle.mk_sweep.proofs.Vocabulary.{AreOfOthers, Cell, Config, Event, Has, Holds, IsHistory, IsSwept}
+use Rattle.mk_sweep.proofs.Vocabulary.{PassState, PlacedAllocation, Seat, Step, World, before_release}
+use Rattle.mk_sweep.proofs.Vocabulary.{cell_of_allocation, is_marked, is_tracing, left, others_are_held}
+use Rattle.mk_sweep.proofs.{Vocabulary.{Untouched, Words, placed_at}, BesideTurn.{IsOf, OthersAreNoMarkers, PartOfTurn}}
+use Rattle.mk_sweep.proofs.BesideTurn.{holds_still, leave_first, leave_in_parts, left_unmarked_by, none_marks}
+use Rattle.mk_sweep.proofs.BesideTurn.{none_of_kind, others_mark_none, still_holds}
 use Rattle.mk_sweep.proofs.SweepParts.{NoneOfMarkers, SweepParts, in_five, own_are_so}
-use Rattle.mk_sweep.proofs.BesideTurn.{leave_in_parts, left_unmarked_by, none_marks, none_of_kind, others_mark_none}
-use Rattle.mk_sweep.proofs.{BesideTurn.still_holds, CycleParts.{close_apart, close_of_holder, holding_leaves_marks}}
-use Rattle.mk_sweep.proofs.CycleParts.{holding_leaves_turn, looking_leaves_marks, looking_leaves_turn, no_kind}
-use Rattle.mk_sweep.proofs.CycleParts.{nothing_leaves_marks, nothing_leaves_turn, only_looks}
-use Rattle.mk_sweep.proofs.CycleParts.{release_apart, release_of_holder, swept_alike, tracing_leaves_turn}
-use Rattle.mk_sweep.{proofs.UnsweptReleased.{unswept_is_released}, specs.Unswept.{LeaveUnmarked, OthersLeaveUnmarked}}
+use Rattle.mk_sweep.proofs.CycleParts.{close_apart, close_of_holder, holding_leaves_marks, holding_leaves_turn}
+use Rattle.mk_sweep.proofs.CycleParts.{looking_leaves_marks, looking_leaves_turn, no_kind, nothing_leaves_marks}
+use Rattle.mk_sweep.proofs.CycleParts.{nothing_leaves_turn, only_looks, release_apart, release_of_holder, swept_alike}
+use Rattle.mk_sweep.proofs.{CycleParts.tracing_leaves_turn, UnsweptReleased.unswept_is_released}
+use Rattle.mk_sweep.specs.Unswept.{LeaveUnmarked, OthersLeaveUnmarked}
 use Rattle.mk_cycle.proofs.Below.Laws.Vocabulary.{Bool, IsLeft, List, Releasing, ℕ, and_parts, ap, append_assoc, arith}
 use Rattle.mk_cycle.proofs.Below.Laws.Vocabulary.{before_close, earlier_part_is_history, enabled_in_parts}
 use Rattle.mk_cycle.proofs.Below.Laws.Vocabulary.{enabled_meets, false, false_from_ne_true, is_close, is_release}
 use Rattle.mk_cycle.proofs.Below.Laws.Vocabulary.{left_from, left_in_parts, not, not-true, refl, subst, sym, true, []}
-use Rattle.mk_cycle.proofs.Below.Laws.Vocabulary.{◌++◌, ◌∙◌, ◌∷◌, ◌≡◌}
+use Rattle.mk_cycle.{proofs.Below.Laws.Vocabulary.{◌++◌, ◌∙◌, ◌∷◌, ◌≡◌}, proofs.Below.Words.Seats.{others_own}}
 use Rattle.mk_cycle.proofs.Below.Laws.ReadingsKeptPlaces.{StaysPut, keeps_cell, put_step, stays_put}
 use Rattle.mk_cycle.proofs.{Below.Laws.CyclePhases.phase_moves, Below.Laws.FramesHolders.{acts_as_holder, holds_is}}
 use Rattle.mk_cycle.proofs.{Below.Laws.Known.{Known, known_left}, Below.Laws.KnownWorlds.known_world}
@@ -23,10 +23,8 @@ use Rattle.mk_cycle.proofs.{Below.Laws.LastEvents.{ComesLast, comes_last}, Below
 use Rattle.mk_cycle.proofs.{Below.Laws.OrderlyLists.actor_of, Below.Laws.OthersMoves.WorldBehind}
 use Rattle.mk_cycle.proofs.{Below.Laws.Precise.IsPrecise, Below.Laws.ProtocolFrames.others_leave}
 use Rattle.mk_cycle.proofs.{Below.Laws.Stretches.{None_of, none_joined}, Parts.{kinds_keep, others_keep}}
-use Rattle.mk_cycle.proofs.Below.Words.Seats.{others_own}
-use Rattle.mk_cycle.specs.{Below.Laws.Releases.allocation_behind, Tracing.OwnStepsKeep}
+use Rattle.mk_cycle.specs.{Below.Laws.Releases.allocation_behind, Tracing.OwnStepsKeep, Kinds.holds_gates}
 use Rattle.mk_core.specs.Cycles.{IsInSnapshot}
-use Rattle.mk_cycle.specs.Kinds.{holds_gates}
 
 module _ {p : PassState} {looks : ℕ} {es : List Event} (has : Has p.seats p.seat)
     (history : IsHistory p.table.config es) (k : SweepParts p looks es) (none : NoneOfMarkers k) where

@@ -1,10 +1,10 @@
 -- The parts of a whole cycle with one sweep, up to after its `release`.
 use Rattle.std.proofs.lemmas.List.Folds.{list_all-append}
-use Rattle.mk_sweep.proofs.Vocabulary.{AreOfOthers, Config, Event, IsEnabledTo, PassState, Seat, Step, Sweeps, Words}
+use Rattle.mk_sweep.proofs.Vocabulary.{AreOfOthers, Config, Event, IsEnabledTo, PassState, Seat, Step, Sweeps}
 use Rattle.mk_sweep.proofs.Vocabulary.{World, event_of, left, world_behind, world_of}
 use Rattle.mk_sweep.proofs.{BesideTurn.{IsOf, OthersAreNoMarkers, markers_in_parts}, CycleParts.only_looks}
 use Rattle.mk_cycle.proofs.Below.Laws.Vocabulary.{Bool, List, ℕ, and_from, and_parts, ap, append_assoc, arith, false}
-use Rattle.mk_cycle.proofs.Below.Laws.Vocabulary.{not, refl, subst, true, [], ◌++◌, ◌||◌, ◌∙◌, ◌∷◌, ◌≡◌}
+use Rattle.mk_cycle.proofs.Below.Laws.Vocabulary.{not, subst, true, [], ◌++◌, ◌||◌, ◌∙◌, ◌∷◌, ◌≡◌}
 use Rattle.mk_cycle.proofs.{Below.Words.Sweeping.{only_seen, only_seen_by}, GivingAll.held_phase, HeldFirst.own_kinds}
 use Rattle.mk_cycle.proofs.Stilled.{but_phase}
 use Rattle.mk_cycle.specs.{Begun.are_own_of, Closing.IsClosedBy, EngineLaw.IsAtPhase, Kinds.holds_gates}

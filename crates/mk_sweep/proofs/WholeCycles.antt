@@ -2,14 +2,12 @@
 use Rattle.mk_sweep.proofs.Vocabulary.{Event, Has, HasMarkers, IsHistory, PassState, Step, Sweeps, event_of}
 use Rattle.mk_sweep.proofs.{BesideTurn.joined_markers, CycleParts.only_looks, SweepCycles.{cycle, is_released_by_it}}
 use Rattle.mk_sweep.proofs.SweepParts.{NoneOfMarkers, SweepParts, SweepsThenLooks, parts}
-use Rattle.mk_cycle.proofs.Below.Laws.Vocabulary.{List, ℕ, ap, append-nil, append_assoc, arith, refl, subst, sym, true}
-use Rattle.mk_cycle.proofs.Below.Laws.Vocabulary.{[]}
-use Rattle.mk_cycle.proofs.Below.Laws.Vocabulary.{◌++◌, ◌∙◌, ◌∷◌, ◌≡◌}
+use Rattle.mk_cycle.proofs.Below.Laws.Vocabulary.{List, ℕ, append-nil, append_assoc, arith, refl, subst, sym, true}
+use Rattle.mk_cycle.proofs.Below.Laws.Vocabulary.{[], ◌++◌, ◌∷◌, ◌≡◌}
 use Rattle.mk_cycle.proofs.Below.Words.Doing.{does_nothing, others_are_so}
 use Rattle.mk_cycle.specs.{Begun.{DoesNothing, IsBegunLast}, Closing.IsClosedBy, EngineLaw.IsAtPhase}
-use Rattle.mk_core.specs.Cycles.{IsInSnapshot, before_close}
-use Rattle.mk_core.specs.History.{left}
 use Rattle.mk_cycle.specs.Below.Laws.Releases.{allocation_behind}
+use Rattle.mk_core.specs.{Cycles.{IsInSnapshot, before_close}, History.left}
 use Rattle.mk_sweep.specs.{SweepCycle.ReleasesUnswept, Swept.IsSwept}
 
 module _ (p b q : PassState) (looks : ℕ) (same : b ≡ record p { seen = b.seen })

@@ -1,8 +1,7 @@
 -- What a whole cycle makes with the sweep engine, where no marker may step.
 use Rattle.std.specs.Prelude.{◌≡◌, ℕ, ◌<◌, true, List, ◌++◌}
-use Rattle.mk_core.specs.{declared.events.Event.Event, declared.events.Seat.Seat}
-use Rattle.mk_core.specs.{declared.events.Seat.TheVariants.Marker, Cycles.{Releasing, IsInSnapshot, before_begin}}
-use Rattle.mk_core.specs.{Cycles.before_close, History.left}
+use Rattle.mk_core.specs.{Cycles.{Releasing, IsInSnapshot, before_begin, before_close}, declared.events.Event.Event}
+use Rattle.mk_core.specs.{declared.events.Seat.Seat, declared.events.Seat.TheVariants.Marker, History.left}
 use Rattle.mk_cycle.specs.{Below.Words.Seats.Has, Below.Words.States.PassState, Below.Laws.Releases.allocation_behind}
 use Rattle.mk_cycle.specs.{declared.finishing.Released.Released, BeginCycle.BeginsCycle, Closing.IsClosedBy}
 use Rattle.mk_cycle.specs.FinishCycle.{FinishesCycle, HasReleased}

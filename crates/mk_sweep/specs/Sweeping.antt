@@ -4,19 +4,17 @@ use Rattle.std.specs.{Prelude.Some, List.{range_with_len, Contains}}
 use Rattle.mk_geom.specs.declared.addresses.Cell.{Cell}
 use Rattle.mk_core.specs.{declared.events.Step.Step, declared.seats.Hand.Hand, Bits.has_bit}
 use Rattle.mk_core.specs.Cells.{cells_under, has_no_pointers, header_in, pointed_cell, word_points_well, words_under}
-use Rattle.mk_core.specs.{Frames.OnlyGrow, Growing.Finding, Words.{Words, used_at}}
+use Rattle.mk_core.specs.{Frames.OnlyGrow, Growing.Finding, Words.{Words, used_at}, declared.events.Word.Word}
 use Rattle.mk_cycle.specs.{Below.Laws.SettledPages.IsSettled, Below.Words.States.{PassState, TurnState, world_of}}
 use Rattle.mk_cycle.specs.{Below.Words.Doing.{Does, done_in}, Grays.{AllAreBlack, MarksMore}, Stops.{IsWanted, hand_of}}
 use Rattle.mk_cycle.specs.{Stops.still_words, Tracing.{Traces, is_marking}}
 use Rattle.mk_sweep.specs.Swept.{IsSweptValue, SweepsBy}
-use Rattle.mk_core.specs.declared.events.Step.TheVariants as step
-use Rattle.mk_core.specs.declared.events.Word.TheVariants as word
 
 -- the heap word that a step looks at, if it looks at one
 
 -- the heap word that a step looks at
 abbrev pub word_looked_at : Step → List ℕ
-word_looked_at (step.Look (word.Heap n)) = n ∷ []
+word_looked_at (Step.Look (Word.Heap n)) = n ∷ []
 word_looked_at _ = []
 
 -- those that these steps looked at, in order

@@ -1,5 +1,5 @@
 -- What `close_marks` of the sweep engine does: one sweep, in the stop.
-use Rattle.std.specs.Prelude.{◌≡◌, ℕ, ◌≤◌, ◌==◌, true, count_by, length}
+use Rattle.std.specs.Prelude.{◌≡◌, ℕ, ◌≤◌, ◌==◌, count_by, length}
 use Rattle.mk_cycle.specs.{Below.Words.States.{PassState, world_of}, Tracing.{Traces, is_tracing}}
 use Rattle.mk_sweep.specs.{Swept.{IsScannedWord, SweepsBy, SweptAreMarked, scanned_words}, Sweeping.heap_looks}
 

@@ -4,9 +4,7 @@ use Rattle.mk_geom.specs.{declared.addresses.Cell.Cell, StorageWords.IsWordOf}
 use Rattle.mk_core.specs.{declared.config.Config.Config, declared.events.Step.Step}
 use Rattle.mk_core.specs.{Allocations.{PlacedAllocation, placed_at, storage_of, storage_words}, Cells.pointed_cell}
 use Rattle.mk_core.specs.{ClosedMarks.{is_marked_allocation, is_scanned_allocation}, History.World, Moments.Moment}
-use Rattle.mk_core.specs.Touched.{PointsIntoAllocation}
-use Rattle.mk_core.specs.declared.events.Step.TheVariants as step
-use Rattle.mk_core.specs.declared.events.Word.TheVariants as word
+use Rattle.mk_core.specs.{Touched.PointsIntoAllocation, declared.events.Word.Word}
 
 -- The heap word is one of a mapped allocation that isn't leaf.
 pub record IsScannedWord (c : Config) (xs : List PlacedAllocation) (n : ℕ) : Type 0 where
@@ -50,6 +48,6 @@ pub record MarksSwept (c : Config) (w : World) (page value : ℕ) : Type 0 where
 -- Of heap words only those of mapped allocations that aren't leaf are looked at, and only such cells are marked, as the
 -- world was when the sweep began: neither values nor allocations change in a stop.
 abbrev pub SweepsBy : World → Config → Moment → Step → Type 0
-SweepsBy w c m (step.Look (word.Heap n)) = IsScannedWord c w.allocations n
-SweepsBy w c m (step.Mark p v) = MarksSwept c w p v
+SweepsBy w c m (Step.Look (Word.Heap n)) = IsScannedWord c w.allocations n
+SweepsBy w c m (Step.Mark p v) = MarksSwept c w p v
 SweepsBy w c m _ = ⊤

@@ -1,10 +1,9 @@
 -- What a sweep doesn't mark.
 use Rattle.std.specs.Prelude.{◌≡◌, ℕ, true, false, List, [], ◌∷◌, ◌++◌, ⊤}
 use Rattle.mk_geom.specs.declared.addresses.Cell.{Cell}
-use Rattle.mk_core.specs.{declared.config.Config.Config, declared.events.Event.Event, declared.events.Seat.Seat}
-use Rattle.mk_core.specs.{Allocations.{cell_of_allocation, placed_at}, Cells.is_marked}
-use Rattle.mk_core.specs.{Cycles.{Releasing, IsInSnapshot, before_release}, Growing.is_same_seat}
-use Rattle.mk_core.specs.History.{World, IsHistory, world_behind}
+use Rattle.mk_core.specs.{Cycles.{Releasing, IsInSnapshot, before_release}, History.{World, IsHistory, world_behind}}
+use Rattle.mk_core.specs.{Allocations.{cell_of_allocation, placed_at}, declared.config.Config.Config}
+use Rattle.mk_core.specs.{declared.events.Event.Event, declared.events.Seat.Seat, Cells.is_marked, Growing.is_same_seat}
 use Rattle.mk_cycle.specs.{Below.Words.States.{PassState, now_of, world_of}, Below.Laws.Releases.allocation_behind}
 use Rattle.mk_cycle.specs.EngineLaw.{IsAtPhase}
 use Rattle.mk_sweep.specs.{Swept.IsSwept, Sweeps.Sweeps}

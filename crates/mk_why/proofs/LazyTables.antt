@@ -1,8 +1,7 @@
 -- What is read of a completed table, and what it is after an entry is set.
-use Rattle.std.proofs.Common.{replicate, refl, take}
-use Rattle.std.proofs.lemmas.List.{append_assoc, get_or-append_right, get_or-replicate, get_or_append_left}
-use Rattle.std.proofs.lemmas.List.{length-append, length-replicate, length-set, replicate-append-replicate}
-use Rattle.std.proofs.lemmas.List.{set-append_left, set_at, take_all}
+use Rattle.std.proofs.{Common.{replicate, refl, take}, lemmas.List.{append_assoc, get_or-append_right}}
+use Rattle.std.proofs.lemmas.List.{get_or-replicate, get_or_append_left, length-append, length-replicate, length-set}
+use Rattle.std.proofs.lemmas.List.{replicate-append-replicate, set-append_left, set_at, take_all}
 use Rattle.mk_sweep.proofs.Below.Laws.Vocabulary.{List, ℕ, ap, arith, cases_lt, get_or_past, inl, inr, length}
 use Rattle.mk_sweep.proofs.Below.Laws.Vocabulary.{slice_index_or, slice_set, suc, sym, zero, [], ◌++◌, ◌+◌, ◌-◌, ◌<◌}
 use Rattle.mk_sweep.proofs.Below.Laws.Vocabulary.{◌∙◌, ◌∷◌, ◌≡◌, ◌≤◌}

@@ -15,7 +15,7 @@ use Rattle.mk_sweep.proofs.{Below.Cycles.Stilled.words_left, Below.Cycles.Closes
 use Rattle.mk_sweep.proofs.{Below.Cycles.MaySteps.may_look, Below.Cycles.Steps.may_step, Below.Cycles.Wants.wants_by}
 use Rattle.mk_sweep.proofs.Below.Words.Doing.{does_nothing, does_step, does_then, done_in_parts}
 use Rattle.mk_sweep.proofs.{Below.Words.PointedCells.looked_for, Below.Words.Sweeping.{does_sweep, sweeps_then}}
-use Rattle.mk_sweep.proofs.{Below.Words.Seats.others_own, Below.Words.TurnSteps.still_stopped}
+use Rattle.mk_sweep.proofs.{Below.Words.Seats.others_own, Below.Words.TurnSteps.still_stopped, Kept.ready_of}
 use Rattle.mk_sweep.specs.Below.Cycles.TurnKeeps.{LeavesTurn, but_phase}
 use Rattle.mk_sweep.specs.Below.Cycles.EngineLaw.{ClosesMarks, IsFreeForCycle}
 use Rattle.mk_sweep.specs.{Below.Cycles.Kinds.{closes_marks, is_want}, Below.Cycles.Stops.IsWanted}
@@ -24,7 +24,6 @@ use Rattle.mk_sweep.specs.Below.Words.Doing.{count_done, done_in}
 use Rattle.mk_sweep.specs.{Below.Words.Pointing.{LooksForCell, MayLookAtHeaders}, Below.Words.States.event_of}
 use Rattle.mk_sweep.specs.{Below.Words.Steps.{IsAdmittedTo, IsEnabledTo}, Below.Words.TurnSteps.Acts}
 use Rattle.mk_core.specs.{Frames.written_of, Growing.Finding, Readings.NoneAttends}
-use Rattle.mk_sweep.proofs.Kept.{ready_of}
 use Rattle.mk_why.specs.Stops.{is_look}
 
 -- Looks leave the view as it is, and so does what others do in the stop.

@@ -1,15 +1,14 @@
 -- Chains followed back, and the entries of the kept allocations.
-use Rattle.std.proofs.lemmas.List.{length-reverse, reverse-append}
+use Rattle.std.{proofs.lemmas.List.{length-reverse, reverse-append}, specs.List.Sorted.{IsStrictlyIncreasing}}
 use Rattle.std.proofs.lemmas.List.Elements.{Contains-append_left, Contains-push, Contains-push_cases}
-use Rattle.std.proofs.{Common.length-append, Common.reverse, Math.ListN.get_or-append, Math.Seq.get_or-append_seam}
-use Rattle.std.specs.List.Sorted.{IsStrictlyIncreasing}
-use Rattle.mk_why.proofs.Vocabulary.{AreEntriesBelow, AreWays, BeginApart, Config, Found, IsLedBack, IsTold, IsWay}
+use Rattle.std.proofs.{Common.{length-append, reverse}, Math.ListN.get_or-append, Math.Seq.get_or-append_seam}
+use Rattle.mk_why.proofs.Vocabulary.{AreEntriesBelow, AreWays, BeginApart, Config, Found, IsTold, IsWay}
 use Rattle.mk_why.proofs.Vocabulary.{IsWhy, Link, LinksLead, Root, Start, Storage, View, base_at, entry_at, is_kept}
 use Rattle.mk_why.proofs.Vocabulary.{placed_at, world_in}
 use Rattle.mk_sweep.proofs.Below.Laws.Vocabulary.{List, None, Option, Some, ℕ, and_parts, ap, arith, cases_lt, false}
 use Rattle.mk_sweep.proofs.Below.Laws.Vocabulary.{inl, inr, length, length-map, lt-ltb, map, map-append, not-true, refl}
-use Rattle.mk_sweep.proofs.Below.Laws.Vocabulary.{slice_index, subst, sym, true, [], ◌*◌, ◌++◌, ◌+◌}
-use Rattle.mk_sweep.proofs.{Below.Laws.Vocabulary.{◌<◌, ◌∙◌, ◌∷◌, ◌≡◌, ◌≤◌}, Below.Laws.MappedWords.mapped_stays}
+use Rattle.mk_sweep.proofs.Below.Laws.Vocabulary.{slice_index, subst, sym, true, [], ◌*◌, ◌++◌, ◌+◌, ◌<◌, ◌∙◌, ◌∷◌, ◌≡◌}
+use Rattle.mk_sweep.proofs.{Below.Laws.Vocabulary.◌≤◌, Below.Laws.MappedWords.mapped_stays}
 use Rattle.mk_why.specs.Entries.{IsLed, IsMadeOf, IsOneMore, IsToldWhy, IsWayOf, back_to, root_of, step_back}
 use Rattle.mk_why.specs.{Chains.IsEntryOf, Listing.IsKeptAt, declared.found.Way.Way, declared.kept.Kept.Kept}
 
@@ -33,6 +32,14 @@ pair_is : (a : ℕ) (x : Found) (b : ℕ) (y : Found) (p : Option (ℕ × Found)
     → (a ≡ b) × (x ≡ y)
 unfolding first_of_pair second_of_pair
 pair_is a x b y p one two = (ap first_of_pair (sym one ∙ two), ap (second_of_pair x) (sym one ∙ two))
+
+-- Links, the last one first, lead from an allocation that was found so, and have this many in all with those before it.
+pub record IsLedBack (c : Config) (v : View) (found : List (Option Found)) (f : Found) (links : List ℕ) (b count : ℕ)
+    : Type 0 where
+  pub number : ℕ
+  pub way : IsWay c v found f.way f.links number
+  pub leads : LinksLead c (world_in v) number (reverse links) b
+  pub sum : length links + f.links ≡ count
 
 pub led_first : (c : Config) (v : View) (found : List (Option Found)) (f : Found) (b : ℕ)
     → IsWay c v found f.way f.links b → IsLedBack c v found f [] b f.links

@@ -8,7 +8,7 @@ pub use Rattle.mk_sweep.specs.Below.Cycles.Stops.{is_still_word, still_words}
 pub use Rattle.mk_sweep.specs.Below.Words.States.{PassState, TurnState, WordsState, now_of, world_of}
 pub use Rattle.mk_core.specs.{ClosedMarks.is_scanned_allocation, Ranges.is_word, Touched.PointsIntoAllocation}
 pub use Rattle.mk_core.specs.Words.{named_word}
-pub use Rattle.mk_why.specs.{Chains.{IsWhy, LinksLead, is_kept, word_of_root}, Entries.{AreEntriesBelow, IsLedBack}}
+pub use Rattle.mk_why.specs.{Chains.{IsWhy, LinksLead, is_kept, word_of_root}, Entries.AreEntriesBelow}
 pub use Rattle.mk_why.specs.{Listing.{AreOfKept, IsListed, IsTold, ListsOn}, Searching.{AreWays, BeginApart, FindsMore}}
 pub use Rattle.mk_why.specs.Searching.{IsFirstWord, IsFound, IsFoundThrough, IsNoted, IsSearch, IsSearched, IsWay}
 pub use Rattle.mk_why.specs.{Searching.{SearchesOn, entry_at, links_in, links_of}, Stops.{IsStill, LooksWhileStill}}

@@ -1,13 +1,12 @@
 -- Chains, followed back through the tables, and the entries that are made of them. Only private functions cite these
 -- words.
-use Rattle.std.specs.Prelude.{◌≡◌, ℕ, ◌+◌, ◌*◌, ◌<◌, true, List, [], ◌∷◌, ◌++◌, length, map, nat_lt, reverse}
-use Rattle.std.specs.{Prelude.{slice_index, Option, Some, None, ⊤, if◌then◌else◌}, List.Contains}
-use Rattle.std.specs.List.Sorted.{IsStrictlyIncreasing}
+use Rattle.std.specs.Prelude.{◌≡◌, ℕ, ◌+◌, ◌*◌, ◌<◌, true, List, [], ◌∷◌, ◌++◌, length, map, nat_lt, slice_index}
+use Rattle.std.specs.{Prelude.{Option, Some, None, ⊤, if◌then◌else◌}, List.Contains, List.Sorted.IsStrictlyIncreasing}
 use Rattle.mk_core.specs.declared.config.Config.{Config}
 use Rattle.mk_why.specs.{declared.found.Found.Found, declared.found.Storage.Storage, declared.found.Way.Way}
 use Rattle.mk_why.specs.{declared.found.Way.TheVariants.{Link, Start}, declared.kept.Kept.Kept, declared.kept.Root.Root}
-use Rattle.mk_why.specs.{Chains.{IsChain, IsEntryOf, LinksLead, is_kept}, Searching.{BeginApart, AreWays, IsWay}}
-use Rattle.mk_why.specs.{Searching.entry_at, Stops.{View, base_at, world_in}}
+use Rattle.mk_why.specs.{Chains.{IsChain, IsEntryOf, is_kept}, Searching.{BeginApart, AreWays, IsWay, entry_at}}
+use Rattle.mk_why.specs.Stops.{View, base_at, world_in}
 
 -- one link back, and how the allocation was found that has it
 
@@ -29,14 +28,6 @@ step_back found f = back_by found f.way f.links
 abbrev pub root_of : Way → Option Root
 root_of (Start root) = Some root
 root_of (Link link from) = None
-
--- Links, the last one first, lead from an allocation that was found so, and have this many in all with those before it.
-pub record IsLedBack (c : Config) (v : View) (found : List (Option Found)) (f : Found) (links : List ℕ) (b count : ℕ)
-    : Type 0 where
-  pub number : ℕ
-  pub way : IsWay c v found f.way f.links number
-  pub leads : LinksLead c (world_in v) number (reverse links) b
-  pub sum : length links + f.links ≡ count
 
 -- a chain of this many links
 pub record IsLed (c : Config) (v : View) (b count : ℕ) (root : Option Root) (links : List ℕ) : Type 0 where

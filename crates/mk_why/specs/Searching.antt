@@ -9,7 +9,6 @@ use Rattle.mk_why.specs.{declared.found.Found.Found, declared.found.Way.Way, Sto
 use Rattle.mk_why.specs.{Stops.{base_at, view_by}, declared.found.Way.TheVariants.{Start, Link}}
 use Rattle.mk_why.specs.{declared.kept.Root.Root, declared.kept.Root.TheVariants.{Global, Register}}
 use Rattle.mk_why.specs.{declared.tables.Tables.Tables, Chains.{IsChain, IsLink, IsRoot, word_of_root}}
-use Rattle.mk_core.specs.declared.events.Word.TheVariants as word
 
 -- what a table has for a heap word
 abbrev pub entry_at : {A : Type 0} → List (Option A) → ℕ → Option A
@@ -22,8 +21,8 @@ links_in None = 0
 
 -- the name of a root's word
 abbrev pub root_word : Root → Word
-root_word (Register caller register) = word.Reg caller register
-root_word (Global global) = word.Global global
+root_word (Register caller register) = Word.Reg caller register
+root_word (Global global) = Word.Global global
 
 -- the roots, by the numbers in whose order they are looked at: the registers, caller by caller, and then the globals
 abbrev pub root_numbered : ℕ → ℕ → Root

@@ -1,13 +1,11 @@
 -- What stays still in the stop, after the inner engine's marks. `Why` cites `view_of`, `IsToldBefore` and
 -- `IsClosedBefore`; only private functions cite the other words.
 use Rattle.std.specs.Prelude.{◌≡◌, ℕ, Bool, true, false, List, []}
-use Rattle.mk_core.specs.{declared.events.Step.Step, declared.config.Config.Config}
 use Rattle.mk_core.specs.{Allocations.{PlacedAllocation, placed_at}, History.World, Moments.nothing_done}
-use Rattle.mk_core.specs.{Readings.NoneAttends, Words.Words}
+use Rattle.mk_core.specs.{Readings.NoneAttends, Words.Words, declared.config.Config.Config, declared.events.Step.Step}
 use Rattle.mk_sweep.specs.{Below.Words.States.{PassState, TurnState, now_of, world_of}, Below.Words.TurnSteps.IsStopped}
 use Rattle.mk_sweep.specs.{Below.Words.Doing.Does, Below.Cycles.EngineLaw.{IsAtPhase, IsFreeForCycle}}
 use Rattle.mk_sweep.specs.Below.Cycles.TurnKeeps.{LeavesTurn, but_phase}
-use Rattle.mk_core.specs.declared.events.Step.TheVariants as step
 
 -- the words but the phase, and the allocations
 pub record View : Type 0 where
@@ -47,7 +45,7 @@ pub record IsStill (p : PassState) : Type 0 where
 
 -- it is a look
 abbrev pub is_look : Step → Bool
-is_look (step.Look x) = true
+is_look (Step.Look x) = true
 is_look _ = false
 
 -- The holder of the turn has looked, and all is still.

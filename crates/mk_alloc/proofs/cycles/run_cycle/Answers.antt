@@ -1,7 +1,6 @@
-use Rattle.mk_alloc.proofs.Vocabulary.{PassState, ap, ◌∙◌}
-use Rattle.mk_alloc.proofs.UnsweptTurns.{finish_keeps, keeps_yet, left_keeps, older_same, yet_then}
-use Rattle.mk_alloc.proofs.{FinishedCycles.{Never, begun_and_finished}, SaidCloses.begin_says_none}
-use Rattle.mk_alloc.proofs.Vocabulary.{sym, true≢false}
+use Rattle.mk_alloc.proofs.{Vocabulary.{PassState, ap, ◌∙◌, sym, true≢false}, UnsweptTurns.{finish_keeps, keeps_yet}}
+use Rattle.mk_alloc.proofs.{UnsweptTurns.{left_keeps, older_same, yet_then}, FinishedCycles.{Never, begun_and_finished}}
+use Rattle.mk_alloc.proofs.SaidCloses.{begin_says_none}
 use Rattle.mk_cycle.proofs.{Begun.finish_begins_none, HeldFirst.finish_holds}
 use Rattle.mk_alloc.proofs.cycles.run_cycle.Goals as goal
 

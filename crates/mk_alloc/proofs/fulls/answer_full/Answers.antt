@@ -1,7 +1,6 @@
-use Rattle.mk_alloc.proofs.Vocabulary.{refl}
-use Rattle.mk_alloc.proofs.CountedFulls.{answers_full, full_admitted, full_allowed, full_begins_none, full_closes_none}
-use Rattle.mk_alloc.proofs.CountedFulls.{tallied_ended, tallied_idle, tallied_nowhere, tallied_unplaced}
-use Rattle.mk_alloc.proofs.UnsweptTurns.{full_sweeps}
+use Rattle.mk_alloc.proofs.{Vocabulary.refl, CountedFulls.{answers_full, full_admitted, full_allowed, full_begins_none}}
+use Rattle.mk_alloc.proofs.CountedFulls.{full_closes_none, tallied_ended, tallied_idle, tallied_nowhere}
+use Rattle.mk_alloc.proofs.{CountedFulls.tallied_unplaced, UnsweptTurns.full_sweeps}
 use Rattle.mk_alloc.proofs.fulls.answer_full.Goals as goal
 
 pub full-requires-clause-enabled : goal.full-requires-clause-enabled

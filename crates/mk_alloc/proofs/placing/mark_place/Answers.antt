@@ -1,8 +1,7 @@
 -- Where a cycle marks, the bits of the object are marked.
-use Rattle.mk_caller.proofs.Below.Laws.Vocabulary.{Object, ap, sym, ◌∙◌}
-use Rattle.mk_caller.proofs.Below.Words.Sweeping.{nothing_sweeps}
-use Rattle.mk_alloc.proofs.{ObjectVocabulary.bits_made, PlacedNews.first_mark_sweeps}
-use Rattle.mk_alloc.proofs.Serves.{knows_place, mark_may, marks_first, marks_none}
+use Rattle.mk_caller.proofs.{Below.Laws.Vocabulary.{Object, ap, sym, ◌∙◌}, Below.Words.Sweeping.nothing_sweeps}
+use Rattle.mk_alloc.proofs.{ObjectVocabulary.bits_made, PlacedNews.first_mark_sweeps, Serves.{knows_place, mark_may}}
+use Rattle.mk_alloc.proofs.Serves.{marks_first, marks_none}
 use Rattle.mk_alloc.proofs.placing.mark_place.Goals as goal
 
 pub mark-requires-clause-enabled : goal.mark-requires-clause-enabled

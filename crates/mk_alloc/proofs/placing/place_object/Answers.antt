@@ -1,9 +1,8 @@
 use Rattle.mk_caller.proofs.Below.Laws.Vocabulary.{Some, arith, histories_keep_lengths, ltb-true, place_on_pages, ◌≡◌}
 use Rattle.mk_alloc.proofs.{ObjectVocabulary.{PassState, now_of, object_for}, PlacedNews.{fit_found, fit_within}}
-use Rattle.mk_alloc.proofs.PlacedNews.{placed_there, shape_asked, type_asked}
-use Rattle.mk_alloc.proofs.placing.place_object.Goals as goal
+use Rattle.mk_alloc.{proofs.PlacedNews.{placed_there, shape_asked, type_asked}, specs.Placing.{object_shaped}}
 use Rattle.mk_alloc.proofs.{placing.place_object.Goals.{After-shape_of-shape, In-Some}, JoinedLooks.goes_to}
-use Rattle.mk_alloc.specs.Shapes.{object_shaped}
+use Rattle.mk_alloc.proofs.placing.place_object.Goals as goal
 
 -- the shape is that of the object
 shape_is : (c : After-shape_of-shape) → object_shaped c.shape_of-shape.result ≡ object_for c.args.turn.now.pass

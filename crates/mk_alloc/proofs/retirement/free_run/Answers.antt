@@ -1,10 +1,9 @@
 use Rattle.mk_caller.proofs.Below.Laws.Vocabulary.{arith, sym, true≢false, ◌∙◌}
 use Rattle.mk_alloc.proofs.ObjectVocabulary.{SetsGates, all_others, is_holding}
+use Rattle.mk_alloc.proofs.{retirement.free_run.Goals.After-hold_gates, DecidedFrees.{frees_behind, gates_prepare}}
+use Rattle.mk_alloc.proofs.{LargeFrees.heads_some, Retirements.{free_acting, still_may}}
+use Rattle.mk_alloc.proofs.SetGates.{acting_ready, gates_held, run_still, such_sets, such_values}
 use Rattle.mk_alloc.proofs.retirement.free_run.Goals as goal
-use Rattle.mk_alloc.proofs.retirement.free_run.Goals.{After-hold_gates}
-use Rattle.mk_alloc.proofs.{DecidedFrees.{frees_behind, gates_prepare}, LargeFrees.heads_some}
-use Rattle.mk_alloc.proofs.{Retirements.{free_acting, still_may}, SetGates.{acting_ready, gates_held, run_still}}
-use Rattle.mk_alloc.proofs.SetGates.{such_sets, such_values}
 
 pub hold_gates-requires-clause-ready : goal.hold_gates-requires-clause-ready
 hold_gates-requires-clause-ready g c = acting_ready c.args.turn.now.pass (free_acting c.requires.free)

@@ -1,4 +1,4 @@
-use Rattle.mk_alloc.proofs.Vocabulary.{BeginsNone, Misfits, arith, refl, sym, ◌∙◌}
+use Rattle.mk_alloc.proofs.Vocabulary.{Misfits, SeesNone, arith, is_begin, refl, sym, ◌∙◌}
 use Rattle.mk_alloc.proofs.OneCycles.{ends_none, looks_begins_none, none_then_none}
 use Rattle.mk_alloc.proofs.SeekingTurns.{idly_then, misfits_seen, phase_seen, seen_at, still_needs, tried_then}
 use Rattle.mk_alloc.proofs.UnsweptTurns.{kinds_keep, kinds_then}
@@ -11,7 +11,8 @@ seen g c =
     misfits_seen c.requires.needs.seeks c.requires.needs.nowhere c.is_cycle_on-is_on.ensures.looks
     c.is_cycle_on-is_on.new.turn.in_order
 
-begins_none : (g : _) (c : After-is_cycle_on-is_on g) → BeginsNone c.args.turn.pass c.is_cycle_on-is_on.new.turn.pass
+begins_none : (g : _) (c : After-is_cycle_on-is_on g) → SeesNone is_begin c.args.turn.pass
+    c.is_cycle_on-is_on.new.turn.pass
 begins_none g c =
     looks_begins_none c.args.turn.in_order c.is_cycle_on-is_on.ensures.looks.does
     c.is_cycle_on-is_on.new.turn.in_order.history

@@ -1,6 +1,5 @@
 use Rattle.mk_alloc.proofs.{Vocabulary.{cases_Bool, inl, inr}, OneCycles.{looks_begins_none, placed_begins_none}}
-use Rattle.mk_alloc.proofs.OneCycles.{looks_close_none, placed_closes_none}
-use Rattle.mk_alloc.proofs.SeekingTurns.{misfits_here, seeks_placed}
+use Rattle.mk_alloc.proofs.{OneCycles.{looks_close_none, placed_closes_none}, SeekingTurns.{misfits_here, seeks_placed}}
 use Rattle.mk_alloc.proofs.rooms.try_place.Goals as goal
 
 pub returns-clause-tried : goal.returns-clause-tried

@@ -1,9 +1,8 @@
 use Rattle.mk_caller.proofs.Below.Laws.Vocabulary.{Cell, Flight, Option, Some, ap, header_at, lt-ltb, subst, sym, ℕ}
 use Rattle.mk_caller.proofs.Below.Laws.Vocabulary.{◌<◌, ◌∙◌, ◌≡◌}
-use Rattle.mk_alloc.proofs.{ObjectVocabulary.{PassState, now_of}, FreedObjects.{IsPointed, pointed_now}}
-use Rattle.mk_alloc.proofs.{FreedObjects.page_pointed, LoadedFrees.loaded_undecided}
+use Rattle.mk_alloc.proofs.{ObjectVocabulary.{PassState, now_of}, FreedObjects.{IsPointed, pointed_now, page_pointed}}
+use Rattle.mk_alloc.proofs.{LoadedFrees.loaded_undecided, targets.find_cell.Goals.{After-lookup, Start}}
 use Rattle.mk_alloc.proofs.targets.find_cell.Goals as goal
-use Rattle.mk_alloc.proofs.targets.find_cell.Goals.{After-lookup, Start}
 
 -- what the value points into
 pointed : (c : Start) → IsPointed c.args.turn.now.pass c.args.value

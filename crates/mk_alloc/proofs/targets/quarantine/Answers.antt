@@ -1,11 +1,10 @@
-use Rattle.mk_caller.proofs.Below.Laws.Vocabulary.{Step, arith, bit_or, subst, sym, ℕ, ◌%◌, ◌*◌, ◌+◌, ◌/◌, ◌<◌}
-use Rattle.mk_caller.proofs.Below.Laws.Vocabulary.{◌^◌, ◌≡◌}
+use Rattle.mk_caller.proofs.Below.Laws.Vocabulary.{Step, arith, bit_or, subst, sym, ℕ, ◌%◌, ◌*◌, ◌+◌, ◌/◌, ◌<◌, ◌^◌}
+use Rattle.mk_caller.proofs.Below.Laws.Vocabulary.{◌≡◌}
 use Rattle.mk_alloc.proofs.FreeSteps.{quarantine_half, quarantine_may, quarantine_once, quarantine_reaches}
 use Rattle.mk_alloc.proofs.{LoadedFrees.{free_step_admits, loaded_undecided}, Looks.acting_caller}
-use Rattle.mk_alloc.proofs.ObjectVocabulary.{Acts, IsEnabledTo}
-use Rattle.mk_alloc.proofs.targets.quarantine.Goals.{After-word}
-use Rattle.mk_alloc.proofs.targets.quarantine.Goals as goal
+use Rattle.mk_alloc.proofs.{ObjectVocabulary.{Acts, IsEnabledTo}, targets.quarantine.Goals.After-word}
 use Rattle.mk_alloc.proofs.MayAct.{free_is_acting}
+use Rattle.mk_alloc.proofs.targets.quarantine.Goals as goal
 
 -- the word that is stored, of both halves of the one that was found
 stored : (c : After-word) → c.word.result

@@ -7,9 +7,8 @@ use Rattle.mk_core.specs.Effects.{progress_probe}
 use Rattle.mk_heap.specs.{Below.Words.CallSteps.register_of, Below.Words.States.{PassState, WordsState}}
 use Rattle.mk_clients.proofs.accesses.set_ptr.Goals.{After-reg_load-to, After-reg_load-value, After-write}
 use Rattle.mk_clients.proofs.{accesses.set_ptr.Goals.{Else-is_unmapped, In_ok-enter}, CallFacts.{admitted_now, enters}}
+use Rattle.mk_clients.proofs.CallFacts.{IsMidCall, goes_on, next_may}
 use Rattle.mk_clients.proofs.accesses.set_ptr.Goals as goal
-use Rattle.mk_clients.proofs.CallFacts.{goes_on, next_may}
-use Rattle.mk_clients.specs.Clients.{IsMidCall}
 
 -- where the call is after each of its steps
 

@@ -1,7 +1,6 @@
 use Rattle.mk_laws.proofs.Vocabulary.{ℕ, arith, refl, subst, ◌+◌, ◌-◌, ◌≡◌}
+use Rattle.mk_clients.{proofs.TurnFacts.{holds_on, none_below, opens_last}, specs.Clients.{HoldsBelow}}
 use Rattle.mk_clients.proofs.stops.open_below.Goals as goal
-use Rattle.mk_clients.proofs.TurnFacts.{holds_on, none_below, opens_last}
-use Rattle.mk_clients.specs.Clients.{HoldsBelow}
 
 pub loop-caller-preserved : goal.loop-caller-preserved
 loop-caller-preserved c =

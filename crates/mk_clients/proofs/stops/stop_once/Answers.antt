@@ -1,8 +1,7 @@
 use Rattle.mk_laws.proofs.Vocabulary.{subst, sym}
 use Rattle.mk_heap.specs.Below.Words.States.{PassState, WordsState}
+use Rattle.mk_clients.{proofs.TurnFacts.{all_are_held}, specs.Clients.{HoldsBelow, Settled}}
 use Rattle.mk_clients.proofs.stops.stop_once.Goals as goal
-use Rattle.mk_clients.proofs.TurnFacts.{all_are_held}
-use Rattle.mk_clients.specs.Clients.{HoldsBelow, Settled}
 
 pub stopped-stopped-requires : goal.stopped-stopped-requires
 stopped-stopped-requires c =

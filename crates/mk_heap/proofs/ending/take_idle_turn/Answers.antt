@@ -1,11 +1,10 @@
 use Rattle.mk_alloc.proofs.Below.Laws.Vocabulary.{arith, refl, ◌%◌, ◌∙◌, ◌≡◌}
-use Rattle.mk_alloc.proofs.Below.Words.Sweeping.{other_step_sweeps, step_then_sweeps}
+use Rattle.mk_alloc.proofs.{Below.Words.Sweeping.{other_step_sweeps, step_then_sweeps}, SaidCloses.finish_says}
 use Rattle.mk_core.proofs.PhaseTests.{in_word, not_in_word}
-use Rattle.mk_heap.proofs.BegunHosts.{taken_then_sweeps}
-use Rattle.mk_heap.proofs.Overs.{HasLooked, finished, found_none, found_one, host_has, looked_idle, phase_found}
-use Rattle.mk_heap.proofs.{HomeCallers.taken_phase, ending.take_idle_turn.Goals.After-look-found}
-use Rattle.mk_alloc.proofs.SaidCloses.{finish_says}
-use Rattle.mk_heap.proofs.SaidHosts.{step_says_none, step_then_says, taken_then_says}
+use Rattle.mk_heap.proofs.{BegunHosts.taken_then_sweeps, Overs.{HasLooked, finished, found_none, found_one, host_has}}
+use Rattle.mk_heap.proofs.{Overs.{looked_idle, phase_found}, HomeCallers.taken_phase}
+use Rattle.mk_heap.proofs.{ending.take_idle_turn.Goals.After-look-found, SaidHosts.{step_says_none, step_then_says}}
+use Rattle.mk_heap.proofs.SaidHosts.{taken_then_says}
 use Rattle.mk_heap.proofs.ending.take_idle_turn.Goals as goal
 
 -- The host took the turn, and looked at the phase.

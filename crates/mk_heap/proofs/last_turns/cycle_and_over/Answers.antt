@@ -1,10 +1,9 @@
 use Rattle.mk_alloc.proofs.{Below.Laws.Vocabulary.{ap, arith, subst, sym, ◌∙◌}, UnsweptTurns.keeps_then}
 use Rattle.mk_alloc.proofs.FinishedCycles.{Never, unbegun_finished}
 use Rattle.mk_alloc.specs.{Below.Words.Seats.HasCallers, Below.Words.States.WordsState}
+use Rattle.mk_heap.proofs.{HostTurns.both_begin, LastTurns.{last_turns, still_behind_both}, BegunHosts.over_begun}
+use Rattle.mk_heap.{proofs.ClientSteps.{has_said_over}, specs.Hosts.{HostState, with_seen}}
 use Rattle.mk_heap.proofs.last_turns.cycle_and_over.Goals as goal
-use Rattle.mk_heap.proofs.{HostTurns.both_begin, LastTurns.{last_turns, still_behind_both}}
-use Rattle.mk_heap.specs.Hosts.{HostState}
-use Rattle.mk_heap.{proofs.BegunHosts.over_begun, proofs.ClientSteps.has_said_over, specs.Hosts.with_seen}
 
 pub over-requires-clause-joined : goal.over-requires-clause-joined
 over-requires-clause-joined g c x2 within = grind arith

@@ -1,10 +1,9 @@
-use Rattle.mk_alloc.proofs.Below.Laws.Vocabulary.{false, subst, sym, ◌≡◌}
-use Rattle.mk_alloc.proofs.FinishedCycles.{Never, unbegun_finished}
+use Rattle.mk_alloc.proofs.{Below.Laws.Vocabulary.{false, subst, sym, ◌≡◌}, FinishedCycles.{Never, unbegun_finished}}
 use Rattle.mk_alloc.specs.{Below.Words.Seats.HasCallers, Below.Words.States.WordsState}
-use Rattle.mk_heap.proofs.last_turns.take_last_turns.Goals as goal
-use Rattle.mk_heap.proofs.{HostTurns.over_begins, LastTurns.still_behind_over}
+use Rattle.mk_heap.proofs.{HostTurns.over_begins, LastTurns.still_behind_over, BegunHosts.over_begun}
+use Rattle.mk_heap.proofs.ClientSteps.{has_said_over}
 use Rattle.std.proofs.Common.{rules}
-use Rattle.mk_heap.proofs.{BegunHosts.over_begun, ClientSteps.has_said_over}
+use Rattle.mk_heap.proofs.last_turns.take_last_turns.Goals as goal
 
 pub returns-else-with_cycle-clause-host : goal.returns-else-with_cycle-clause-host
 returns-else-with_cycle-clause-host g c =

@@ -1,5 +1,4 @@
-use Rattle.mk_jobs.proofs.{Clearing.goes_cleared, Holds.none_held}
-use Rattle.mk_jobs.proofs.RunVocabulary.{GoesToEnd}
+use Rattle.mk_jobs.proofs.{Clearing.goes_cleared, Holds.none_held, RunVocabulary.GoesToEnd}
 use Rattle.mk_laws.proofs.Vocabulary.{subst}
 use Rattle.mk_jobs.proofs.going.do_job.Goals as goal
 

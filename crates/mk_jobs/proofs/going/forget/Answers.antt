@@ -1,5 +1,4 @@
-use Rattle.mk_jobs.proofs.Clearing.{clear_stays_admitted, none_cleared, one_cleared}
-use Rattle.mk_jobs.proofs.Walking.{ready_on}
+use Rattle.mk_jobs.proofs.{Clearing.{clear_stays_admitted, none_cleared, one_cleared}, Walking.ready_on}
 use Rattle.mk_laws.proofs.Vocabulary.{arith, refl}
 use Rattle.mk_jobs.proofs.going.forget.Goals as goal
 

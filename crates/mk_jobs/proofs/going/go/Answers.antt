@@ -1,10 +1,9 @@
 use Rattle.mk_laws.proofs.Vocabulary.{Bool, ap, refl, subst, sym, true, [], ◌<◌, ◌∙◌, ◌∷◌, ◌≡◌}
 use Rattle.mk_jobs.proofs.RunVocabulary.{Answer, Answers, CallerState, Op, PassState, StaysAdmitted, caller_of_pass}
-use Rattle.mk_jobs.proofs.RunVocabulary.{next_by, op_of}
-use Rattle.mk_jobs.proofs.Walking.{advances, goes_nowhere, goes_through, may_ask, ready_on}
+use Rattle.mk_jobs.proofs.{RunVocabulary.{next_by, op_of}, Walking.{advances, goes_nowhere, goes_through, may_ask}}
+use Rattle.mk_jobs.proofs.{Walking.ready_on, going.go.Goals.{In-Some-op_of, Joined-answer_at_once}}
+use Rattle.mk_jobs.proofs.going.go.Goals.{in-None-answer_at_once, in-Some-answer_at_once}
 use Rattle.mk_heap.proofs.Dispatched.{put_off_then, put_off_waits, stays_admitted_after}
-use Rattle.mk_jobs.proofs.going.go.Goals.{In-Some-op_of, Joined-answer_at_once, in-None-answer_at_once}
-use Rattle.mk_jobs.proofs.going.go.Goals.{in-Some-answer_at_once}
 use Rattle.mk_jobs.proofs.going.go.Goals as goal
 
 -- The caller is told this of an operation, at once or later.

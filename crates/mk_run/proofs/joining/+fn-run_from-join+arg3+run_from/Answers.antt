@@ -1,11 +1,9 @@
 use Rattle.mk_laws.proofs.Vocabulary.{Caller, Config, Host, ap, arith, length, subst, sym, ◌+◌, ◌∙◌, ◌≡◌}
 use Rattle.mk_run.proofs.Vocabulary.{AreReadyFrom, Grows, HasMade, HostState, IsFirstPass, IsReadyScript, IsScript}
-use Rattle.mk_run.proofs.Vocabulary.{has_left, rules, script_names, with_joined}
-use Rattle.mk_run.specs.Joining.{AreJoined, HasRun}
+use Rattle.mk_run.{proofs.Vocabulary.{has_left, rules, script_names, with_joined}, specs.Joining.{AreJoined, HasRun}}
+use Rattle.mk_run.proofs.{JoinedScripts.{one_joined, texts_joined}, KeptScripts.{none_joined, script_joined}}
+use Rattle.mk_run.proofs.{KeptScripts.scripts_on, LaterLists.of_one, ReadyScripts.ready_first}
 use Rattle.mk_heap.proofs.HostTurns.{host_is_still, unseen_by_host}
-use Rattle.mk_run.proofs.JoinedScripts.{one_joined, texts_joined}
-use Rattle.mk_run.proofs.{KeptScripts.{none_joined, script_joined, scripts_on}, LaterLists.of_one}
-use Rattle.mk_run.proofs.ReadyScripts.{ready_first}
 use denote.Param.Send.{Quiet-if}
 use mir.Syntax.{of_param}
 use Rattle.mk_heap.proofs.Crews.{caller_made, first_pass}

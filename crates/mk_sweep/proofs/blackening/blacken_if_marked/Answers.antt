@@ -1,9 +1,8 @@
-use Rattle.mk_sweep.proofs.Vocabulary.{WordsState, still_words}
+use Rattle.mk_sweep.proofs.{Vocabulary.{WordsState, still_words}, Blacks.{black_now, blacks_added, blacks_length}}
+use Rattle.mk_sweep.proofs.{Blacks.blacks_same, SweepSteps.{on_black, sweeps_from}}
+use Rattle.mk_sweep.proofs.blackening.blacken_if_marked.Goals.{After-black}
 use Rattle.mk_cycle.proofs.{Below.Laws.Vocabulary.{arith, subst, sym, ◌<◌, ◌^◌, ◌≡◌}, MaySteps.may_black_cell}
-use Rattle.mk_cycle.proofs.Stilled.{black_words}
-use Rattle.mk_cycle.specs.Grays.{with_blacks}
-use Rattle.mk_sweep.proofs.Blacks.{black_now, blacks_added, blacks_length, blacks_same}
-use Rattle.mk_sweep.proofs.{SweepSteps.on_black, SweepSteps.sweeps_from, blackening.blacken_if_marked.Goals.After-black}
+use Rattle.mk_cycle.{proofs.Stilled.{black_words}, specs.Grays.{with_blacks}}
 use Rattle.mk_sweep.proofs.blackening.blacken_if_marked.Goals as goal
 
 pub returns-then-not-marked-clause-on : goal.returns-then-not-marked-clause-on

@@ -1,6 +1,5 @@
 use Rattle.mk_sweep.proofs.Vocabulary.{SweepsOn, still_words}
-use Rattle.mk_cycle.proofs.Below.Laws.Vocabulary.{ℕ, slice_index, [], ◌<◌, ◌≡◌}
-use Rattle.mk_cycle.specs.Grays.{DirtyFewer}
+use Rattle.mk_cycle.{proofs.Below.Laws.Vocabulary.{ℕ, slice_index, [], ◌<◌, ◌≡◌}, specs.Grays.{DirtyFewer}}
 use Rattle.mk_sweep.proofs.clearing.undirty_all.Given as goal
 
 abbrev pub invariant-loop-page : goal.invariant-loop-page

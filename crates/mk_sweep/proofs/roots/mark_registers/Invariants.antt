@@ -1,6 +1,5 @@
 use Rattle.mk_sweep.proofs.Vocabulary.{MarksMore, SweepsOn, still_words}
-use Rattle.mk_cycle.proofs.Below.Laws.Vocabulary.{ℕ, [], ◌<◌}
-use Rattle.mk_cycle.specs.Grays.{RegistersAreWell}
+use Rattle.mk_cycle.{proofs.Below.Laws.Vocabulary.{ℕ, [], ◌<◌}, specs.Grays.{RegistersAreWell}}
 use Rattle.mk_sweep.proofs.roots.mark_registers.Given as goal
 
 abbrev pub invariant-loop-caller : goal.invariant-loop-caller

@@ -1,4 +1,4 @@
-use Rattle.mk_why.proofs.Vocabulary.{AreWays, BeginApart, Config, IsLedBack, IsWay, View}
+use Rattle.mk_why.proofs.{MadeEntries.IsLedBack, Vocabulary.{AreWays, BeginApart, Config, IsWay, View}}
 use Rattle.mk_sweep.proofs.Below.Laws.Vocabulary.{ℕ}
 use Rattle.mk_why.proofs.entries.chain.Given as goal
 

@@ -1,5 +1,4 @@
-use Rattle.mk_alloc.proofs.Below.Laws.Vocabulary.{subst, sym, ◌<◌}
-use Rattle.mk_alloc.specs.Below.Words.States.{WordsState}
+use Rattle.mk_alloc.{proofs.Below.Laws.Vocabulary.{subst, sym, ◌<◌}, specs.Below.Words.States.{WordsState}}
 use Rattle.mk_heap.proofs.HostsKept.{caller_made_is_host, home_is, home_view, is_home, next_is_idle, still_host}
 use Rattle.mk_heap.proofs.hosts.Host.caller.Goals as goal
 

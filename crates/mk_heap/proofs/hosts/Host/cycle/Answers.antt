@@ -1,16 +1,15 @@
-use Rattle.mk_alloc.proofs.Below.Laws.Vocabulary.{None, arith, refl, subst, sym, ◌∙◌}
+use Rattle.mk_alloc.proofs.Below.Laws.Vocabulary.{arith, refl, subst, sym, ◌∙◌}
 use Rattle.mk_alloc.proofs.Below.Words.Sweeping.{other_step_sweeps, sweeps_then}
+use Rattle.mk_alloc.proofs.SaidCloses.{begin_says_none, finish_says, said_then}
 use Rattle.mk_alloc.specs.{Below.Cycles.Begun.EachIsBegun, Below.Cycles.EngineLaw.IsAtPhase}
-use Rattle.mk_alloc.specs.{Below.Words.Sweeping.SweepsNothing, Below.Words.Taking.TakesTurn}
-use Rattle.mk_alloc.specs.Below.Words.States.{PassState}
+use Rattle.mk_alloc.specs.{Below.Words.Sweeping.SweepsNothing, Below.Words.States.PassState}
+use Rattle.mk_alloc.specs.Closes.{EachIsFinished, EachIsSaid}
 use Rattle.mk_heap.proofs.{HomeCallers.{hosts_seat, none_by_phase, step_overs}, MovedHosts.{MovesOn, begin_moves}}
 use Rattle.mk_heap.proofs.MovedHosts.{finish_moves, idle_moves, moved_is_host, moves_more, taken_own}
 use Rattle.mk_heap.proofs.Overs.{cycle_idle, give_allowed, given_no_turn, given_phase, idle_may_give}
 use Rattle.mk_heap.proofs.{BegunHosts.{cycle_begun, idle_then_sweeps}, HostsKept.{home_is, home_view, is_home}}
-use Rattle.mk_heap.{proofs.hosts.Host.cycle.Goals.{After-finish_cycle-turn}, specs.Hosts.{HostState}}
-use Rattle.mk_alloc.proofs.SaidCloses.{begin_says_none, finish_says, said_then}
-use Rattle.mk_alloc.specs.Closes.{EachIsFinished, EachIsSaid}
-use Rattle.mk_heap.proofs.{FinishedHosts.cycle_finished, SaidHosts.{idle_then_says, step_says_none}}
+use Rattle.mk_heap.proofs.{hosts.Host.cycle.Goals.After-finish_cycle-turn, FinishedHosts.cycle_finished}
+use Rattle.mk_heap.{proofs.SaidHosts.{idle_then_says, step_says_none}, specs.{Ending.TakesIdleTurn, Hosts.HostState}}
 use Rattle.mk_heap.proofs.hosts.Host.cycle.Goals as goal
 
 pub give-back-requires-clause-enabled : goal.give-back-requires-clause-enabled
@@ -38,16 +37,14 @@ returns-clause-idle g c = grind (arith, given_phase)
 
 pub returns-clause-cycle : goal.returns-clause-cycle
 returns-clause-cycle g c =
-    let t = c.take_idle_turn-turn.ensures.takes in
     let view = home_view c.take_home-home.ensures c.self.view_is in
     record {
       makes = record {
-        taken = t.taken;
         idle = c.take_idle_turn-turn.result.pass;
         begun = c.begin_cycle.new.turn.pass;
         ended = c.finish_cycle-turn.result.0.pass;
-        takes = subst (λ (h : HostState). TakesTurn h.pass None t.taken) view t.takes;
-        ends = t.ends;
+        idles = subst (λ (h : HostState). TakesIdleTurn h.pass c.take_idle_turn-turn.result.pass) view
+            c.take_idle_turn-turn.ensures.takes;
         begins = c.begin_cycle.ensures.law;
         finishes = c.finish_cycle-turn.ensures.law;
         gives = c.give-back.ensures.acts.makes;

@@ -1,12 +1,11 @@
 use Rattle.mk_alloc.proofs.Below.Laws.Vocabulary.{refl, subst, sym}
 use Rattle.mk_alloc.specs.{Below.Cycles.EngineLaw.IsAtPhase, Below.Words.Sweeping.SweepsNothing}
-use Rattle.mk_alloc.specs.Below.Words.States.{PassState}
+use Rattle.mk_alloc.specs.{Below.Words.States.PassState, Closes.EachIsSaid}
 use Rattle.mk_heap.proofs.{HostsKept.{home_is, home_view, is_home}, MovedHosts.{idle_moves, moved_is_host, moves_more}}
 use Rattle.mk_heap.proofs.Overs.{give_allowed, given_no_turn, over_keeps, over_may_give, tidy_kept}
 use Rattle.mk_heap.proofs.{BegunHosts.{given_sweeps, idle_then_sweeps}, HomeCallers.callers_home}
-use Rattle.mk_heap.specs.{Ending.{CallersAreJoined, SaysOver}, Hosts.HostState}
-use Rattle.mk_alloc.specs.Closes.{EachIsSaid}
 use Rattle.mk_heap.proofs.SaidHosts.{idle_then_says, step_says_none, step_then_says}
+use Rattle.mk_heap.specs.{Ending.{CallersAreJoined, SaysOver}, Hosts.HostState}
 use Rattle.mk_heap.proofs.hosts.Host.over.Goals as goal
 
 pub give-back-requires-clause-enabled : goal.give-back-requires-clause-enabled
@@ -38,13 +37,10 @@ pub returns-clause-over : goal.returns-clause-over
 returns-clause-over g c =
     let view = home_view c.take_home-home.ensures c.self.view_is in
     let r : PassState = c.give-back.result in
-    let turn = c.take_idle_turn-turn.ensures.takes in
     subst (λ (h : HostState). SaysOver h.pass r) view (record {
-      taken = turn.taken;
       idle = c.take_idle_turn-turn.result.pass;
       said = c.over.new.self.pass;
-      takes = turn.takes;
-      ends = turn.ends;
+      idles = c.take_idle_turn-turn.ensures.takes;
       says = c.over.ensures.makes;
       gives = c.give-back.ensures.acts.makes;
     })

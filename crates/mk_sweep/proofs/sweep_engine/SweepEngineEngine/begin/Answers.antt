@@ -1,5 +1,4 @@
-use Rattle.mk_cycle.proofs.Begun.{does_no_part}
-use Rattle.mk_cycle.proofs.TracedMarks.{begins_with_nothing}
+use Rattle.mk_cycle.proofs.{Begun.does_no_part, TracedMarks.begins_with_nothing}
 use Rattle.mk_sweep.proofs.sweep_engine.SweepEngineEngine.begin.Goals as goal
 
 pub returns-clause-law : goal.returns-clause-law
