@@ -18,7 +18,8 @@ pub skipped : (name : List ℕ) (names : List (List ℕ)) (start : ℕ) → star
 skipped name names zero h others = none_before (number_of_name name names)
 skipped name [] (suc start) h others = absurd (omega arith)
 skipped name (other ∷ names) (suc start) h others =
-    by_test (bytes_eq name other) refl (skipped name names start (omega arith) (λ k below. others (suc k) (omega arith)))
+    by_test (bytes_eq name other) refl
+    (skipped name names start (omega arith) (λ k below. others (suc k) (omega arith)))
   where
     by_test : (same : Bool) → bytes_eq name other ≡ same
         → start + number_of_name name (drop start names) ≡ number_of_name name names

@@ -3,7 +3,8 @@ use Rattle.mk_heap.proofs.{Alone.may_take, ClientSteps.one_is_joined, Dispatched
 use Rattle.mk_heap.proofs.Below.Laws.Vocabulary.{arith, ap, refl, subst, sym, false, [], ◌∙◌, ◌∷◌, ◌≡◌}
 use Rattle.mk_heap.specs.{Below.Words.States.PassState, Hosts.HostState}
 use Rattle.mk_hello.proofs.hello.Goals.{After-finish, After-new_object-made}
-use Rattle.mk_hello.proofs.Loads.{config_is, free_adds, hello_config, is_loaded, is_told, may_free, may_load, may_store, new_adds}
+use Rattle.mk_hello.proofs.Loads.{config_is, free_adds, hello_config, is_loaded, is_told, may_free, may_load, may_store}
+use Rattle.mk_hello.proofs.Loads.{new_adds}
 use Rattle.mk_hello.proofs.hello.Goals as goal
 
 -- the caller after its New
