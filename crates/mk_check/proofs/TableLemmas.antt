@@ -1,12 +1,11 @@
 -- Names that are found by a key.
 use Rattle.std.proofs.Common.{min, set, ◌≢◌}
-use Rattle.std.proofs.{lemmas.Bool.cases_eq, lemmas.List.{get_or-set_other, get_or-set_same}}
+use Rattle.std.{proofs.{lemmas.Bool.cases_eq, lemmas.List.{get_or-set_other, get_or-set_same}}, specs.Borrow.Bor}
 use Rattle.mk_check.proofs.Vocabulary.{Bool, List, ap, arith, bytes_eq, bytes_eq-Decides, cases_lt, drop, drop_more}
-use Rattle.mk_check.proofs.Vocabulary.{false, get_or, get_or_append_left, subst, true, ◌∙◌}
-use Rattle.mk_check.proofs.Vocabulary.{get_or_at, if◌then◌else◌, length, length_push, number_of_name, refl, sym, ℕ}
-use Rattle.mk_check.proofs.Vocabulary.{⊎_elim, ◌++◌, ◌+◌, ◌<◌, ◌∷◌, ◌≡◌, ◌≤◌, [], suc, zero}
+use Rattle.mk_check.proofs.Vocabulary.{false, get_or, get_or_append_left, get_or_at, if◌then◌else◌, length, length_push}
+use Rattle.mk_check.proofs.Vocabulary.{number_of_name, refl, subst, suc, sym, true, zero, ℕ, [], ⊎_elim, ◌++◌, ◌+◌}
+use Rattle.mk_check.proofs.Vocabulary.{◌<◌, ◌∙◌, ◌∷◌, ◌≡◌, ◌≤◌}
 use Rattle.mk_check.specs.{NameTables.{IsIndex, key_of}, NamesInScope.referred_names}
-use Rattle.std.specs.Borrow.{Bor}
 
 none_before : (n : ℕ) → 0 + n ≡ n
 none_before n = omega arith
@@ -18,7 +17,8 @@ pub skipped : (name : List ℕ) (names : List (List ℕ)) (start : ℕ) → star
 skipped name names zero h others = none_before (number_of_name name names)
 skipped name [] (suc start) h others = absurd (omega arith)
 skipped name (other ∷ names) (suc start) h others =
-    by_test (bytes_eq name other) refl (skipped name names start (omega arith) (λ k below. others (suc k) (omega arith)))
+    by_test (bytes_eq name other) refl
+    (skipped name names start (omega arith) (λ k below. others (suc k) (omega arith)))
   where
     by_test : (same : Bool) → bytes_eq name other ≡ same
         → start + number_of_name name (drop start names) ≡ number_of_name name names
