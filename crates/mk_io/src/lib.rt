@@ -18,9 +18,9 @@ pub use streams::{StdinSource, StdoutSink};
 pub use writing::write_all;
 
 /// A call of a source or a sink that failed, and moved no byte.
-#[derive(Clone, Copy, PartialEq, Eq)]
+#[derive(Clone, Copy, Debug, PartialEq, Eq)]
 pub struct Failed;
 
 /// There was no memory for what was asked.
-#[derive(Clone, Copy)]
+#[derive(Clone, Copy, Debug, PartialEq, Eq)]
 pub struct NoMemory;
