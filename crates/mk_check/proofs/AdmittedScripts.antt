@@ -9,9 +9,8 @@ use Rattle.mk_check.proofs.Vocabulary.{number_of_name, op_of, option_map, pointe
 use Rattle.mk_check.proofs.Vocabulary.{script_names, script_of, script_scope, subst, sym, take_answer, take_answers}
 use Rattle.mk_check.proofs.Vocabulary.{true, types_of, with_answer, [], ◌*◌, ◌++◌, ◌+◌, ◌<◌, ◌==◌, ◌∙◌, ◌∷◌, ◌≡◌, ◌≤◌}
 use Rattle.mk_check.proofs.{AdmittedLines.{admitted, line_keeps}, DeclaredRegisters.{AreAsDeclared, FitsScript}}
-use Rattle.mk_check.proofs.DeclaredRegisters.{kind_at}
-use Rattle.mk_check.proofs.LinesLeft.{AllPlaced, AllPlaced-run, AllPlaced-take_answers, next_placed}
-use Rattle.mk_check.proofs.{LinesLeft.{next_stands, placed_of_script}, DeclaredPlaces.pointer_within}
+use Rattle.mk_check.proofs.{DeclaredRegisters.kind_at, LinesLeft.{AllPlaced, AllPlaced-run, AllPlaced-take_answers}}
+use Rattle.mk_check.proofs.{LinesLeft.{next_placed, next_stands, placed_of_script}, DeclaredPlaces.pointer_within}
 use Rattle.mk_check.proofs.{FeedLaws.ops-feed_push, FewNames.text_has_few, Numbered.{ops-with_answer, run_agrees}}
 use Rattle.mk_check.proofs.{TypedLines.Says, TypedScripts.script_says}
 use Rattle.mk_never.proofs.Later.{op_stays}

@@ -1,9 +1,7 @@
 -- What lines declare, with one line more.
-use Rattle.std.proofs.{Common.IfOk, lemmas.List.Elements.filter_map-append}
-use Rattle.std.specs.{Borrow.Bor, List.filter_map}
-use Rattle.mk_check.proofs.Vocabulary.{Err, Ok, OnOk, Result}
-use Rattle.mk_check.proofs.Vocabulary.{At, Item, List, None, Option, TypeWord, ap, arith, map, map-append}
-use Rattle.mk_check.proofs.Vocabulary.{refl, sym, ℕ, [], ◌++◌, ◌∙◌, ◌∷◌, ◌≡◌}
+use Rattle.std.{proofs.lemmas.List.Elements.filter_map-append, specs.{Borrow.Bor, List.filter_map}}
+use Rattle.mk_check.proofs.Vocabulary.{At, Err, Item, List, None, Ok, OnOk, Option, Result, TypeWord, ap, arith, map}
+use Rattle.mk_check.proofs.Vocabulary.{map-append, refl, sym, ℕ, [], ◌++◌, ◌∙◌, ◌∷◌, ◌≡◌}
 use Rattle.mk_check.proofs.DeclaredPlaces.{declares_nothing}
 use Rattle.mk_check.specs.{declared.declarations.Declarations.Declarations, declared.registers.Registers.Registers}
 use Rattle.mk_check.specs.Declarations.{declared_type, declared_words}
@@ -12,6 +10,7 @@ use Rattle.mk_script.proofs.Pushed.{names_of-append}
 use Rattle.mk_script.specs.{declared.items.Item.TheVariants.{Global, Num, Ptr, TypeLine}, Scopes.declared_name}
 use Rattle.mk_script.specs.declared.sorts.Sort.{Sort}
 
+-- what an `Ok` has leads to more
 pub OnOk-map : {T E P Q : Type 0} (r : Result T E) → (P → Q) → OnOk r P → OnOk r Q
 OnOk-map (Ok x) f p = f p
 OnOk-map (Err e) f p = p

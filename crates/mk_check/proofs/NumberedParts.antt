@@ -1,9 +1,8 @@
 -- The parts of a script, with numbers for their names.
 use Rattle.std.proofs.Common.{slice_index_or}
 use Rattle.mk_check.proofs.Vocabulary.{Element, Item, List, Part, Scope, ℕ, ap, arith, blocks_from, branch, drop}
-use Rattle.mk_check.proofs.Vocabulary.{drop_more, element_of, length, map, numbered, outermost_blocks, parts_from, refl}
-use Rattle.mk_check.proofs.Vocabulary.{sym}
-use Rattle.mk_check.proofs.Vocabulary.{with_element, with_item, [], ◌+◌, ◌<◌, ◌∙◌, ◌∷◌, ◌≡◌}
+use Rattle.mk_check.proofs.Vocabulary.{drop_more, element_of, length, map, numbered, outermost_blocks, parts_from}
+use Rattle.mk_check.proofs.Vocabulary.{refl, sym, with_element, with_item, [], ◌+◌, ◌<◌, ◌∙◌, ◌∷◌, ◌≡◌}
 use Rattle.mk_check.specs.Building.{StepPart, innermost_steps, parts_before, steps_before}
 
 -- an open block, with numbers for its names

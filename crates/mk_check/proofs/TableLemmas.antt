@@ -1,12 +1,11 @@
 -- Names that are found by a key.
 use Rattle.std.proofs.Common.{min, set, ◌≢◌}
-use Rattle.std.proofs.{lemmas.Bool.cases_eq, lemmas.List.{get_or-set_other, get_or-set_same}}
+use Rattle.std.{proofs.{lemmas.Bool.cases_eq, lemmas.List.{get_or-set_other, get_or-set_same}}, specs.Borrow.Bor}
 use Rattle.mk_check.proofs.Vocabulary.{Bool, List, ap, arith, bytes_eq, bytes_eq-Decides, cases_lt, drop, drop_more}
-use Rattle.mk_check.proofs.Vocabulary.{false, get_or, get_or_append_left, subst, true, ◌∙◌}
-use Rattle.mk_check.proofs.Vocabulary.{get_or_at, if◌then◌else◌, length, length_push, number_of_name, refl, sym, ℕ}
-use Rattle.mk_check.proofs.Vocabulary.{⊎_elim, ◌++◌, ◌+◌, ◌<◌, ◌∷◌, ◌≡◌, ◌≤◌, [], suc, zero}
+use Rattle.mk_check.proofs.Vocabulary.{false, get_or, get_or_append_left, get_or_at, if◌then◌else◌, length, length_push}
+use Rattle.mk_check.proofs.Vocabulary.{number_of_name, refl, subst, suc, sym, true, zero, ℕ, [], ⊎_elim, ◌++◌, ◌+◌}
+use Rattle.mk_check.proofs.Vocabulary.{◌<◌, ◌∙◌, ◌∷◌, ◌≡◌, ◌≤◌}
 use Rattle.mk_check.specs.{NameTables.{IsIndex, key_of}, NamesInScope.referred_names}
-use Rattle.std.specs.Borrow.{Bor}
 
 none_before : (n : ℕ) → 0 + n ≡ n
 none_before n = omega arith

@@ -1,5 +1,5 @@
 -- A script as a tree of blocks.
-use Rattle.std.specs.Prelude.{⊤, ◌≡◌, ℕ, zero, suc, ◌+◌, ◌<◌, ◌≤◌, Bool, true, false, List, [], ◌∷◌, length, Option}
+use Rattle.std.specs.Prelude.{◌≡◌, ℕ, zero, suc, ◌+◌, ◌<◌, ◌≤◌, Bool, true, false, List, [], ◌∷◌, length, Option}
 use Rattle.std.specs.Prelude.{Some, None}
 use Rattle.mk_script.specs.{declared.items.Item.Item, declared.items.Item.TheVariants.{Script, Repeat, If, Else, End}}
 use Rattle.mk_script.specs.Scopes.{script_names}

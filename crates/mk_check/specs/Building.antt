@@ -2,10 +2,9 @@
 -- Private functions alone cite these words.
 use Rattle.std.specs.Prelude.{◌≡◌, ℕ, ◌+◌, ◌<◌, ◌++◌, List, [], ◌∷◌, length, fold}
 use Rattle.mk_check.specs.{declared.feeding.instructions.Element.Element, declared.feeding.tree.Node.Node}
-use Rattle.mk_check.specs.{declared.feeding.building.Part.Part, Blocks.branch, Feed.Scope, Steps.{Steps, Done, Line}}
-use Rattle.mk_check.specs.{Steps.{Rounds, Choice, numbered}, Trees.{steps_at, trees}}
+use Rattle.mk_check.specs.{declared.feeding.building.Part.Part, Steps.{Steps, Done, Line}}
+use Rattle.mk_check.specs.{Steps.{Rounds, Choice}, Trees.{steps_at, trees}}
 use Rattle.mk_check.specs.declared.feeding.instructions.Element.TheVariants as element
-use Rattle.mk_check.specs.Blocks as blocks
 
 -- A part of a script, as Blocks has it: its steps, and the second branch's, none where no `else` was read.
 pub record StepPart : Type 0 where

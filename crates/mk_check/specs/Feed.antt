@@ -4,8 +4,8 @@ use Rattle.std.specs.{Prelude.{slice_index, slice_set, ◌==◌, if◌then◌els
 use lib.Chars.{codes}
 use Rattle.mk_never.specs.declared.operations.Op.{Op}
 use Rattle.mk_core.specs.{declared.events.Answer.Answer, Decided.flagged}
-use Rattle.mk_script.specs.{declared.items.Item.Item, declared.items.Item.TheVariants.{Script}}
-use Rattle.mk_script.specs.declared.items.Item.TheVariants.{Num, New, Free, Getn, Setn, Getp, Setp, Casp, Lea}
+use Rattle.mk_script.specs.{declared.items.Item.Item}
+use Rattle.mk_script.specs.declared.items.Item.TheVariants.{New, Free, Getn, Setn, Getp, Setp, Casp, Lea}
 use Rattle.mk_script.specs.declared.items.Item.TheVariants.{Move, Clear, Loadg, Storeg, Same, Isnull, Show, Const, Add}
 use Rattle.mk_script.specs.declared.items.Item.TheVariants.{Sub, Print}
 use Rattle.mk_script.specs.Scopes.{type_names, global_names, pointer_names, number_names}

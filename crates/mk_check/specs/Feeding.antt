@@ -4,9 +4,8 @@ use Rattle.mk_never.specs.declared.operations.Op.{Op}
 use Rattle.mk_core.specs.declared.events.Answer.{Answer}
 use Rattle.mk_script.specs.declared.items.Item.{Item}
 use Rattle.mk_check.specs.{declared.feeding.tree.Node.Node, Blocks.{Blocks, Done, Line, Rounds, Choice, script_of}}
-use Rattle.mk_check.specs.{Feed.{Scope, Fed, op_of, scope_of, feed, has_ended}, Steps.{op_asked, numbered}}
+use Rattle.mk_check.specs.{Feed.{Scope, Fed, op_of, scope_of, feed, has_ended}, Steps.{numbered}}
 use Rattle.mk_check.specs.Trees.{Place, left_in, node_at, PlaceFits, PlaceIsWithin, StopsAt, work_of}
-use Rattle.mk_check.specs.declared.feeding.tree.Node.TheVariants as node
 
 -- the nodes of a script, and where it is
 pub record FeedState : Type 0 where

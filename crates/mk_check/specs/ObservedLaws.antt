@@ -1,6 +1,6 @@
 -- What holds of each run that can be observed, and of what its scripts are told.
 use Rattle.std.specs.Prelude.{◌≡◌, ℕ, List, ◌∷◌, ◌++◌, length}
-use Rattle.mk_never.specs.{declared.operations.Reply.Reply, NeverHeap.{NeverState, replies_of}}
+use Rattle.mk_never.specs.{NeverHeap.{NeverState, replies_of}}
 use Rattle.mk_core.specs.{declared.events.Answer.Answer, Decided.{Decided, asked, answered}, Image.answers_of}
 use Rattle.mk_script.specs.{declared.items.Item.Item, Scopes.script_names}
 use Rattle.mk_check.specs.{Feed.feed, Laws.{IsChecked, IsScript, AreAdmittedFor}, Output.answers_among}

@@ -8,7 +8,7 @@ use Rattle.mk_never.specs.declared.operations.Op.{Op}
 use Rattle.mk_core.specs.declared.events.Answer.{Answer}
 use Rattle.mk_script.specs.declared.items.Item.{Item}
 use Rattle.mk_check.specs.{declared.feeding.instructions.Instruction.Instruction, Feed.{show_text, Scope}}
-use Rattle.mk_check.specs.Feed.{pointer_place, newline, refusal_line, refusal_text, is_refusal, answered_number}
+use Rattle.mk_check.specs.Feed.{pointer_place, newline, is_refusal, answered_number}
 use Rattle.mk_check.specs.declared.feeding.instructions.Instruction.TheVariants.{Nothing, Const, Add, Sub, Print, New}
 use Rattle.mk_check.specs.declared.feeding.instructions.Instruction.TheVariants.{Free, GetPtr, SetPtr, Lea, Move, Clear}
 use Rattle.mk_check.specs.declared.feeding.instructions.Instruction.TheVariants.{GetGlobal, SetGlobal, SetNum, GetNum}

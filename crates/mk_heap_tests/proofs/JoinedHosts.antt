@@ -6,7 +6,7 @@ use Rattle.mk_laws.proofs.Vocabulary.{not-true, refl, subst, sym, true, [], ◌*
 use Rattle.mk_laws.proofs.OrderlyLists.{at_first}
 use Rattle.mk_heap_tests.proofs.Vocabulary.{CallerState, Has, HoldsNull, HostState, IsAtHome, IsCaller, IsIdleCaller}
 use Rattle.mk_heap_tests.proofs.Vocabulary.{IsPassFor, PassState, WordsState, caller_of_pass, has_all, now_of, pass_for}
-use Rattle.mk_heap_tests.{proofs.Vocabulary.{value_of}, specs.Passes.{HasJoinedOne}}
+use Rattle.mk_heap_tests.proofs.Vocabulary.{value_of}
 use Rattle.mk_never.proofs.Later.{calls_stay}
 use Rattle.mk_core.specs.{History.{calls_from, never_first}, Moments.none_is_held}
 use Rattle.mk_run.specs.{Below.Callers.States.never_of, Below.Heaps.Ending.CallersAreJoined}
@@ -114,6 +114,14 @@ two_are_joined {w} {h} {a} {b} {p} {q} es fs is second first is_a is_b =
 
 pub only_zero : (k n : ℕ) → n ≡ 1 → k < n → k ≡ 0
 only_zero k n one lt = omega arith
+
+-- The host has joined its one caller, and made its one marker.
+pub record HasJoinedOne (w : WordsState) (h : HostState) : Type 0 where
+  pub table : h.pass.table ≡ w
+  pub before_over : has_over h.pass.seen ≡ false
+  pub callers : h.callers ≡ 1
+  pub joined : Has h.pass.seats (Caller 0)
+  pub markers : h.markers ≡ 1
 
 pub callers_are_joined : {w : WordsState} {h : HostState} → HasJoinedOne w h → CallersAreJoined h
 callers_are_joined {h} run =

@@ -5,7 +5,8 @@ use Rattle.mk_laws.proofs.Vocabulary.{ℕ, ap, arith, eq-eqb, false, is_held, is
 use Rattle.mk_laws.proofs.Vocabulary.{outside, phase_of, refl, subst, sym, true, [], ◌%◌, ◌∙◌, ◌∷◌, ◌≡◌}
 use Rattle.mk_heap_tests.proofs.Vocabulary.{CallerState, Err, Has, HostState, IsAtHome, IsEnabledTo, IsTurn, Ok, OnOk}
 use Rattle.mk_heap_tests.proofs.Vocabulary.{PassState, Result, WordsState, has_all, now_of, pass_for}
-use Rattle.mk_heap_tests.proofs.JoinedHosts.{IsUnused, free_at_first, has_joined, none_is_held_at, only_zero, split_is}
+use Rattle.mk_heap_tests.proofs.JoinedHosts.{HasJoinedOne, IsUnused, free_at_first, has_joined, none_is_held_at}
+use Rattle.mk_heap_tests.proofs.JoinedHosts.{only_zero, split_is}
 use Rattle.mk_heap_tests.proofs.JoinedHosts.{still_unused, unused}
 use Rattle.mk_core.specs.{History.left_from, MarkerConditions.is_out}
 use Rattle.mk_run.proofs.Below.Cycles.HoldingSteps.{all_held_below, held_free, held_table, hold_allowed, hold_holds}
@@ -17,7 +18,7 @@ use Rattle.mk_run.specs.{Below.Cycles.BeginCycle.BeginsCycle, Below.Cycles.Engin
 use Rattle.mk_run.specs.{Below.Cycles.Holding.HoldsGates, Below.Heaps.Hosts.{IsHost, first_host, with_caller_made}}
 use Rattle.mk_run.specs.{Below.Heaps.Hosts.{with_joined, with_marker_made}, Below.Markers.Markers.{IsOut, attends}}
 use Rattle.mk_run.specs.{Below.Words.Seats.{all_seats, has_over, without_seat}, Below.Words.TurnSteps.Acts}
-use Rattle.mk_heap_tests.specs.Passes.{HasJoinedOne, HostIsMarking, IsHostsPass, IsMarkerOut}
+use Rattle.mk_heap_tests.specs.Passes.{HostIsMarking, IsHostsPass, IsMarkerOut}
 
 pub attends_not : (p : PassState) → IsOut p → attends p ≡ false
 attends_not p out = grind arith

@@ -4,10 +4,9 @@ use Rattle.std.specs.Prelude.{◌≡◌, ℕ, ◌<◌, true, false, [], ◌∷�
 use Rattle.mk_never.specs.declared.values.Value.TheVariants.{Null}
 use Rattle.mk_core.specs.{declared.events.Seat.TheVariants.{Caller, Marker, Host}, Moments.none_is_held}
 use Rattle.mk_core.specs.Order.{host_has_turn}
-use Rattle.mk_run.specs.{Below.Words.Seats.{Has, has_over}, Below.Words.States.{WordsState, PassState, now_of}}
+use Rattle.mk_run.specs.{Below.Words.Seats.has_over, Below.Words.States.{WordsState, PassState, now_of}}
 use Rattle.mk_run.specs.{Below.Callers.States.{value_of, IsIdleCaller}, Below.Markers.Markers.IsOut}
-use Rattle.mk_run.specs.{Below.Cycles.EngineLaw.{IsAtPhase, IsFreeForCycle}, Below.Heaps.Hosts.HostState}
-use Rattle.mk_run.specs.Below.Heaps.Crews.{IsFirstPass}
+use Rattle.mk_run.specs.{Below.Cycles.EngineLaw.{IsAtPhase, IsFreeForCycle}, Below.Heaps.Crews.IsFirstPass}
 
 -- a caller's pass, whose register 1 is null
 pub record HoldsNull (p : PassState) : Type 0 where
@@ -41,14 +40,6 @@ pub record IsMarkerOut (w : WordsState) (p : PassState) : Type 0 where
   pub seat : p.seat ≡ Marker 0
   pub alone : p.seats ≡ Marker 0 ∷ []
   pub out : IsOut p
-
--- The host has joined its one caller, and made its one marker.
-pub record HasJoinedOne (w : WordsState) (h : HostState) : Type 0 where
-  pub table : h.pass.table ≡ w
-  pub before_over : has_over h.pass.seen ≡ false
-  pub callers : h.callers ≡ 1
-  pub joined : Has h.pass.seats (Caller 0)
-  pub markers : h.markers ≡ 1
 
 -- the host's pass, which hasn't the turn, before an `over`
 pub record IsHostsPass (w : WordsState) (p : PassState) : Type 0 where

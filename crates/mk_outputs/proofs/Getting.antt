@@ -2,8 +2,9 @@
 use Rattle.std.proofs.Common.{Bool, Option, Some, ap, codes, false, option_and_then, true, ◌∙◌, ◌≡◌}
 use Rattle.clap.{proofs.WalkLemmas.{first_value-rows, one_text-rows}, specs.declared.parser.matches.Found.{Found}}
 use Rattle.clap.specs.{Matches.{first_value, one_text}, Values.bool_text, Walk.{Text, rows_of}}
-use Rattle.mk_outputs.specs.{Commands.{gen_from, gen_of, markers_of, run_of, run_with}, Given.{Given, gens, runs}}
-use Rattle.mk_outputs.specs.{Told.HasGiven, declared.commands.Command.Command}
+use Rattle.mk_outputs.specs.{Commands.{gen_from, gen_of, markers_of, run_of, run_with}, Given.{Given, gens}}
+use Rattle.mk_outputs.specs.Given.{report_flag}
+use Rattle.mk_outputs.specs.{Given.{runs, sweep_flag, why_flag}, Told.HasGiven, declared.commands.Command.Command}
 use Rattle.mk_script.specs.Names.{number_of_word}
 
 pub flag_is : (b r : Bool) (o : Option Text) → o ≡ Some (bool_text b) → (o ≡ Some (codes "true") → r ≡ true)
@@ -17,8 +18,8 @@ pub run_reads : (f : Found) (t : Given) (answer : Option Command)
     → answer ≡ option_and_then (run_with sweep why report) (markers_of (first_value f (codes "markers"))))
     → HasGiven runs (rows_of f) t → answer ≡ run_of t
 run_reads f t answer reads h =
-    reads t.sweep t.why t.report (one_text-rows f (codes "sweep") ∙ h.flags.0)
-    (one_text-rows f (codes "why") ∙ h.flags.1) (one_text-rows f (codes "report") ∙ h.flags.2)
+    reads t.sweep t.why t.report (one_text-rows f (codes "sweep") ∙ h.flags sweep_flag)
+    (one_text-rows f (codes "why") ∙ h.flags why_flag) (one_text-rows f (codes "report") ∙ h.flags report_flag)
     ∙ ap (λ (o : Option Text). option_and_then (run_with t.sweep t.why t.report) (markers_of o))
     (first_value-rows f (codes "markers") ∙ h.markers)
 

@@ -83,21 +83,22 @@ has_given form rows t h = record {
   count = stays form rows t h count_id refl refl refl;
 }
   where
+    each_flag : HasFlags runs (defaulted runs rows) t
+    each_flag sweep_flag = flag_found (codes "sweep") (defaulted runs rows) t.sweep
+        (flag_other (codes "report") (codes "sweep") (with_why rows) refl
+        ∙ (flag_other (codes "why") (codes "sweep") (with_sweep rows) refl
+        ∙ flag_same (codes "sweep") rows t.sweep refl (h (flag_id sweep_flag))))
+    each_flag why_flag = flag_found (codes "why") (defaulted runs rows) t.why
+        (flag_other (codes "report") (codes "why") (with_why rows) refl
+        ∙ flag_same (codes "why") (with_sweep rows) t.why refl
+        (flag_other (codes "sweep") (codes "why") rows refl ∙ h (flag_id why_flag)))
+    each_flag report_flag = flag_found (codes "report") (defaulted runs rows) t.report
+        (flag_same (codes "report") (with_why rows) t.report refl
+        (flag_other (codes "why") (codes "report") (with_sweep rows) refl
+        ∙ (flag_other (codes "sweep") (codes "report") rows refl ∙ h (flag_id report_flag))))
+
     by : (f : Form) → HasFlags f (with_defaults f rows) t
-    by runs = subst (λ (r : List Row). HasFlags runs r t) (sym (defaulted_is runs rows)) (
-      flag_found (codes "sweep") (defaulted runs rows) t.sweep
-          (flag_other (codes "report") (codes "sweep") (with_why rows) refl
-          ∙ (flag_other (codes "why") (codes "sweep") (with_sweep rows) refl
-          ∙ flag_same (codes "sweep") rows t.sweep refl (h (flag_id sweep_flag)))),
-      flag_found (codes "why") (defaulted runs rows) t.why
-          (flag_other (codes "report") (codes "why") (with_why rows) refl
-          ∙ flag_same (codes "why") (with_sweep rows) t.why refl
-          (flag_other (codes "sweep") (codes "why") rows refl ∙ h (flag_id why_flag))),
-      flag_found (codes "report") (defaulted runs rows) t.report
-          (flag_same (codes "report") (with_why rows) t.report refl
-          (flag_other (codes "why") (codes "report") (with_sweep rows) refl
-          ∙ (flag_other (codes "sweep") (codes "report") rows refl ∙ h (flag_id report_flag)))),
-    )
+    by runs = subst (λ (r : List Row). HasFlags runs r t) (sym (defaulted_is runs rows)) each_flag
     by _ = tt
 
 -- ---- what comes after the last word refuses nothing

@@ -1,14 +1,13 @@
 -- The commands of the words.
 use Rattle.std.specs.Prelude.{ℕ, Bool, true, false, ◌<◌, ◌≤◌, ◌||◌, nat_lt, nat_le, List, [], ◌∷◌, Option, Some, None}
 use Rattle.std.specs.{Prelude.{option_and_then, option_map, if◌then◌else◌}, Str.bytes_eq}
-use lib.Chars.{codes}
 use Rattle.mk_script.specs.Names.{number_of_word}
 use Rattle.mk_outputs.specs.{declared.commands.Command.Command, declared.commands.Command.TheVariants.{OnText, Gen}}
-use Rattle.mk_outputs.specs.declared.commands.Marking.{Marking}
-use Rattle.mk_outputs.specs.declared.commands.Marking.TheVariants.{Stop, Beside, Sweep}
-use Rattle.mk_outputs.specs.declared.commands.TextCommand.{TextCommand}
+use Rattle.mk_outputs.specs.{declared.commands.Marking.Marking, declared.commands.Marking.TheVariants.{Stop, Beside}}
+use Rattle.mk_outputs.specs.{declared.commands.Marking.TheVariants.Sweep, declared.commands.TextCommand.TextCommand}
 use Rattle.mk_outputs.specs.declared.commands.TextCommand.TheVariants.{Run, Check, Print, Replay, Trace}
 use Rattle.mk_outputs.specs.Given.{Given, Numbers, no_number, one_number, two_numbers, runs, gens, bare, given_by}
+use lib.Chars.{codes}
 
 -- the number of markers, 0 to 8, and 0 where none is given
 abbrev pub markers_of : Option (List ℕ) → Option ℕ
@@ -93,10 +92,7 @@ MarkersAreWithin _ = Unit {0}
 -- The number of markers is within its bounds.
 abbrev pub AreWithin : TextCommand → Type 0
 AreWithin (Run options) = MarkersAreWithin options.marking
-AreWithin Check = Unit {0}
-AreWithin Print = Unit {0}
-AreWithin Replay = Unit {0}
-AreWithin Trace = Unit {0}
+AreWithin _ = Unit {0}
 
 -- A program that is generated makes no more turns than a script may have.
 abbrev pub IsWithin : Command → Type 0

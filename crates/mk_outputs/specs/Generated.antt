@@ -1,11 +1,11 @@
 -- The programs of the generator, line by line.
 use Rattle.std.specs.Prelude.{ℕ, ◌+◌, ◌/◌, List, [], ◌∷◌, ◌++◌, replicate}
-use lib.Chars.{codes}
 use Rattle.mk_script.specs.{declared.items.TypeWord.TheVariants.{Number, Pointer}, declared.items.Item.Item}
 use Rattle.mk_script.specs.declared.items.Item.TheVariants.{Heap, TypeLine, Global, Script, Ptr, Num, New, Free, Getn}
 use Rattle.mk_script.specs.declared.items.Item.TheVariants.{Setn, Setp, Clear, Loadg, Storeg, Const, Repeat, End}
 use Rattle.mk_check.specs.Typing.{base_of}
 use Rattle.mk_outputs.specs.Draws.{next_state, draw}
+use lib.Chars.{codes}
 
 -- The names of the types, the global and the scripts.
 

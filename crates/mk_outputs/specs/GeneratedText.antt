@@ -1,7 +1,7 @@
 -- The texts of the generator's programs, with `n*1` where a Buf has one number.
 use Rattle.std.specs.{Prelude.{ℕ, List, [], ◌∷◌, ◌++◌}, Fmt.decimal}
-use lib.Chars.{codes}
 use Rattle.mk_outputs.specs.{Draws.{next_state, draw}, Generated.{all_names, count_of_numbers, turns_of}}
+use lib.Chars.{codes}
 
 -- the lines before the scripts
 abbrev pub declaration_lines : ℕ → List (List ℕ)

@@ -1,12 +1,12 @@
 -- The lines that report what the last cycle kept, and why: an object's address in bytes and its storage in words, the
 -- register or the global from which it is reached, and the addresses of the words through which.
 use Rattle.std.specs.{Prelude.{ℕ, List, [], ◌∷◌, ◌++◌, slice_index_or, Option, Some, None}, List.flat_map, Fmt.decimal}
-use lib.Chars.{codes}
 use Rattle.mk_script.specs.{declared.items.Item.Item, Canonical.line_text, Scopes.{script_names, global_names}}
 use Rattle.mk_script.specs.Scopes.{pointer_names}
 use Rattle.mk_check.specs.Blocks.{script_of}
 use Rattle.mk_run.specs.{Below.Chains.declared.kept.Kept.Kept, Below.Chains.declared.kept.Root.Root}
 use Rattle.mk_run.specs.Below.Chains.declared.kept.Root.TheVariants.{Register, Global}
+use lib.Chars.{codes}
 
 -- The words of the line that names a root. What isn't reached floats. No root is without a name, since a register that
 -- its script doesn't declare is null.

@@ -1,34 +1,26 @@
 -- What a command writes, and the status that it ends with where nothing fails.
-use Rattle.std.specs.declared.result.Result.{Result}
-use Rattle.std.specs.Prelude.{◌≡◌, ◌⊎◌, ℕ, List, [], Option, Some, None, IfSome, IsSomeAnd, Ok as Accepted}
-use Rattle.std.specs.Prelude.{Err as Refused}
-use lib.Chars.{codes}
+use Rattle.std.specs.{declared.result.Result.Result, Prelude.{◌≡◌, ◌⊎◌, ℕ, List, [], Option, Some, None, IfSome}}
+use Rattle.std.specs.Prelude.{IsSomeAnd, Ok as Accepted, Err as Refused}
+use Rattle.mk_core.specs.{declared.events.Event.Event, History.AreEnabled}
+use Rattle.mk_laws.specs.Promises.{KeepsAllPromises}
 use Rattle.mk_io.specs.declared.reading.ReadStop.{ReadStop}
 use Rattle.mk_script.specs.{declared.faults.Which.TheVariants.Bytes, declared.items.Item.Item}
 use Rattle.mk_script.specs.{declared.faults.TextStop.TextStop, Grammar.program_of, Canonical.canonical_text}
 use Rattle.mk_check.specs.{declared.typing_faults.TypeStop.TypeStop, Typing.{TypingFault, first_typing_fault}}
-use Rattle.mk_check.specs.Declarations.{config_of}
-use Rattle.mk_core.specs.{declared.events.Event.Event, History.AreEnabled}
-use Rattle.mk_laws.specs.Promises.{KeepsAllPromises}
-use Rattle.mk_outputs.specs.declared.commands.Command.{Command}
-use Rattle.mk_outputs.specs.declared.commands.Command.TheVariants as asked
-use Rattle.mk_outputs.specs.{Generated.generated_program, declared.commands.TextCommand.TextCommand}
+use Rattle.mk_check.specs.{Declarations.config_of, Output.output as output_behind}
+use Rattle.mk_outputs.specs.{declared.commands.Command.Command, Generated.generated_program}
+use Rattle.mk_outputs.specs.declared.commands.TextCommand.{TextCommand}
 use Rattle.mk_outputs.specs.declared.commands.TextCommand.TheVariants.{Run, Check, Print, Replay, Trace}
 use Rattle.mk_outputs.specs.{declared.commands.Request.Request, declared.outputs.Output.Output, Commands.command_of}
+use Rattle.mk_outputs.specs.{declared.statuses.Status.Status, declared.statuses.Status.TheVariants.{Ok, NoMemory}}
+use Rattle.mk_outputs.specs.declared.statuses.Status.TheVariants.{ReadFault, Text, IllTyped, Limit, NotEnabled}
+use Rattle.mk_outputs.specs.RunOutputs.{IsOutputOfRun, IsSummaryOfRun}
 use Rattle.mk_replay.specs.{declared.schedule.Entry.Entry, declared.replaying.ReplayStop.ReplayStop}
 use Rattle.mk_replay.specs.{Schedules.replay_of, Replays.{history_of, refusal_of}}
 use Rattle.mk_trace.specs.{declared.faults.TraceStop.TraceStop, declared.peaks.Peaks.Peaks, Traces.{Contents, trace_of}}
 use Rattle.mk_trace.specs.{Playing.{IsPlayed, ArePeaks}, Printed.peaks_text}
-use Rattle.mk_outputs.specs.{declared.statuses.Status.Status, declared.statuses.Status.TheVariants.{Ok, NoMemory}}
-use Rattle.mk_outputs.specs.declared.statuses.Status.TheVariants.{ReadFault, Text, IllTyped, Limit, NotEnabled}
-use Rattle.mk_outputs.specs.RunOutputs.{IsOutputOfRun, IsSummaryOfRun}
-use Rattle.mk_io.specs.declared.reading.ReadStop.TheVariants as reading
-use Rattle.mk_script.specs.declared.faults.TextStop.TheVariants as stop
-use Rattle.mk_check.specs.declared.typing_faults.TypeStop.TheVariants as typing
-use Rattle.mk_check.specs.Output.{output as output_behind}
 use Rattle.mk_run.specs.Below.Heaps.Reports.{history_of as history_of_report}
-use Rattle.mk_replay.specs.declared.replaying.ReplayStop.TheVariants as replay
-use Rattle.mk_trace.specs.declared.faults.TraceStop.TheVariants as trace
+use lib.Chars.{codes}
 
 -- where a program is well typed, this status; else that of its least ill-typed line
 abbrev pub typed_or : Option TypingFault → Status → Status
@@ -37,23 +29,20 @@ typed_or (Some fault) status = IllTyped fault.line fault.kind
 
 -- To be printed a program needn't be well typed.
 abbrev pub status_of_program : TextCommand → List Item → Status
-status_of_program (Run options) program = typed_or (first_typing_fault program) Ok
-status_of_program Check program = typed_or (first_typing_fault program) Ok
 status_of_program Print program = Ok
-status_of_program Replay program = typed_or (first_typing_fault program) Ok
-status_of_program Trace program = Ok
+status_of_program _ program = typed_or (first_typing_fault program) Ok
 
 -- what reading all of an input is refused for
 abbrev pub status_of_read_stop : ReadStop → Status
-status_of_read_stop reading.ReadFault = ReadFault
-status_of_read_stop reading.TooLong = Limit 0 Bytes 1048577
-status_of_read_stop reading.NoMemory = NoMemory
+status_of_read_stop ReadStop.ReadFault = ReadFault
+status_of_read_stop ReadStop.TooLong = Limit 0 Bytes 1048577
+status_of_read_stop ReadStop.NoMemory = NoMemory
 
 -- the status of a text that is refused
 abbrev pub status_of_text_stop : TextStop → Status
-status_of_text_stop (stop.Text line kind) = Text line kind
-status_of_text_stop (stop.Limit line which found) = Limit line which found
-status_of_text_stop stop.NoMemory = NoMemory
+status_of_text_stop (TextStop.Text line kind) = Text line kind
+status_of_text_stop (TextStop.Limit line which found) = Limit line which found
+status_of_text_stop TextStop.NoMemory = NoMemory
 
 -- the status of a command on a text
 abbrev pub status_of_text : TextCommand → Result (List Item) TextStop → Status
@@ -62,14 +51,14 @@ status_of_text command (Refused stop) = status_of_text_stop stop
 
 -- the status of an ill-typed program
 abbrev pub status_of_type_stop : TypeStop → Status
-status_of_type_stop (typing.IllTyped line kind) = IllTyped line kind
-status_of_type_stop typing.NoMemory = NoMemory
+status_of_type_stop (TypeStop.IllTyped line kind) = IllTyped line kind
+status_of_type_stop TypeStop.NoMemory = NoMemory
 
 -- the first event that isn't enabled, or none
 abbrev pub status_of_refusal : Option ReplayStop → Status
 status_of_refusal None = Ok
-status_of_refusal (Some (replay.NotEnabled line event condition)) = NotEnabled line event condition
-status_of_refusal (Some replay.NoMemory) = NoMemory
+status_of_refusal (Some (ReplayStop.NotEnabled line event condition)) = NotEnabled line event condition
+status_of_refusal (Some ReplayStop.NoMemory) = NoMemory
 
 -- the status of a replay
 abbrev pub status_of_schedule : List Item → List Entry → Status
@@ -83,10 +72,10 @@ status_of_replay (Refused stop) = status_of_text_stop stop
 
 -- the status of a trace that is refused
 abbrev pub status_of_trace_stop : TraceStop → Status
-status_of_trace_stop (trace.Text line kind) = Text line kind
-status_of_trace_stop (trace.IllTyped line kind) = IllTyped line kind
-status_of_trace_stop (trace.Limit line which found) = Limit line which found
-status_of_trace_stop trace.NoMemory = NoMemory
+status_of_trace_stop (TraceStop.Text line kind) = Text line kind
+status_of_trace_stop (TraceStop.IllTyped line kind) = IllTyped line kind
+status_of_trace_stop (TraceStop.Limit line which found) = Limit line which found
+status_of_trace_stop TraceStop.NoMemory = NoMemory
 
 -- Each trace without a fault is played to its end.
 abbrev pub status_of_trace : Result Contents TraceStop → Status
@@ -105,8 +94,7 @@ IsOutputOf (Run options) program output = IsSomeAnd output.report
     (λ report. IsOutputOfRun options program (history_of_report report) output.bytes.items)
 IsOutputOf Check program output = output.bytes.items ≡ codes "ok\n"
 IsOutputOf Print program output = output.bytes.items ≡ canonical_text program
-IsOutputOf Replay program output = ⊥
-IsOutputOf Trace program output = ⊥
+IsOutputOf _ program output = ⊥
 
 -- what a command on a program writes on one that it accepts
 pub record IsOutputOnProgram (command : TextCommand) (input : List ℕ) (output : Output) : Type 0 where
@@ -160,8 +148,8 @@ pub record IsOutputOfRequest (request : Request) (old new : Option (List ℕ)) (
 
 -- What the command writes, whether it reads a text or not.
 abbrev pub IsOutputOfCommand : Command → Option (List ℕ) → Option (List ℕ) → Output → Type 0
-IsOutputOfCommand (asked.OnText on_text) old new output = IsOutputOnSource on_text old new output
-IsOutputOfCommand (asked.Gen request) old new output = IsOutputOfRequest request old new output
+IsOutputOfCommand (Command.OnText on_text) old new output = IsOutputOnSource on_text old new output
+IsOutputOfCommand (Command.Gen request) old new output = IsOutputOfRequest request old new output
 
 -- W holds of what the words' command writes, where the source had one list of bytes left, and then the other.
 pub record HasAnswered (words : List (List ℕ)) (old new : Option (List ℕ)) (W : List ℕ → Type 0) : Type 0 where
@@ -173,9 +161,9 @@ pub record HasAnswered (words : List (List ℕ)) (old new : Option (List ℕ)) (
 
 -- The command's status on what is left of the source, or no memory.
 abbrev pub IsStatusOf : Command → Option (List ℕ) → Status → Type 0
-IsStatusOf (asked.OnText on_text) (Some input) status = (status ≡ NoMemory) ⊎ (status ≡ status_on on_text input)
-IsStatusOf (asked.OnText on_text) None status = Unit {0}
-IsStatusOf (asked.Gen request) left status = (status ≡ NoMemory) ⊎ (status ≡ Ok)
+IsStatusOf (Command.OnText on_text) (Some input) status = (status ≡ NoMemory) ⊎ (status ≡ status_on on_text input)
+IsStatusOf (Command.OnText on_text) None status = Unit {0}
+IsStatusOf (Command.Gen request) left status = (status ≡ NoMemory) ⊎ (status ≡ Ok)
 
 -- The status that the command has on this input.
 abbrev pub IsStatusOn : Option Command → Option (List ℕ) → Status → Type 0
@@ -184,6 +172,5 @@ IsStatusOn None left status = Unit {0}
 
 -- Words of no form have no read, and `gen` has none, whatever it answers.
 abbrev pub HasNoRead : Option Command → Type 0
-HasNoRead (Some (asked.OnText on_text)) = ⊥
-HasNoRead (Some (asked.Gen request)) = Unit {0}
-HasNoRead None = Unit {0}
+HasNoRead (Some (Command.OnText on_text)) = ⊥
+HasNoRead _ = Unit {0}

@@ -1,11 +1,10 @@
 -- The lines of `--report`: the counts of a heap's history at its end.
 use Rattle.std.specs.{Prelude.{ℕ, List, [], ◌∷◌, ◌++◌}, Fmt.decimal}
-use lib.Chars.{codes}
-use Rattle.mk_core.specs.{declared.config.Config.Config, declared.events.Event.Event, History.left}
 use Rattle.mk_core.specs.{Allocations.{held_by_allocations, fresh_words_of}, Counts.{ends, releases, full_answers}}
-use Rattle.mk_core.specs.Counts.{in_a_word}
+use Rattle.mk_core.specs.{Counts.in_a_word, History.left, declared.config.Config.Config, declared.events.Event.Event}
 use Rattle.mk_script.specs.Canonical.{line_text}
-use Rattle.mk_run.specs.Below.Heaps.{Reports.quarantined, declared.reports.Report.Report}
+use Rattle.mk_run.specs.{Below.Heaps.Reports.quarantined, Below.Heaps.declared.reports.Report.Report}
+use lib.Chars.{codes}
 
 -- the line of a count
 abbrev pub count_line : List ℕ → ℕ → List ℕ

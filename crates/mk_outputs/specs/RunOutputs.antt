@@ -3,10 +3,10 @@ use Rattle.std.specs.Prelude.{◌≡◌, ℕ, Bool, true, false, List, [], ◌++
 use Rattle.mk_core.specs.{declared.config.Config.Config, declared.events.Event.Event}
 use Rattle.mk_script.specs.declared.items.Item.{Item}
 use Rattle.mk_check.specs.{Declarations.config_of, Output.output}
-use Rattle.mk_run.specs.Headline.{KeepsRunPromises, StandsInOneHistory}
-use Rattle.mk_run.specs.Below.{Chains.declared.kept.Kept.Kept, Chains.Chains.AreKept, Heaps.LastCycle.EndsWithCycle}
-use Rattle.mk_outputs.specs.{declared.commands.Options.Options, Commands.{is_sweep, markers_beside}}
-use Rattle.mk_outputs.specs.{KeptText.kept_text, ReportText.report_text, Summary.summary}
+use Rattle.mk_run.specs.{Headline.{KeepsRunPromises, StandsInOneHistory}, Below.Chains.declared.kept.Kept.Kept}
+use Rattle.mk_run.specs.{Below.Chains.Chains.AreKept, Below.Heaps.LastCycle.EndsWithCycle}
+use Rattle.mk_outputs.specs.{declared.commands.Options.Options, Commands.{is_sweep, markers_beside}, KeptText.kept_text}
+use Rattle.mk_outputs.specs.{ReportText.report_text, Summary.summary}
 
 -- What its scripts print of the history; after it, each where it is asked for, the counts of the history at its end,
 -- after a last cycle, and what that cycle kept and why.

@@ -1,6 +1,5 @@
 -- How the program ends.
 use Rattle.std.specs.{Prelude.{ℕ, List, [], ◌++◌}, Fmt.decimal}
-use lib.Chars.{codes}
 use Rattle.mk_script.specs.{declared.faults.TextKind.TextKind, declared.faults.Which.Which}
 use Rattle.mk_script.specs.declared.faults.Which.TheVariants.{Bytes, Pages, Resident, Scripts, Globals, Types, Words}
 use Rattle.mk_script.specs.declared.faults.Which.TheVariants.{Pointers, Numbers, Depth}
@@ -8,8 +7,7 @@ use Rattle.mk_check.specs.declared.typing_faults.TypeKind.{TypeKind}
 use Rattle.mk_outputs.specs.{declared.statuses.Status.Status, declared.statuses.Status.TheVariants.{Ok, NoMemory}}
 use Rattle.mk_outputs.specs.declared.statuses.Status.TheVariants.{Usage, ReadFault, WriteFault, Text, IllTyped, Limit}
 use Rattle.mk_outputs.specs.declared.statuses.Status.TheVariants.{NotEnabled}
-use Rattle.mk_script.specs.declared.faults.TextKind.TheVariants as text
-use Rattle.mk_check.specs.declared.typing_faults.TypeKind.TheVariants as typing
+use lib.Chars.{codes}
 
 -- the number with which the program ends
 abbrev pub status_number : Status → ℕ
@@ -25,22 +23,22 @@ status_number (NotEnabled line event condition) = 8
 
 -- the words of a text fault
 abbrev pub text_words : TextKind → List ℕ
-text_words text.Header = codes "header"
-text_words text.Word = codes "word"
-text_words text.Number = codes "number"
-text_words text.Name = codes "name"
-text_words text.Twice = codes "twice"
-text_words text.End = codes "end"
+text_words TextKind.Header = codes "header"
+text_words TextKind.Word = codes "word"
+text_words TextKind.Number = codes "number"
+text_words TextKind.Name = codes "name"
+text_words TextKind.Twice = codes "twice"
+text_words TextKind.End = codes "end"
 
 -- the words of a type fault
 abbrev pub typing_words : TypeKind → List ℕ
-typing_words typing.NoType = codes "no type"
-typing_words typing.NoRegister = codes "no register"
-typing_words typing.NoGlobal = codes "no global"
-typing_words typing.Offset = codes "offset"
-typing_words typing.Kind = codes "kind"
-typing_words typing.InteriorFree = codes "interior free"
-typing_words (typing.TooLong count) = codes "too long " ++ decimal count
+typing_words TypeKind.NoType = codes "no type"
+typing_words TypeKind.NoRegister = codes "no register"
+typing_words TypeKind.NoGlobal = codes "no global"
+typing_words TypeKind.Offset = codes "offset"
+typing_words TypeKind.Kind = codes "kind"
+typing_words TypeKind.InteriorFree = codes "interior free"
+typing_words (TypeKind.TooLong count) = codes "too long " ++ decimal count
 
 -- the word of a quantity
 abbrev pub which_word : Which → List ℕ

@@ -1,10 +1,10 @@
 -- What `gen` prints of the run of its program.
 use Rattle.std.specs.Prelude.{ℕ, List, [], ◌++◌, length, count_by, sum_by, slice_index_or}
 use Rattle.std.specs.{List.{flat_map, range_with_len}, Fmt.decimal}
-use lib.Chars.{codes}
-use Rattle.mk_check.specs.{Feed.is_refusal, Output.answers_given}
 use Rattle.mk_core.specs.{declared.config.Config.Config, declared.events.Event.Event, declared.events.Answer.Answer}
+use Rattle.mk_check.specs.{Feed.is_refusal, Output.answers_given}
 use Rattle.mk_script.specs.{declared.items.Item.Item, Scopes.script_names}
+use lib.Chars.{codes}
 
 -- a script's line: how many calls it made, and how many of them were refused
 abbrev pub script_line : List ℕ → ℕ → ℕ → List ℕ

@@ -1,9 +1,9 @@
 -- The summary of scripts of which the k-th is named sK.
 -- Private functions alone cite these words.
 use Rattle.std.specs.{Prelude.{◌≡◌, ℕ, ◌+◌, ◌≤◌, List, [], ◌∷◌, ◌++◌, sum_by, slice_get, Some}, Fmt.decimal}
-use lib.Chars.{codes}
 use Rattle.mk_check.specs.declared.text.Text.{Text}
 use Rattle.mk_outputs.specs.Summary.{script_line, total_line}
+use lib.Chars.{codes}
 
 -- the line of a script with this text
 abbrev pub line_of_text : ℕ → Text → List ℕ

@@ -1,10 +1,10 @@
 -- What clap is told of the commands, and what its matches hold of the words. Private functions alone cite these.
 use Rattle.std.specs.Prelude.{◌≡◌, true, List, [], ◌∷◌, Some}
-use lib.Chars.{codes}
 use Rattle.clap.specs.{Values.bool_text, Walk.{Row, Rule, Text, first_of, one_of}, Simple.{App, Shape, new_rule}}
 use Rattle.clap.specs.{Simple.new_shape, declared.builder.action.ArgAction.TheVariants.{Set, SetTrue}}
-use Rattle.mk_outputs.specs.{Commands.{start_of, count_of}, Given.{Flag, Form, Given, bare, gens, report_flag, runs}}
-use Rattle.mk_outputs.specs.Given.{sweep_flag, why_flag}
+use Rattle.mk_outputs.specs.{Commands.{start_of, count_of}, Given.{Flag, Form, Given, bare, gens, has_flag}}
+use Rattle.mk_outputs.specs.Given.{report_flag, runs, sweep_flag, why_flag}
+use lib.Chars.{codes}
 
 -- what clap is told of `--markers`
 abbrev pub markers_rule : Rule
@@ -43,11 +43,9 @@ app_with rules name = record { top = record (bare_shape name) { rules = rules };
 abbrev pub app_named : Form → Text → App
 app_named form name = app_with (rules_of form) name
 
--- the matches have what was given
+-- The matches have each flag as it was given.
 abbrev pub HasFlags : Form → List Row → Given → Type 0
-HasFlags runs rows g = (one_of (codes "sweep") rows ≡ Some (bool_text g.sweep))
-    × (one_of (codes "why") rows ≡ Some (bool_text g.why))
-    × (one_of (codes "report") rows ≡ Some (bool_text g.report))
+HasFlags runs rows g = (flag : Flag) → one_of (flag_name flag) rows ≡ Some (bool_text (has_flag flag g))
 HasFlags _ rows g = Unit {0}
 
 -- What clap has taken is what was given.

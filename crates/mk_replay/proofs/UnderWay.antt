@@ -5,10 +5,18 @@ use Rattle.mk_replay.proofs.Vocabulary.{history_of, length-append, nat_tests}
 use Rattle.mk_laws.proofs.Vocabulary.{List, None, Some, ℕ, ap, arith, drop, false, get_or, length, refl, subst, sym, []}
 use Rattle.mk_laws.proofs.Vocabulary.{◌++◌, ◌+◌, ◌<◌, ◌==◌, ◌∙◌, ◌∷◌, ◌≡◌, ◌≤◌}
 use Rattle.mk_check.{proofs.GivenAnswers.{few_answers}, specs.Feed.{is_refusal}}
-use Rattle.mk_replay.specs.Players.{EachHasRoom, IsNotEnabled, IsRunAfter, IsUnderWay, TakesEntry}
+use Rattle.mk_replay.specs.Players.{EachHasRoom, IsNotEnabled, IsRunAfter, TakesEntry}
 use Rattle.mk_replay.specs.Replays.{failing_entry, history_from, refusal_from, refusal_of}
 use Rattle.mk_replay.specs.declared.replaying.ReplayStop.{ReplayStop}
 use Rattle.mk_replay.specs.{declared.replaying.ReplayStop.TheVariants.NotEnabled, declared.replaying.Run.Run}
+
+-- the run after the first entries of a schedule
+pub record IsUnderWay (program : List Item) (schedule : List Entry) (count : ℕ) (run : Run) : Type 0 where
+  pub events : List Event
+  pub is_run : IsRunAfter program events run
+  pub so_many : length events ≡ count
+  pub refusal : refusal_from program events (drop count schedule) ≡ refusal_of program schedule
+  pub history : history_from program events (drop count schedule) ≡ history_of program schedule
 
 -- There are fewer answers than the counts can hold.
 pub room_of : {program : List Item} {schedule : List Entry} {n : ℕ} {run : Run} → IsUnderWay program schedule n run

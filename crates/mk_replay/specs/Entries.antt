@@ -2,11 +2,10 @@
 -- Private functions alone cite these words.
 use Rattle.std.specs.Prelude.{◌≡◌, ℕ, ◌+◌, ◌≤◌, List, [], ◌∷◌, ◌++◌, length, map, take, drop, Option, Some, None, Ok}
 use Rattle.std.specs.{Prelude.Err, declared.result.Result.Result}
-use Rattle.mk_script.specs.{declared.faults.TextKind.TextKind, Words.words_of_line}
 use Rattle.mk_core.specs.declared.events.Step.{Step}
-use Rattle.mk_replay.specs.{declared.schedule.Entry.Entry, declared.lines.LineStop.LineStop}
-use Rattle.mk_replay.specs.{declared.lines.LineStop.TheVariants.{Text, NoMemory}, Forms.both}
-use Rattle.mk_replay.specs.Schedules.{forms_of, pieces_of}
+use Rattle.mk_script.specs.{declared.faults.TextKind.TextKind, Words.words_of_line}
+use Rattle.mk_replay.specs.{Forms.both, Schedules.{forms_of, pieces_of}, declared.lines.LineStop.LineStop}
+use Rattle.mk_replay.specs.{declared.lines.LineStop.TheVariants.{Text, NoMemory}, declared.schedule.Entry.Entry}
 
 -- the expected entries stand after the old ones
 pub record AddsEntries (expected : Result (List Entry) TextKind) (old new : List Entry) : Type 0 where

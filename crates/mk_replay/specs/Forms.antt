@@ -1,17 +1,11 @@
 -- The words of an event and of a seat.
 use Rattle.std.specs.Prelude.{ℕ, ◌==◌, if◌then◌else◌, false, List, [], ◌∷◌, Option, Some, None, ok_or, Ok, Err}
 use Rattle.std.specs.{declared.result.Result.Result, Str.bytes_eq}
-use lib.Chars.{codes}
-use Rattle.mk_script.specs.{declared.faults.TextKind.TextKind, Names.number_of_word}
 use Rattle.mk_never.specs.declared.operations.Op.{Op}
 use Rattle.mk_core.specs.{declared.events.Seat.Seat, declared.events.Word.Word, declared.events.Tally.Tally}
 use Rattle.mk_core.specs.declared.events.Step.{Step}
-use Rattle.mk_script.specs.declared.faults.TextKind.TheVariants as kind
-use Rattle.mk_never.specs.declared.operations.Op.TheVariants as op
-use Rattle.mk_core.specs.declared.events.Seat.TheVariants as seat
-use Rattle.mk_core.specs.declared.events.Word.TheVariants as word
-use Rattle.mk_core.specs.declared.events.Tally.TheVariants as tally
-use Rattle.mk_core.specs.declared.events.Step.TheVariants as step
+use Rattle.mk_script.specs.{declared.faults.TextKind.TextKind, Names.number_of_word}
+use lib.Chars.{codes}
 
 -- the value that a word is listed with
 abbrev pub value_among : {A : Type 0} → List (List ℕ × A) → List ℕ → Option A
@@ -20,8 +14,8 @@ value_among (x ∷ xs) w = if bytes_eq w x.0 then Some x.1 else value_among xs w
 
 -- the first of two faults in a line: a form that isn't there comes before something that isn't a number
 abbrev pub worse_fault : TextKind → TextKind → TextKind
-worse_fault kind.Word other = kind.Word
-worse_fault first kind.Word = kind.Word
+worse_fault TextKind.Word other = TextKind.Word
+worse_fault first TextKind.Word = TextKind.Word
 worse_fault first other = first
 
 -- what both parts say, or the first fault
@@ -38,90 +32,90 @@ on_ok f (Err e) = Err e
 
 -- the number that a word is
 abbrev pub number : List ℕ → Result ℕ TextKind
-number w = ok_or (number_of_word w) kind.Number
+number w = ok_or (number_of_word w) TextKind.Number
 
 -- A form is a step but for its operation: an `enter` has one that no `enter` may carry, and a `take` has none.
 abbrev pub nothing_to_enter : Op
-nothing_to_enter = op.New 0 0 false
+nothing_to_enter = Op.New 0 0 false
 
 -- forms without a number
 abbrev pub plain_forms : List (List ℕ × Step)
 plain_forms =
-    (codes "enter", step.Enter nothing_to_enter) ∷ (codes "leave", step.Leave) ∷ (codes "reg", step.Reg)
-    ∷ (codes "probe", step.Probe) ∷ (codes "read", step.Read) ∷ (codes "write", step.Write) ∷ (codes "cas", step.Cas)
-    ∷ (codes "getg", step.Getg) ∷ (codes "setg", step.Setg) ∷ (codes "take", step.Take None) ∷ (codes "give", step.Give)
-    ∷ (codes "grant", step.Grant) ∷ (codes "full", step.Full) ∷ (codes "begin", step.Begin)
-    ∷ (codes "close", step.Close) ∷ (codes "release", step.Release) ∷ (codes "end", step.End)
-    ∷ (codes "want", step.Want) ∷ (codes "dirty", step.Dirty) ∷ (codes "attend", step.Attend)
-    ∷ (codes "quit", step.Quit) ∷ (codes "mload", step.Mload) ∷ (codes "mmark", step.Mmark)
-    ∷ (codes "mblack", step.Mblack) ∷ (codes "over", step.Over) ∷ []
+    (codes "enter", Step.Enter nothing_to_enter) ∷ (codes "leave", Step.Leave) ∷ (codes "reg", Step.Reg)
+    ∷ (codes "probe", Step.Probe) ∷ (codes "read", Step.Read) ∷ (codes "write", Step.Write) ∷ (codes "cas", Step.Cas)
+    ∷ (codes "getg", Step.Getg) ∷ (codes "setg", Step.Setg) ∷ (codes "take", Step.Take None) ∷ (codes "give", Step.Give)
+    ∷ (codes "grant", Step.Grant) ∷ (codes "full", Step.Full) ∷ (codes "begin", Step.Begin)
+    ∷ (codes "close", Step.Close) ∷ (codes "release", Step.Release) ∷ (codes "end", Step.End)
+    ∷ (codes "want", Step.Want) ∷ (codes "dirty", Step.Dirty) ∷ (codes "attend", Step.Attend)
+    ∷ (codes "quit", Step.Quit) ∷ (codes "mload", Step.Mload) ∷ (codes "mmark", Step.Mmark)
+    ∷ (codes "mblack", Step.Mblack) ∷ (codes "over", Step.Over) ∷ []
 
 -- forms of one number
 abbrev pub forms_of_number : List (List ℕ × (ℕ → Step))
 forms_of_number =
-    (codes "hold", (λ n. step.Hold n)) ∷ (codes "open", (λ n. step.Open n)) ∷ (codes "clear", (λ n. step.Clear n))
-    ∷ (codes "wipe", (λ n. step.Wipe n)) ∷ (codes "undirty", (λ n. step.Undirty n))
-    ∷ (codes "unblack", (λ n. step.Unblack n)) ∷ []
+    (codes "hold", (λ n. Step.Hold n)) ∷ (codes "open", (λ n. Step.Open n)) ∷ (codes "clear", (λ n. Step.Clear n))
+    ∷ (codes "wipe", (λ n. Step.Wipe n)) ∷ (codes "undirty", (λ n. Step.Undirty n))
+    ∷ (codes "unblack", (λ n. Step.Unblack n)) ∷ []
 
 -- forms of two numbers
 abbrev pub forms_of_numbers : List (List ℕ × (ℕ → ℕ → Step))
 forms_of_numbers =
-    (codes "head", (λ p v. step.Head p v)) ∷ (codes "used", (λ p v. step.Used p v))
-    ∷ (codes "quar", (λ p v. step.Quar p v))
-    ∷ (codes "mark", (λ p v. step.Mark p v)) ∷ (codes "black", (λ p v. step.Black p v))
-    ∷ (codes "claim", (λ p k. step.Claim p k)) ∷ []
+    (codes "head", (λ p v. Step.Head p v)) ∷ (codes "used", (λ p v. Step.Used p v))
+    ∷ (codes "quar", (λ p v. Step.Quar p v))
+    ∷ (codes "mark", (λ p v. Step.Mark p v)) ∷ (codes "black", (λ p v. Step.Black p v))
+    ∷ (codes "claim", (λ p k. Step.Claim p k)) ∷ []
 
 -- forms of a word of the table
 abbrev pub forms_of_word : List (List ℕ × (Word → Step))
-forms_of_word = (codes "look", (λ x. step.Look x)) ∷ (codes "mlook", (λ x. step.Mlook x)) ∷ []
+forms_of_word = (codes "look", (λ x. Step.Look x)) ∷ (codes "mlook", (λ x. Step.Mlook x)) ∷ []
 
 -- the names of tallies
 abbrev pub tallies : List (List ℕ × Tally)
 tallies =
-    (codes "held", tally.Held) ∷ (codes "fresh", tally.Fresh) ∷ (codes "cycles", tally.Cycles)
-    ∷ (codes "released", tally.Released) ∷ (codes "full", tally.Full) ∷ []
+    (codes "held", Tally.Held) ∷ (codes "fresh", Tally.Fresh) ∷ (codes "cycles", Tally.Cycles)
+    ∷ (codes "released", Tally.Released) ∷ (codes "full", Tally.Full) ∷ []
 
 -- the words of the table whose names are one word
 abbrev pub plain_words : List (List ℕ × Word)
 plain_words =
-    (codes "phase", word.Phase) ∷ (codes "held", word.Held) ∷ (codes "fresh", word.Fresh)
-    ∷ (codes "cycles", word.Cycles)
-    ∷ (codes "released", word.Released) ∷ (codes "full", word.Full) ∷ []
+    (codes "phase", Word.Phase) ∷ (codes "held", Word.Held) ∷ (codes "fresh", Word.Fresh)
+    ∷ (codes "cycles", Word.Cycles)
+    ∷ (codes "released", Word.Released) ∷ (codes "full", Word.Full) ∷ []
 
 -- words of the table with one number
 abbrev pub words_of_number : List (List ℕ × (ℕ → Word))
 words_of_number =
-    (codes "gate", (λ n. word.Gate n)) ∷ (codes "global", (λ n. word.Global n)) ∷ (codes "head", (λ n. word.Head n))
-    ∷ (codes "used", (λ n. word.Used n)) ∷ (codes "quar", (λ n. word.Quar n)) ∷ (codes "mark", (λ n. word.Mark n))
-    ∷ (codes "black", (λ n. word.Black n)) ∷ (codes "dirty", (λ n. word.Dirty n))
-    ∷ (codes "heap", (λ n. word.Heap n)) ∷ []
+    (codes "gate", (λ n. Word.Gate n)) ∷ (codes "global", (λ n. Word.Global n)) ∷ (codes "head", (λ n. Word.Head n))
+    ∷ (codes "used", (λ n. Word.Used n)) ∷ (codes "quar", (λ n. Word.Quar n)) ∷ (codes "mark", (λ n. Word.Mark n))
+    ∷ (codes "black", (λ n. Word.Black n)) ∷ (codes "dirty", (λ n. Word.Dirty n))
+    ∷ (codes "heap", (λ n. Word.Heap n)) ∷ []
 
 -- the form, with its number
 abbrev pub form_with_number : {A : Type 0} → Option (ℕ → A) → List ℕ → Result A TextKind
-form_with_number None w = Err kind.Word
+form_with_number None w = Err TextKind.Word
 form_with_number (Some f) w = on_ok f (number w)
 
 -- the form, with its two numbers
 abbrev pub with_numbers : {A : Type 0} → Option (ℕ → ℕ → A) → List ℕ → List ℕ → Result A TextKind
-with_numbers None v w = Err kind.Word
+with_numbers None v w = Err TextKind.Word
 with_numbers (Some f) v w = both f (number v) (number w)
 
 -- a word of the table, by its words
 abbrev pub table_word : List (List ℕ) → Result Word TextKind
-table_word (a ∷ []) = ok_or (value_among plain_words a) kind.Word
+table_word (a ∷ []) = ok_or (value_among plain_words a) TextKind.Word
 table_word (a ∷ n ∷ []) = form_with_number (value_among words_of_number a) n
 table_word (a ∷ c ∷ r ∷ []) =
-    with_numbers (if bytes_eq a (codes "reg") then Some (λ caller register. word.Reg caller register) else None) c r
-table_word _ = Err kind.Word
+    with_numbers (if bytes_eq a (codes "reg") then Some (λ caller register. Word.Reg caller register) else None) c r
+table_word _ = Err TextKind.Word
 
 -- the form, with its word of the table
 abbrev pub with_table_word : Option (Word → Step) → List (List ℕ) → Result Step TextKind
-with_table_word None ws = Err kind.Word
+with_table_word None ws = Err TextKind.Word
 with_table_word (Some f) ws = on_ok f (table_word ws)
 
 -- the form of a `tally`
 abbrev pub tally_form : List ℕ → List ℕ → Result Step TextKind
-tally_form n v = both (λ t value. step.Tally t value) (ok_or (value_among tallies n) kind.Word) (number v)
+tally_form n v = both (λ t value. Step.Tally t value) (ok_or (value_among tallies n) TextKind.Word) (number v)
 
 -- an event of two numbers, a tally or a word of one number
 abbrev pub two_operands : List ℕ → List ℕ → List ℕ → Result Step TextKind
@@ -144,18 +138,18 @@ one_operand a v = one_or_look (value_among forms_of_number a)
 
 -- the form of an event, by its words
 abbrev pub form_of : List (List ℕ) → Result Step TextKind
-form_of [] = Err kind.Word
-form_of (a ∷ []) = ok_or (value_among plain_forms a) kind.Word
+form_of [] = Err TextKind.Word
+form_of (a ∷ []) = ok_or (value_among plain_forms a) TextKind.Word
 form_of (a ∷ v ∷ []) = one_operand a v
 form_of (a ∷ v ∷ w ∷ []) = two_operands a v w
 form_of (a ∷ u ∷ v ∷ w ∷ more) = with_table_word (value_among forms_of_word a) (u ∷ v ∷ w ∷ more)
 
 -- a seat, by its word
 abbrev pub seat_of : List ℕ → Result Seat TextKind
-seat_of [] = Err kind.Word
+seat_of [] = Err TextKind.Word
 seat_of (letter ∷ rest) =
     if letter == 99
-    then on_ok (λ n. seat.Caller n) (number rest)
+    then on_ok (λ n. Seat.Caller n) (number rest)
     else if letter == 109
-    then on_ok (λ n. seat.Marker n) (number rest)
-    else if bytes_eq (letter ∷ rest) (codes "h") then Ok seat.Host else Err kind.Word
+    then on_ok (λ n. Seat.Marker n) (number rest)
+    else if bytes_eq (letter ∷ rest) (codes "h") then Ok Seat.Host else Err TextKind.Word

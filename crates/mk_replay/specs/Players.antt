@@ -1,16 +1,15 @@
 -- What a run keeps for each script, and what it stands for.
 -- Private functions alone cite these words.
 use Rattle.std.specs.Prelude.{◌≡◌, ◌<◌, ◌≤◌, ℕ, Bool, true, false, List, [], ◌∷◌, ◌++◌, length, count_by}
-use Rattle.std.specs.{Prelude.{slice_index_or, drop, Option, None, if◌then◌else◌}, List.cons_option, Option.option_or}
+use Rattle.std.specs.{Prelude.{slice_index_or, Option, None, if◌then◌else◌}, List.cons_option, Option.option_or}
+use Rattle.mk_core.specs.{declared.config.Config.Config, declared.events.Event.Event, declared.events.Answer.Answer}
+use Rattle.mk_core.specs.{declared.events.Seat.TheVariants.Caller, Growing.is_same_seat, Standing.CoreStandsFor}
 use Rattle.mk_script.specs.{declared.items.Item.Item, Scopes.script_names}
 use Rattle.mk_check.specs.{Feed.{is_refusal, feed}, Declarations.config_of, Output.{ends_call, answers_given}}
 use Rattle.mk_check.specs.{Output.answer_waiting, Feeding.{FeedState, FeedStandsFor}}
-use Rattle.mk_core.specs.{declared.config.Config.Config, declared.events.Event.Event, declared.events.Answer.Answer}
-use Rattle.mk_core.specs.{declared.events.Seat.TheVariants.Caller, Growing.is_same_seat, Standing.CoreStandsFor}
-use Rattle.mk_replay.specs.{declared.players.Player.Player, declared.replaying.Run.Run}
-use Rattle.mk_replay.specs.declared.replaying.ReplayStop.{ReplayStop}
+use Rattle.mk_replay.specs.{Replays.{event_of_entry, failing_entry}, declared.players.Player.Player}
+use Rattle.mk_replay.specs.{declared.replaying.Run.Run, declared.replaying.ReplayStop.ReplayStop}
 use Rattle.mk_replay.specs.{declared.replaying.ReplayStop.TheVariants.NotEnabled, declared.schedule.Entry.Entry}
-use Rattle.mk_replay.specs.Replays.{event_of_entry, failing_entry, refusal_from, refusal_of, history_from, history_of}
 
 -- The answers of a caller's calls that ended, and the one that was decided in the call in flight.
 pub record Served : Type 0 where
@@ -95,11 +94,3 @@ pub record TakesEntry (program : List Item) (es : List Event) (x : Entry) (new :
 pub record IsNotEnabled (program : List Item) (es : List Event) (x : Entry) (stop : ReplayStop) : Type 0 where
   pub condition : 1 ≤ failing_entry program es x
   pub says : stop ≡ NotEnabled x.line x.place (failing_entry program es x)
-
--- the run after the first entries of a schedule
-pub record IsUnderWay (program : List Item) (schedule : List Entry) (count : ℕ) (run : Run) : Type 0 where
-  pub events : List Event
-  pub is_run : IsRunAfter program events run
-  pub so_many : length events ≡ count
-  pub refusal : refusal_from program events (drop count schedule) ≡ refusal_of program schedule
-  pub history : history_from program events (drop count schedule) ≡ history_of program schedule

@@ -4,7 +4,6 @@ use Rattle.std.specs.Prelude.{◌≡◌, ℕ, ◌+◌, ◌<◌, List, [], ◌∷
 use Rattle.mk_script.specs.declared.faults.TextStop.{TextStop}
 use Rattle.mk_replay.specs.{declared.lines.LineStop.LineStop, declared.lines.LineStop.TheVariants.{Text, NoMemory}}
 use Rattle.mk_replay.specs.Schedules.{script_lines, schedule_lines}
-use Rattle.mk_script.specs.declared.faults.TextStop.TheVariants as stop
 
 -- The schedule line stands at this place of the lines.
 pub record StandsAt (lines : List (List ℕ)) (place : ℕ) : Type 0 where
@@ -24,5 +23,5 @@ text_length (line ∷ lines) = length line + 1 + text_length lines
 
 -- what stops at a line, of a text whose line of this number it is
 abbrev pub stop_at : ℕ → LineStop → TextStop
-stop_at line (Text fault) = stop.Text line fault
-stop_at line NoMemory = stop.NoMemory
+stop_at line (Text fault) = TextStop.Text line fault
+stop_at line NoMemory = TextStop.NoMemory

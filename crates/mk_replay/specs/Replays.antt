@@ -3,27 +3,24 @@
 use Rattle.std.specs.Prelude.{◌≡◌, ◌<◌, ℕ, List, [], ◌∷◌, ◌++◌, length, count_by, slice_index_or, Option, Some, None}
 use Rattle.std.specs.Prelude.{◌==◌, if◌then◌else◌}
 use Rattle.mk_never.specs.declared.operations.Op.{Op}
+use Rattle.mk_core.specs.{declared.events.Seat.Seat, declared.events.Step.Step, declared.events.Event.Event}
+use Rattle.mk_core.specs.{Enabled.failing, History.left}
 use Rattle.mk_script.specs.{declared.items.Item.Item, Scopes.script_names}
 use Rattle.mk_check.specs.{Declarations.config_of, declared.text.Text.Text, Feed.is_refusal, Feeding.next_op}
 use Rattle.mk_check.specs.Output.{answers_given, text_behind}
-use Rattle.mk_core.specs.{declared.events.Seat.Seat, declared.events.Step.Step, declared.events.Event.Event}
-use Rattle.mk_core.specs.{Enabled.failing, History.left}
-use Rattle.mk_replay.specs.{declared.schedule.Entry.Entry, Forms.nothing_to_enter}
-use Rattle.mk_replay.specs.declared.replaying.ReplayStop.{ReplayStop}
-use Rattle.mk_replay.specs.declared.replaying.ReplayStop.TheVariants.{NotEnabled}
-use Rattle.mk_core.specs.declared.events.Seat.TheVariants as seat
-use Rattle.mk_core.specs.declared.events.Step.TheVariants as step
+use Rattle.mk_replay.specs.{Forms.nothing_to_enter, declared.replaying.ReplayStop.ReplayStop}
+use Rattle.mk_replay.specs.{declared.replaying.ReplayStop.TheVariants.NotEnabled, declared.schedule.Entry.Entry}
 
 -- A caller's operation is its script's next one, fed with the answers so far. Other seats have none.
 abbrev pub next_op_for : List Item → List Event → Seat → Option Op
-next_op_for program es (seat.Caller k) = next_op program k (answers_given (config_of program 8) es k)
+next_op_for program es (Seat.Caller k) = next_op program k (answers_given (config_of program 8) es k)
 next_op_for program es _ = None
 
 -- The step of a form. Where there is no operation, `enter` carries one that no `enter` may carry.
 abbrev pub step_of : Step → Option Op → Step
-step_of (step.Enter _) (Some o) = step.Enter o
-step_of (step.Enter _) None = step.Enter nothing_to_enter
-step_of (step.Take _) o = step.Take o
+step_of (Step.Enter _) (Some o) = Step.Enter o
+step_of (Step.Enter _) None = Step.Enter nothing_to_enter
+step_of (Step.Take _) o = Step.Take o
 step_of form o = form
 
 -- an entry's event after others

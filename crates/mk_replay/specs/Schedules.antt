@@ -1,14 +1,12 @@
 -- A text of a script part and a schedule: its program and the events, or its first fault.
 use Rattle.std.specs.Prelude.{ℕ, ◌+◌, Bool, false, ◌&&◌, nat_le, ◌==◌, if◌then◌else◌, List, [], ◌∷◌, ◌++◌, length, map}
 use Rattle.std.specs.{Prelude.{Option, Some, None, Ok, Err}, declared.result.Result.Result, Str.bytes_eq}
-use lib.Chars.{codes}
+use Rattle.mk_core.specs.{declared.events.Seat.Seat, declared.events.Step.Step}
 use Rattle.mk_script.specs.{declared.items.Item.Item, declared.faults.TextKind.TextKind}
 use Rattle.mk_script.specs.{declared.faults.TextStop.TextStop, Words.{lines_of, words_of_line}}
 use Rattle.mk_script.specs.Grammar.{fault_at, longest_text, too_long, items_of_lines}
-use Rattle.mk_core.specs.{declared.events.Seat.Seat, declared.events.Step.Step}
 use Rattle.mk_replay.specs.{declared.schedule.Entry.Entry, Forms.{both, form_of, seat_of}}
-use Rattle.mk_script.specs.declared.faults.TextKind.TheVariants as kind
-use Rattle.mk_script.specs.declared.faults.TextStop.TheVariants as stop
+use lib.Chars.{codes}
 
 -- a byte in front of the first piece
 abbrev pub in_front : ℕ → List (List ℕ) → List (List ℕ)
@@ -35,8 +33,8 @@ entries_from line place seat (form ∷ forms) =
 
 -- The first piece of a line begins with the seat.
 abbrev pub entries_of_pieces : ℕ → List (List (List ℕ)) → Result (List Entry) TextKind
-entries_of_pieces line [] = Err kind.Word
-entries_of_pieces line ([] ∷ pieces) = Err kind.Word
+entries_of_pieces line [] = Err TextKind.Word
+entries_of_pieces line ([] ∷ pieces) = Err TextKind.Word
 entries_of_pieces line ((seat ∷ words) ∷ pieces) = both (entries_from line 1) (seat_of seat) (forms_of (words ∷ pieces))
 
 -- the events of a line, with their seat
@@ -45,7 +43,7 @@ entries_of_line line text = entries_of_pieces line (map words_of_line (pieces_of
 
 -- goes on after a line's events, or ends with its fault
 abbrev pub go_on : ℕ → Result (List Entry) TextKind → Result (List Entry) TextStop → Result (List Entry) TextStop
-go_on line (Err fault) later = Err (stop.Text line fault)
+go_on line (Err fault) later = Err (TextStop.Text line fault)
 go_on line (Ok entries) (Err fault) = Err fault
 go_on line (Ok entries) (Ok later) = Ok (entries ++ later)
 
@@ -75,7 +73,7 @@ schedule_lines (line ∷ lines) = if is_schedule_line line then Some lines else 
 
 -- the events after a script part of this many lines
 abbrev pub schedule_behind : ℕ → Option (List (List ℕ)) → Result (List Entry) TextStop
-schedule_behind count None = Err (stop.Text count kind.End)
+schedule_behind count None = Err (TextStop.Text count TextKind.End)
 schedule_behind count (Some lines) = entries_of_lines (count + 2) lines
 
 -- the script part with the schedule, or the first fault

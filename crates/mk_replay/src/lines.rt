@@ -12,7 +12,7 @@ use mk_script::{TextKind, replace_words};
 use std::alloc::{AllocError, Global};
 
 /// Why a line's events aren't read.
-#[derive(Clone, Copy, Debug, PartialEq, Eq)]
+#[derive(Clone, Copy)]
 pub(crate) enum LineStop {
     Text(TextKind),
     NoMemory,

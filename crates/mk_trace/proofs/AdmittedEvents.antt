@@ -1,12 +1,14 @@
 -- The operations of an event are admitted where all registers are null, and leave them so.
 use Rattle.std.proofs.{Common.{set, slice_get}, lemmas.List.FromFn.{get_or-range_with_len, length-range_with_len}}
 use Rattle.std.proofs.{lemmas.List.Elements.All-get_or, lemmas.Option.slice_get-get_or}
-use Rattle.mk_trace.proofs.Vocabulary.{A, AreAdmitted, C, Config, Contents, F, IsAdmitted, IsBetween, IsEventOf}
-use Rattle.mk_trace.proofs.Vocabulary.{IsPlayable, IsSound, K, Kind, NeverState, Null, Num, Op, Ptr, To, TraceEvent}
-use Rattle.mk_trace.proofs.Vocabulary.{Value, W, after_calls, allocation_at, asked, calls, calls_of_caller, config_of}
+use Rattle.mk_trace.proofs.Vocabulary.{A, AreAdmitted, C, Config, Contents, Event, F, IsAdmitted}
+use Rattle.mk_trace.proofs.Vocabulary.{IsBetween, IsEventOf, IsHistory, IsPlayable, IsSound, K, Kind, NeverState, Null}
+use Rattle.mk_trace.proofs.Vocabulary.{Num, Op}
+use Rattle.mk_trace.proofs.Vocabulary.{Ptr, To, TraceEvent, Value, W, after_calls, allocation_at, asked, calls}
+use Rattle.mk_trace.proofs.Vocabulary.{calls_of_caller, config_of}
 use Rattle.mk_trace.proofs.Vocabulary.{global_at, kinds_of, length-replicate, never_behind, never_first, ops_of}
 use Rattle.mk_trace.proofs.Vocabulary.{range_with_len, register_at, replicate, types_from}
-use Rattle.mk_trace.{proofs.SlotTypes.{length-types_from}, specs.{Calls.EventsAreAdmitted, Playing.slot_type}}
+use Rattle.mk_trace.{proofs.SlotTypes.{length-types_from}, specs.{Calls.AreNull, Playing.slot_type}}
 use Rattle.mk_laws.proofs.Vocabulary.{AccessIsAdmitted, Bool, IsTyped, IsTypedAllocation, List, Meets, get_or-set_same}
 use Rattle.mk_laws.proofs.Vocabulary.{length, refl, subst, suc, sym, true, words_of, zero, [], ◌*◌, ◌+◌, ◌-◌, ◌<◌, ◌∙◌}
 use Rattle.mk_laws.proofs.Vocabulary.{◌∷◌, ◌≡◌, ◌≢◌, ◌≤◌}
@@ -240,6 +242,14 @@ module _ (slots : List ℕ) where
       written_fine slot within.0 few n index value within.1 within.2 s clear
   events_fine few some n s clear (W slot index value) within true =
       written_fine slot within.0 few n index value within.1 within.2 s clear
+
+-- An event's operations are admitted where all registers are null, full or not, and leave them so.
+abbrev pub EventsAreAdmitted : Contents → Type 0
+EventsAreAdmitted trace =
+    (es : List Event) → IsHistory (config_of trace) es → AreNull (never_behind (config_of trace) es)
+    → (event : TraceEvent) → IsEventOf trace.slots event → (full : Bool)
+    → AreAdmitted (config_of trace).globals (never_behind (config_of trace) es) (calls_of_caller (ops_of full event))
+    × AreNull (after_calls (never_behind (config_of trace) es) (calls_of_caller (ops_of full event)))
 
 module _ {trace : Contents} (playable : IsPlayable trace) where
   abbrev c : Config

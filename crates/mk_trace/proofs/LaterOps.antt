@@ -9,8 +9,8 @@ use Rattle.mk_laws.proofs.Vocabulary.{Bool, List, ℕ, and_parts, ap, append-nil
 use Rattle.mk_laws.proofs.Vocabulary.{get_or, if◌then◌else◌, length, list_any, subst, suc, sym, take, true, zero, []}
 use Rattle.mk_laws.proofs.Vocabulary.{◌++◌, ◌+◌, ◌<◌, ◌||◌, ◌∙◌, ◌∷◌, ◌≡◌, ◌≤◌}
 use Rattle.mk_core.specs.Counts.{is_full_answer}
-use Rattle.mk_trace.proofs.OneCaller.{begins_alike, calls_first, calls_more, full_as_told, next_may_come}
-use Rattle.mk_trace.specs.{Calls.CallsAll, Calls.MayCome, Calls.PlaysEvent, Playing.ops_played}
+use Rattle.mk_trace.proofs.OneCaller.{CallsAll, begins_alike, calls_first, calls_more, full_as_told, next_may_come}
+use Rattle.mk_trace.specs.{Calls.{MayCome, PlaysEvent}, Playing.ops_played}
 
 -- The operations of events, and how many are refused, with one event more.
 

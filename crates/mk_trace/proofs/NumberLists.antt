@@ -2,7 +2,7 @@
 use Rattle.std.proofs.lemmas.List.Sums.{sum_by-set}
 use Rattle.mk_trace.proofs.Vocabulary.{AreThose, PlacedAllocation, and-false, exists_placed, filter, is_quarantined}
 use Rattle.mk_trace.proofs.Vocabulary.{nat_tests, never_granted, one_if, placed_at, sum_by, sum_by-cons, times}
-use Rattle.mk_trace.{proofs.FreedWords.{part, sum_alike, weighed}, specs.Numbers.{AreOfQuarantined}}
+use Rattle.mk_trace.proofs.FreedWords.{part, sum_alike, weighed}
 use Rattle.mk_laws.proofs.Vocabulary.{Bool, List, ℕ, and_parts, ap, arith, eq-eqb, eqb-true, false, false_from_ne_true}
 use Rattle.mk_laws.proofs.Vocabulary.{get_or-set_other, get_or-set_same, if◌then◌else◌, length, not-true, refl}
 use Rattle.mk_laws.proofs.Vocabulary.{slice_set, suc, true, [], ◌&&◌, ◌++◌, ◌+◌, ◌<◌, ◌==◌, ◌∷◌, ◌≡◌, ◌≤◌}
@@ -68,6 +68,10 @@ none_quarantined weight (a ∷ xs) none =
 
 no_one : (b : Bool) → 0 ≡ one_if b → b ≡ false
 no_one b is = grind arith
+
+-- They are the numbers of the quarantined allocations.
+abbrev AreOfQuarantined : List PlacedAllocation → List ℕ → Type 0
+AreOfQuarantined xs numbers = AreThose (λ (i : ℕ). is_quarantined (placed_at xs i)) numbers
 
 module _ (weight : ℕ → ℕ) (xs : List PlacedAllocation) (n : ℕ) (numbers : List ℕ)
     (those : AreOfQuarantined xs (n ∷ numbers)) where

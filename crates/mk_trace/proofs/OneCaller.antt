@@ -5,7 +5,8 @@ use Rattle.mk_trace.proofs.Vocabulary.{PassState, Seat, WordsState, after_calls,
 use Rattle.mk_trace.proofs.Vocabulary.{calls_of_caller, first_host, flagged, has_first, is_refusal, never_behind}
 use Rattle.mk_trace.proofs.{Vocabulary.{pass_for, without_seat}, OwnPieces.all_again}
 use Rattle.mk_laws.proofs.Vocabulary.{Bool, List, ℕ, ap, append_assoc, arith, eq-eqb, false, if◌then◌else◌, length}
-use Rattle.mk_laws.proofs.Vocabulary.{length-map, list_any-append, map-append, refl, subst, sym, true, [], ◌++◌, ◌<◌}
+use Rattle.mk_laws.proofs.Vocabulary.{length-map, list_any, list_any-append, map-append, refl, subst, sym, true, []}
+use Rattle.mk_laws.proofs.Vocabulary.{◌++◌, ◌<◌}
 use Rattle.mk_laws.proofs.Vocabulary.{◌==◌, ◌||◌, ◌∙◌, ◌∷◌, ◌≡◌, ◌≤◌}
 use Rattle.mk_never.proofs.{Later.op_stays, Parts.{admitted_split, after_append}}
 use Rattle.mk_never.specs.{Admitted.IsCaller, NeverHeap.after_op}
@@ -15,7 +16,7 @@ use Rattle.mk_heap.specs.Below.Callers.States.{Admits, IsAtHome, caller_of_pass}
 use Rattle.mk_heap.specs.Hosts.{AllAreJoined, with_caller_made, with_caller_out, with_joined, with_seen}
 use Rattle.mk_heap.specs.Below.Words.Seats.{has_over}
 use Rattle.mk_heap.specs.Dispatching.{StaysAdmitted, as_told}
-use Rattle.mk_trace.specs.Calls.{CallsAll, MayCome, SameCalls}
+use Rattle.mk_trace.specs.Calls.{MayCome, SameCalls}
 
 by_test : (x : Decided) (xs ys : List Decided) (b : Bool) → b ≡ true → ys ≡ xs → (if b then x ∷ ys else ys) ≡ x ∷ xs
 by_test x xs ys x3 is same = grind arith
@@ -48,6 +49,15 @@ same_calls {c} one before later g = sym (calls_are_own one later) ∙ none_calle
 pub never_then_calls : (c : Config) (es fs : List Event) (more : List Decided) → calls c fs ≡ calls c es ++ more
     → never_behind c fs ≡ after_calls (never_behind c es) (asked more)
 never_then_calls c es fs more is = grind (arith, map-append, after_append)
+
+-- The caller made calls of these operations, the first of which was full or not; and whether one was refused.
+pub record CallsAll (c : Config) (es : List Event) (full : Bool) (ops : List Op) (refused : Bool) (fs : List Event)
+    : Type 0 where
+  pub more : List Decided
+  pub begins : begins_full (answered more) ≡ full
+  pub is : calls c fs ≡ calls c es ++ more
+  pub asks : asked more ≡ calls_of_caller ops
+  pub refuses : list_any is_refusal (answered more) ≡ refused
 
 pub never_behind_all : {c : Config} {es : List Event} {full : Bool} {ops : List Op} {refused : Bool} {fs : List Event}
     → CallsAll c es full ops refused fs → never_behind c fs ≡ after_calls (never_behind c es) (calls_of_caller ops)

@@ -1,17 +1,15 @@
 -- The calls of a trace's one caller, and the operations of an event.
 -- Private functions alone cite these words.
 use Rattle.std.specs.{Prelude.{◌≡◌, ℕ, max, Bool, false, List, ◌++◌, Some}, List.list_any}
-use Rattle.mk_never.specs.{declared.operations.Op.Op, NeverHeap.{NeverState, register_at, after_calls}}
+use Rattle.mk_never.specs.{declared.operations.Op.Op, NeverHeap.{NeverState, register_at}}
 use Rattle.mk_never.specs.{declared.values.Value.TheVariants.Null, Admitted.{IsAdmitted, AreAdmitted}}
 use Rattle.mk_core.specs.{declared.config.Config.Config, declared.events.Answer.Answer, declared.events.Event.Event}
 use Rattle.mk_core.specs.{declared.events.Seat.TheVariants.{Caller, Host}, Decided.{Decided, entry_of, asked, answered}}
 use Rattle.mk_core.specs.{Allocations.held_by_allocations, History.{calls, left, never_behind, IsHistory}}
-use Rattle.mk_heap.specs.{Below.Words.Seats.{Has, HasAll, has_over}, Below.Words.States.WordsState}
-use Rattle.mk_heap.specs.Hosts.{HostState}
+use Rattle.mk_heap.specs.{Below.Words.Seats.{Has, HasAll, has_over}, Below.Words.States.WordsState, Hosts.HostState}
 use Rattle.mk_heap.specs.Dispatching.{as_told}
-use Rattle.mk_trace.specs.{declared.trace.TraceEvent.TraceEvent, Laws.IsEventOf, Peaks.greatest}
-use Rattle.mk_trace.specs.Playing.{config_of, ops_of, begins_full, calls_of_caller, is_refusal, ops_played}
-use Rattle.mk_trace.specs.{Playing.refused_events, Traces.Contents}
+use Rattle.mk_trace.specs.{Peaks.greatest, Playing.{config_of, ops_of, begins_full, calls_of_caller, is_refusal}}
+use Rattle.mk_trace.specs.{Playing.{ops_played, refused_events}, Traces.Contents, declared.trace.TraceEvent.TraceEvent}
 
 -- The heap has one caller, which was made, and whose seat is home in the host's pass, as all others are. What the host
 -- has seen is a history.
@@ -30,14 +28,6 @@ pub record CallerIsHome (w : WordsState) (h : HostState) : Type 0 where
 abbrev pub AreNull : NeverState → Type 0
 AreNull n = (r : ℕ) → register_at n 0 r ≡ Null
 
--- An event's operations are admitted where all registers are null, full or not, and leave them so.
-abbrev pub EventsAreAdmitted : Contents → Type 0
-EventsAreAdmitted trace =
-    (es : List Event) → IsHistory (config_of trace) es → AreNull (never_behind (config_of trace) es)
-    → (event : TraceEvent) → IsEventOf trace.slots event → (full : Bool)
-    → AreAdmitted (config_of trace).globals (never_behind (config_of trace) es) (calls_of_caller (ops_of full event))
-    × AreNull (after_calls (never_behind (config_of trace) es) (calls_of_caller (ops_of full event)))
-
 -- The operation may be the next one.
 abbrev pub MayCome : Config → List Event → Op → Type 0
 MayCome c es o = IsAdmitted c.globals (never_behind c es) 0 o
@@ -54,10 +44,6 @@ held_behind c es = held_by_allocations c (left c es).allocations
 abbrev pub most_held : Config → List Event → ℕ
 most_held c es = greatest c (held_by_allocations c) es
 
--- No more was held meanwhile.
-abbrev pub HoldsNoMore : Config → List Event → List Event → Type 0
-HoldsNoMore c es fs = most_held c fs ≡ most_held c es
-
 -- What was held meanwhile is no more than before, or than at the end.
 abbrev pub HoldsMostAtEnd : Config → List Event → List Event → Type 0
 HoldsMostAtEnd c es fs = most_held c fs ≡ max (most_held c es) (held_behind c fs)
@@ -68,16 +54,7 @@ pub record Calls (c : Config) (es : List Event) (o : Op) (told : Answer) (fs : L
   pub is_told : told ≡ as_told answer
   pub entry : calls c fs ≡ calls c es ++ entry_of 0 o (Some answer)
 
--- It made calls of these operations, the first of which was full or not; and whether one was refused.
-pub record CallsAll (c : Config) (es : List Event) (full : Bool) (ops : List Op) (refused : Bool) (fs : List Event)
-    : Type 0 where
-  pub more : List Decided
-  pub begins : begins_full (answered more) ≡ full
-  pub is : calls c fs ≡ calls c es ++ more
-  pub asks : asked more ≡ calls_of_caller ops
-  pub refuses : list_any is_refusal (answered more) ≡ refused
-
--- It made those of an event, which was refused or not.
+-- It made calls of the operations of an event, which was refused or not.
 pub record PlaysEvent (c : Config) (es : List Event) (event : TraceEvent) (refused : Bool) (fs : List Event)
     : Type 0 where
   pub more : List Decided

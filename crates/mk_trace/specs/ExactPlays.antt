@@ -3,8 +3,7 @@
 use Rattle.std.specs.Prelude.{false, List}
 use Rattle.mk_core.specs.{declared.config.Config.Config, declared.events.Event.Event}
 use Rattle.mk_core.specs.declared.events.Seat.TheVariants.{Caller, Host}
-use Rattle.mk_heap.specs.Below.Objects.TurnCycles.{TurnsOfAreExact}
-use Rattle.mk_heap.specs.UnsweptSeats.{SeatSweepsNothing}
+use Rattle.mk_heap.specs.{Below.Objects.TurnCycles.TurnsOfAreExact, UnsweptSeats.SeatSweepsNothing}
 use Rattle.mk_trace.specs.Playing.{MakesNoCycle}
 
 -- Each turn of the caller did with cycles what its operation asks, the host made none, and neither made a sweeping

@@ -6,16 +6,15 @@ use Rattle.mk_check.specs.declared.typing_faults.TypeKind.{TypeKind}
 use Rattle.mk_trace.specs.{declared.faults.TraceStop.TraceStop, declared.lines.Slot.Slot, Typing.typed_event}
 use Rattle.mk_trace.specs.{declared.lines.EventLine.EventLine, declared.lines.Line.Line}
 use Rattle.mk_trace.specs.{declared.trace.TraceEvent.TraceEvent, Lines.{LinesSoFar, with_trace_line, trace_line_of}}
-use Rattle.mk_trace.specs.declared.faults.TraceStop.TheVariants as stop
 
 -- a fault at a line
 abbrev pub text_fault_at : ℕ → LineFault → TraceStop
-text_fault_at line (Text kind) = stop.Text line kind
-text_fault_at line (Limit which found) = stop.Limit line which found
+text_fault_at line (Text kind) = TraceStop.Text line kind
+text_fault_at line (Limit which found) = TraceStop.Limit line which found
 
 -- the type fault of this line
 abbrev pub type_fault_at : ℕ → TypeKind → TraceStop
-type_fault_at line kind = stop.IllTyped line kind
+type_fault_at line kind = TraceStop.IllTyped line kind
 
 -- goes on with what a line gives, or ends with its fault
 abbrev pub go_on : {X Y Fault : Type 0} → (Fault → TraceStop) → Result X Fault → (X → Result Y TraceStop)

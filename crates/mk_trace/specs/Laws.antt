@@ -2,16 +2,13 @@
 use Rattle.std.specs.Prelude.{◌≡◌, ℕ, ◌<◌, ◌≤◌, length, get_or, List, ◌++◌, All}
 use Rattle.mk_core.specs.{declared.config.Config.Config, declared.events.Event.Event, Allocations.PlacedAllocation}
 use Rattle.mk_core.specs.{History.left, Config.{IsBetween, IsWithinLimits}}
-use Rattle.mk_trace.specs.{declared.trace.TraceEvent.TraceEvent, declared.trace.TraceEvent.TheVariants.{A, K, F, C, W}}
-use Rattle.mk_trace.specs.{Playing.config_of, Traces.Contents}
+use Rattle.mk_trace.specs.{declared.trace.TraceEvent.TraceEvent, declared.trace.TraceEvent.TheVariants.W}
+use Rattle.mk_trace.specs.{Playing.config_of, Traces.{Contents, slot_of}}
 
 -- an event is of one of the slots, and a write is to a number of the slot's objects
 abbrev pub IsEventOf : List ℕ → TraceEvent → Type 0
-IsEventOf slots (A slot) = slot < length slots
-IsEventOf slots (K slot) = slot < length slots
-IsEventOf slots (F slot) = slot < length slots
-IsEventOf slots (C slot) = slot < length slots
 IsEventOf slots (W slot index value) = (slot < length slots) × (1 ≤ index) × (index < get_or slots slot 0)
+IsEventOf slots event = slot_of event < length slots
 
 -- It can be played: its heap is within the limits, and its events are of its slots.
 pub record IsPlayable (trace : Contents) : Type 0 where

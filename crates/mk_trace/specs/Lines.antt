@@ -1,17 +1,14 @@
 -- What a line of a trace's text says, after those before it, or its first fault: of form and place, numbers and names,
 -- slots that are declared twice, limits.
 use Rattle.std.specs.Prelude.{ℕ, ◌+◌, ◌==◌, if◌then◌else◌, List, [], ◌∷◌, ◌++◌, length, is_some, Option, Some, None, Ok}
-use Rattle.std.specs.{Prelude.Err, declared.result.Result.Result, List.position, Str.bytes_eq}
-use lib.Chars.{codes}
-use Rattle.std.specs.Option.{option_or}
+use Rattle.std.specs.{Prelude.Err, declared.result.Result.Result, List.position, Str.bytes_eq, Option.option_or}
 use Rattle.mk_script.specs.{declared.faults.LineFault.LineFault, declared.faults.LineFault.TheVariants.Text}
 use Rattle.mk_script.specs.{Lines.{at_most, heap_limit, within}, Operands.{◌>>=◌, name, number}}
+use Rattle.mk_script.specs.{declared.faults.TextKind.TextKind, declared.faults.Which.Which}
 use Rattle.mk_trace.specs.{declared.lines.HeapPages.HeapPages, declared.lines.Slot.Slot, declared.lines.Action.Action}
 use Rattle.mk_trace.specs.declared.lines.Action.TheVariants.{New, Link, Free, Clear, Write}
 use Rattle.mk_trace.specs.{declared.lines.EventLine.EventLine, declared.lines.Line.Line}
-use Rattle.mk_script.specs.declared.faults.TextKind.TheVariants as kind
-use Rattle.mk_script.specs.declared.faults.Which.TheVariants as which
-use Rattle.mk_trace.specs.declared.lines.Line.TheVariants as line
+use lib.Chars.{codes}
 
 -- what the lines after the first say so far
 pub record LinesSoFar : Type 0 where
@@ -24,8 +21,8 @@ nothing_written = record { slots = []; events = [] }
 
 -- one line more
 abbrev pub with_trace_line : LinesSoFar → Line → LinesSoFar
-with_trace_line written (line.Slot slot) = record written { slots = written.slots ++ slot ∷ [] }
-with_trace_line written (line.Event event) = record written { events = written.events ++ event ∷ [] }
+with_trace_line written (Line.Slot slot) = record written { slots = written.slots ++ slot ∷ [] }
+with_trace_line written (Line.Event event) = record written { events = written.events ++ event ∷ [] }
 
 -- this, or the fault
 abbrev pub ok_unless : {A : Type 0} → Option LineFault → A → Result A LineFault
@@ -42,8 +39,8 @@ heap_pages pages resident =
 -- what the first line says
 abbrev pub header_line_of : List (List ℕ) → Result HeapPages LineFault
 header_line_of (word ∷ pages ∷ resident ∷ []) =
-    if bytes_eq word (codes "trace") then heap_pages pages resident else Err (Text kind.Header)
-header_line_of words = Err (Text kind.Header)
+    if bytes_eq word (codes "trace") then heap_pages pages resident else Err (Text TextKind.Header)
+header_line_of words = Err (Text TextKind.Header)
 
 -- `slot S WORDS`, before the first event
 
@@ -53,13 +50,13 @@ slot_number slots name' = position (λ (slot : Slot). bytes_eq name' slot.name) 
 
 -- the limit that is passed by a slot of this many words, as the one of this number, counted from 1
 abbrev pub slot_limit : ℕ → ℕ → Option LineFault
-slot_limit count words = option_or (at_most count 64 which.Types) (within 1 words 4096 which.Words)
+slot_limit count words = option_or (at_most count 64 Which.Types) (within 1 words 4096 Which.Words)
 
 -- the slot, if its name and size are allowed
 abbrev pub checked_slot : List Slot → Slot → Result Slot LineFault
 checked_slot before slot =
     if is_some (slot_number before slot.name)
-    then Err (Text kind.Twice)
+    then Err (Text TextKind.Twice)
     else ok_unless (slot_limit (length before + 1) slot.words) slot
 
 -- what a `slot` line says
@@ -71,9 +68,9 @@ slot_from before slot words =
 abbrev pub slot_line : LinesSoFar → List (List ℕ) → Result Line LineFault
 slot_line before (slot ∷ words ∷ []) =
     if length before.events == 0
-    then slot_from before.slots slot words >>= (λ checked. Ok (line.Slot checked))
-    else Err (Text kind.Word)
-slot_line before operands = Err (Text kind.Word)
+    then slot_from before.slots slot words >>= (λ checked. Ok (Line.Slot checked))
+    else Err (Text TextKind.Word)
+slot_line before operands = Err (Text TextKind.Word)
 
 -- `a S`, `k S`, `f S`, `c S` and `w S i N`, after the first slot
 
@@ -87,7 +84,7 @@ plain_action word =
 
 -- what an event line of one slot says
 abbrev pub with_action : Option Action → List ℕ → Result EventLine LineFault
-with_action None slot = Err (Text kind.Word)
+with_action None slot = Err (Text TextKind.Word)
 with_action (Some action) slot = name slot >>= (λ s. Ok (record { slot = s; action = action }))
 
 -- the same, by its first word
@@ -100,23 +97,23 @@ write_event word slot index value =
     if bytes_eq word (codes "w")
     then name slot
     >>= (λ s. number index >>= (λ i. number value >>= (λ n. Ok (record { slot = s; action = Write i n }))))
-    else Err (Text kind.Word)
+    else Err (Text TextKind.Word)
 
 -- what an event line says by itself
 abbrev pub event_line_of : List ℕ → List (List ℕ) → Result EventLine LineFault
 event_line_of word (slot ∷ []) = plain_event word slot
 event_line_of word (slot ∷ index ∷ value ∷ []) = write_event word slot index value
-event_line_of word operands = Err (Text kind.Word)
+event_line_of word operands = Err (Text TextKind.Word)
 
 -- the same, if it is in its place
 abbrev pub event_line : LinesSoFar → List ℕ → List (List ℕ) → Result Line LineFault
 event_line before word operands =
     if length before.slots == 0
-    then Err (Text kind.Word)
-    else event_line_of word operands >>= (λ event. Ok (line.Event event))
+    then Err (Text TextKind.Word)
+    else event_line_of word operands >>= (λ event. Ok (Line.Event event))
 
 -- a line after the first
 abbrev pub trace_line_of : LinesSoFar → List (List ℕ) → Result Line LineFault
-trace_line_of before [] = Err (Text kind.Word)
+trace_line_of before [] = Err (Text TextKind.Word)
 trace_line_of before (word ∷ operands) =
     if bytes_eq word (codes "slot") then slot_line before operands else event_line before word operands

@@ -1,6 +1,5 @@
 -- Lists of allocations' numbers.
 use Rattle.std.specs.Prelude.{◌≡◌, ℕ, ◌+◌, Bool, ◌==◌, List, [], ◌∷◌, if◌then◌else◌}
-use Rattle.mk_core.specs.{Allocations.{PlacedAllocation, placed_at}, Cycles.is_quarantined}
 
 -- 1 if it is so, otherwise 0
 abbrev pub one_if : Bool → ℕ
@@ -14,7 +13,3 @@ times i (number ∷ numbers) = one_if (number == i) + times i numbers
 -- The numbers that pass stand there once, and no others.
 abbrev pub AreThose : (ℕ → Bool) → List ℕ → Type 0
 AreThose test numbers = (i : ℕ) → times i numbers ≡ one_if (test i)
-
--- They are those of the quarantined allocations.
-abbrev pub AreOfQuarantined : List PlacedAllocation → List ℕ → Type 0
-AreOfQuarantined xs numbers = AreThose (λ (i : ℕ). is_quarantined (placed_at xs i)) numbers

@@ -3,10 +3,9 @@
 use Rattle.std.specs.Prelude.{ℕ, ◌+◌, max, Bool, ◌&&◌, nat_lt, ◌==◌, if◌then◌else◌, List, [], ◌∷◌, filter, fold, map}
 use Rattle.std.specs.Prelude.{sum_by}
 use Rattle.mk_never.specs.Types.{kinds_of, is_large}
-use Rattle.mk_core.specs.{declared.config.Config.Config, declared.events.Event.Event}
 use Rattle.mk_core.specs.Allocations.{PlacedAllocation, placed_at, storage_words, held_by_allocations}
 use Rattle.mk_core.specs.{Counts.{ends, in_a_word}, Cycles.{is_end, is_quarantined}, History.{World, first_world}}
-use Rattle.mk_core.specs.History.{world_behind, left}
+use Rattle.mk_core.specs.{History.{world_behind, left}, declared.config.Config.Config, declared.events.Event.Event}
 
 -- the storage of the freed and unreleased allocations, and of the large ones among them, whose addresses are reserved
 

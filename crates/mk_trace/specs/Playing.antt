@@ -8,15 +8,13 @@ use Rattle.mk_never.specs.{declared.operations.Op.TheVariants.{Clear, GetGlobal,
 use Rattle.mk_core.specs.{declared.config.Config.Config, declared.events.Answer.Answer, declared.events.Event.Event}
 use Rattle.mk_core.specs.{declared.events.Seat.Seat, declared.events.Seat.TheVariants.{Caller, Host}}
 use Rattle.mk_core.specs.{Counts.is_full_answer, Decided.{asked, answered}, Growing.is_same_seat, History.calls}
-pub use Rattle.mk_check.specs.Feed.{is_refusal}
 use Rattle.mk_laws.specs.{Precision.CyclesArePrecise, Promises.KeepsAllPromises}
-use Rattle.mk_heap.specs.Below.Objects.TurnCycles.{TurnsOfAreExact, is_of_cycle}
-use Rattle.mk_heap.specs.Reports.{IsWhole}
-use Rattle.mk_heap.specs.Reports as report
-use Rattle.mk_heap.specs.Below.Objects.Bounds.{QuarantineIsBounded}
-use Rattle.mk_heap.specs.Unswept.{IsUnswept}
+pub use Rattle.mk_check.specs.Feed.{is_refusal}
+use Rattle.mk_heap.specs.{Below.Objects.TurnCycles.{TurnsOfAreExact, is_of_cycle}, Reports.IsWhole}
+use Rattle.mk_heap.specs.{Below.Objects.Bounds.QuarantineIsBounded, Unswept.IsUnswept}
 use Rattle.mk_trace.specs.{declared.trace.TraceEvent.TraceEvent, declared.trace.TraceEvent.TheVariants.{A, K, F, C, W}}
 use Rattle.mk_trace.specs.{declared.peaks.Peaks.Peaks, Peaks.{HistoryPeaks, peaks_of}, Traces.Contents}
+use Rattle.mk_heap.specs.Reports as report
 
 -- The type of a slot's objects: a pointer to such an object, and numbers.
 abbrev pub slot_type : ℕ → ℕ → List Kind

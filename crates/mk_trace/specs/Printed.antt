@@ -1,8 +1,8 @@
 -- The lines of the peaks of a played trace.
 use Rattle.std.specs.{Prelude.{ℕ, List, [], ◌∷◌, ◌++◌}, List.flat_map, Fmt.decimal}
-use lib.Chars.{codes}
 use Rattle.mk_script.specs.Canonical.{line_text}
 use Rattle.mk_trace.specs.declared.peaks.Peaks.{Peaks}
+use lib.Chars.{codes}
 
 -- the lines of the peaks, but for ages, as words
 abbrev pub lines_of_counts : Peaks → List (List (List ℕ))

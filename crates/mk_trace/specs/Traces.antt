@@ -2,13 +2,11 @@
 use Rattle.std.specs.Prelude.{◌≡◌, ℕ, ◌+◌, ◌==◌, nat_le, if◌then◌else◌, List, [], ◌∷◌, length, map, Ok, Err}
 use Rattle.std.specs.declared.result.Result.{Result}
 use Rattle.mk_script.specs.{Grammar.{longest_text, too_long}, Words.{lines_of, words_of_line}}
+use Rattle.mk_script.specs.{declared.faults.TextKind.TextKind, declared.faults.Which.Which}
 use Rattle.mk_trace.specs.{declared.faults.TraceStop.TraceStop, declared.lines.HeapPages.HeapPages}
 use Rattle.mk_trace.specs.{declared.lines.Slot.Slot, declared.trace.TraceEvent.TraceEvent}
 use Rattle.mk_trace.specs.{declared.trace.TraceEvent.TheVariants.{A, K, F, C, W}, Lines.{LinesSoFar, nothing_written}}
 use Rattle.mk_trace.specs.{Lines.header_line_of, Grammar.{text_fault_at, go_on, written_from, events_from}}
-use Rattle.mk_script.specs.declared.faults.TextKind.TheVariants as kind
-use Rattle.mk_script.specs.declared.faults.Which.TheVariants as which
-use Rattle.mk_trace.specs.declared.faults.TraceStop.TheVariants as stop
 
 -- What a trace says: the pages of its heap and how many of them may be resident, how many words the objects of each
 -- slot have, and what is done with the slots.
@@ -45,13 +43,13 @@ words_of_slots slots = map (λ (slot : Slot). slot.words) slots
 abbrev pub contents_of : HeapPages → LinesSoFar → Result Contents TraceStop
 contents_of heap written =
     if length written.slots == 0
-    then Err (stop.Limit 1 which.Types 0)
+    then Err (TraceStop.Limit 1 Which.Types 0)
     else and_then (events_from written.slots (length written.slots + 2) written.events [])
     (λ events. Ok (contents_from heap.pages heap.resident (words_of_slots written.slots) events))
 
 -- the trace that lines are, or their first fault
 abbrev pub trace_of_lines : List (List ℕ) → Result Contents TraceStop
-trace_of_lines [] = Err (stop.Text 1 kind.Header)
+trace_of_lines [] = Err (TraceStop.Text 1 TextKind.Header)
 trace_of_lines (first ∷ lines) =
     go_on (text_fault_at 1) (header_line_of (words_of_line first))
     (λ heap. and_then (written_from 2 lines nothing_written) (contents_of heap))

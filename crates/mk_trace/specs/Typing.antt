@@ -2,24 +2,24 @@
 use Rattle.std.specs.Prelude.{ℕ, ◌==◌, nat_le, if◌then◌else◌, List, [], get_or, Option, Some, None, Ok, Err}
 use Rattle.std.specs.declared.result.Result.{Result}
 use Rattle.mk_check.specs.declared.typing_faults.TypeKind.{TypeKind}
-use Rattle.mk_check.specs.declared.typing_faults.TypeKind.TheVariants as kind
 use Rattle.mk_trace.specs.{declared.lines.Slot.Slot, declared.lines.Action.Action, declared.lines.EventLine.EventLine}
 use Rattle.mk_trace.specs.{declared.trace.TraceEvent.TraceEvent, declared.trace.TraceEvent.TheVariants.{A, K, F, C, W}}
 use Rattle.mk_trace.specs.Lines.{slot_number}
-use Rattle.mk_trace.specs.declared.lines.Action.TheVariants as action
 
 -- a store into a slot's object, or its type fault
 abbrev pub typed_write : ℕ → ℕ → ℕ → ℕ → Result TraceEvent TypeKind
 typed_write slot words index value =
-    if nat_le words index then Err kind.Offset else if index == 0 then Err kind.Kind else Ok (W slot index value)
+    if nat_le words index
+    then Err TypeKind.Offset
+    else if index == 0 then Err TypeKind.Kind else Ok (W slot index value)
 
 -- the action on the slot of this number, whose objects have this many words
 abbrev pub event_on : ℕ → ℕ → Action → Result TraceEvent TypeKind
-event_on slot words action.New = Ok (A slot)
-event_on slot words action.Link = Ok (K slot)
-event_on slot words action.Free = Ok (F slot)
-event_on slot words action.Clear = Ok (C slot)
-event_on slot words (action.Write index value) = typed_write slot words index value
+event_on slot words Action.New = Ok (A slot)
+event_on slot words Action.Link = Ok (K slot)
+event_on slot words Action.Free = Ok (F slot)
+event_on slot words Action.Clear = Ok (C slot)
+event_on slot words (Action.Write index value) = typed_write slot words index value
 
 -- how many words the objects of a slot have
 abbrev pub words_at : List Slot → ℕ → ℕ
@@ -27,7 +27,7 @@ words_at slots slot = (get_or slots slot (record { name = []; words = 0 })).word
 
 -- an event on this slot, or its type fault
 abbrev pub on_slot : List Slot → Option ℕ → Action → Result TraceEvent TypeKind
-on_slot slots None action' = Err kind.NoGlobal
+on_slot slots None action' = Err TypeKind.NoGlobal
 on_slot slots (Some slot) action' = event_on slot (words_at slots slot) action'
 
 -- an event line with its slot's number, or its type fault

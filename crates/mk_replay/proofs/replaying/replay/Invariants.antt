@@ -1,4 +1,4 @@
-use Rattle.mk_replay.specs.Players.{IsUnderWay}
+use Rattle.mk_replay.proofs.UnderWay.{IsUnderWay}
 use Rattle.mk_replay.proofs.replaying.replay.Given as goal
 
 abbrev pub invariant-loop-entry : goal.invariant-loop-entry
