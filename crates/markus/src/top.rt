@@ -1,8 +1,8 @@
 //! All that the program does.
 ghost use Rattle.std.specs.Prelude.{◌≡◌, ◌≢◌, ◌⊎◌, map, string_bytes, length, false, None, IsSomeAnd};
-ghost use Rattle.mk_io.specs.{Bytes.{Appends, AppendsPart}, Faults.Rose};
+ghost use Rattle.mk_io.specs.{Bytes.{Appends, AppendsPart}, Memory.Rose};
 ghost use Rattle.mk_outputs.specs.Commands.{command_of};
-ghost use Rattle.mk_outputs.specs.{Outputs.{HasAnswered, HasNoRead, IsStatusOn}, Seen.HasSeen};
+ghost use Rattle.mk_outputs.specs.{Outputs.{HasAnswered, HasNoRead, IsStatusOn}, Laws.HasSeen};
 ghost use Rattle.mk_outputs.specs.Statuses.{IsBeforeWriting, IsRefusal};
 
 use mk_io::{Failed, Sink, Source, write_all};

@@ -12,10 +12,10 @@ use Rattle.mk_alloc.proofs.{Vocabulary.{◌<◌, ◌∙◌, ◌∷◌, ◌≡◌
 use Rattle.mk_alloc.proofs.OwnGives.{GivesNone, doing_gives, gives_append, others_give}
 use Rattle.mk_alloc.proofs.Parts.{IsHolders, in_turn_then, others_lack, seen_after, seen_by, seen_then}
 use Rattle.mk_alloc.{proofs.{Going.IsCallers, ListParts.{Lacks, SomeKind}}, specs.TurnCycles.{CallIsExact}}
-use Rattle.mk_caller.proofs.{Below.Laws.Vocabulary.{is_under_turn, ◌≤◌}, Below.Laws.Actors.give_phase}
-use Rattle.mk_caller.proofs.{Below.Words.OverPhases.end_is_behind_over, Below.Words.Seats.others_own}
+use Rattle.mk_caller.proofs.Below.Laws.{Vocabulary.{is_under_turn, ◌≤◌}, Actors.give_phase}
+use Rattle.mk_caller.proofs.Below.Words.{OverPhases.end_is_behind_over, Seats.others_own}
 use Rattle.mk_caller.{proofs.Below.Words.Undecided.{decides_nothing}, specs.States.{IsHomePass, IsIdleCaller, never_of}}
-use Rattle.mk_caller.specs.{Below.Words.Seats.CallersAreBeforeOver, Below.Words.Steps.may_decide}
+use Rattle.mk_caller.specs.Below.Words.{States.CallersAreBeforeOver, Steps.may_decide}
 use Rattle.mk_caller.proofs.Below.Words.TurnSteps.{takes as takes_turn}
 
 -- Waiting and taking the turn add no entry, nor does a `give`.

@@ -3,14 +3,14 @@ use Rattle.mk_caller.proofs.Below.Laws.Vocabulary.{Config, Event, Holding, IsHis
 use Rattle.mk_caller.proofs.Below.Laws.Vocabulary.{Seat, Some, Steady, Step, World, ℕ, ap, arith, is_held, is_number_of}
 use Rattle.mk_caller.proofs.Below.Laws.Vocabulary.{is_run_gone, left, others_are_held, refl, subst, sym, true}
 use Rattle.mk_caller.proofs.Below.Laws.Vocabulary.{world_behind, [], ◌++◌, ◌<◌, ◌||◌, ◌∙◌, ◌∷◌, ◌≡◌}
-use Rattle.mk_caller.proofs.{Below.Laws.LastEvents.{ComesLast, comes_last, stands}, Below.Laws.RunWords.gone_behind}
+use Rattle.mk_caller.proofs.Below.Laws.{LastEvents.{ComesLast, comes_last, stands}, RunWords.gone_behind}
 use Rattle.mk_caller.proofs.Below.Laws.RunsStill.{holder_finds}
 use Rattle.mk_alloc.proofs.ObjectVocabulary.{Does, IsTurn, PassState, RunIsUnmapped, RunIsWiped, SetsGates, Unmaps}
 use Rattle.mk_alloc.proofs.ObjectVocabulary.{Wipes, all_below_from, all_others, is_following, is_settling, now_of}
 use Rattle.mk_alloc.proofs.{ObjectVocabulary.world_of, DecidedFrees.{Stays, gates_stay, stays_then, unmaps_stay}}
 use Rattle.mk_alloc.proofs.{DecidedFrees.wipes_stay, FreedOnce.{Another, KeptInTurn, Own, along_turn}}
-use Rattle.mk_alloc.{proofs.JoinedLooks.{reached_world}, specs.{Deciding.ClearsRun, FreeParts.no_gate}}
-use Rattle.mk_core.specs.Growing.{AreOfOthers}
+use Rattle.mk_alloc.{proofs.JoinedLooks.{reached_world}, specs.{FreeParts.ClearsRun, FreeParts.no_gate}}
+use Rattle.mk_core.specs.History.{AreOfOthers}
 
 -- A run that the call has unmapped and wiped stays so, while gates are opened and tallies set.
 

@@ -12,7 +12,7 @@ use Rattle.mk_alloc.proofs.ObjectVocabulary.{is_following, is_freeing, is_freein
 use Rattle.mk_alloc.proofs.ObjectVocabulary.{none_is_held, now_of, steady_of, sum_by-cons, world_of}
 use Rattle.mk_alloc.proofs.JoinedLooks.{AreAmong, reached_world, reaches_after, reaches_answered, reaches_so}
 use Rattle.mk_alloc.proofs.{JoinedLooks.reaches_wider, FreedOnce.{FreesNot, once_behind}}
-use Rattle.mk_alloc.specs.{Deciding.{IsDecidedAt, counted}, FreeParts.IsButGates}
+use Rattle.mk_alloc.specs.FreeParts.{IsDecidedAt, counted, IsButGates}
 use Rattle.mk_core.specs.Counts.{releases}
 
 -- What stays over each part.

@@ -7,10 +7,10 @@ use Rattle.mk_alloc.proofs.QuarantineVocabulary.{ℕ, [], ⊎_elim, ◌*◌, ◌
 use Rattle.mk_alloc.proofs.{QuarantineVocabulary.{◌∙◌, ◌∷◌, ◌≡◌, ◌≤◌}, CountedWords.given_more}
 use Rattle.mk_alloc.proofs.{Deeds.{deeds_give_back, deeds_leave_the_storage}, ListParts.lacks_first}
 use Rattle.mk_alloc.proofs.{Vocabulary.held_by_allocations, DeedParts.{begins_at_begins, deeds_at, done_alone, done_at}}
-use Rattle.mk_alloc.{proofs.DeedParts.{ends_at_gives, of_steps, stands_in}, specs.DeedLaws.{deeds_of}}
+use Rattle.mk_alloc.{proofs.DeedParts.{ends_at_gives, of_steps, stands_in}, specs.Deeds.{deeds_of}}
 use Rattle.mk_alloc.specs.{Bounds.{FreshIsQuarterOfHeld, FreshIsQuarterWithGivenBack}, Deeds.{Deed, QuarterOfHeld}}
 use Rattle.mk_alloc.specs.Deeds.{QuarterWithGivenBack, ReleasesInTurnOfBegin, back_from, begins_cycle, ends_turn}
-use Rattle.mk_alloc.specs.{Deeds.storage_after, DeedLaws.{BoundsAreOverDeeds, bases_released, deeds_by, deeds_from}}
+use Rattle.mk_alloc.specs.Deeds.{storage_after, BoundsAreOverDeeds, bases_released, deeds_by, deeds_from}
 use Rattle.mk_cycle.proofs.InParts as events
 use Rattle.mk_alloc.specs.Bounds.{ReleasesInTurnOfBegin as InTurnOfBegin}
 

@@ -1,6 +1,6 @@
 -- Why a New is full, over deeds.
-use Rattle.mk_core.specs.{Cycles.{Cycle, is_begin, is_end, is_give, is_release}, Decided.flagged}
-use Rattle.mk_core.specs.{Allocations.FitsAmongAllocations, Bounded.is_some_and, Counts.is_full_answer}
+use Rattle.mk_core.specs.{Cycles.{Cycle, is_begin, is_end, is_give, is_release}, Calls.flagged}
+use Rattle.mk_core.specs.{Allocations.FitsAmongAllocations, Words.is_some_and, Counts.is_full_answer}
 use Rattle.mk_core.specs.{Calls.{progress_reg, progress_read, begun, onward, refused, still}, History.left_from}
 use Rattle.mk_core.specs.{Placement.FindsNoPlace, declared.seats.Progress.Progress, Cells.is_unmapped_header}
 use Rattle.mk_core.specs.{NewPlaces.{object_of, target}, Effects.{decided, progress_freed, sees_double}}
@@ -16,10 +16,10 @@ use Rattle.mk_alloc.proofs.Vocabulary.{object_made, progress, at_rest, and_from,
 use Rattle.mk_alloc.proofs.{HeldTurns.{first_giver, next_of, taker_exists, turn_held_in}, OwnGives.own_give}
 use Rattle.mk_alloc.proofs.{DeedBounds.{begins_alone, releases_alone}, Deeds.deeds_leave_the_storage}
 use Rattle.mk_alloc.proofs.DeedParts.{deeds_at, done_alone, done_at, ends_at_gives, of_steps, stands_in}
-use Rattle.mk_alloc.specs.DeedLaws.{bases_released, DeedsSayWhyFull, deeds_by, deeds_from, deeds_of, done_by, frees_at}
+use Rattle.mk_alloc.specs.Deeds.{bases_released, DeedsSayWhyFull, deeds_by, deeds_from, deeds_of, done_by, frees_at}
 use Rattle.mk_alloc.specs.Deeds.{Deed, HasWholeCycle, ends_turn, storage_after}
 use Rattle.mk_never.specs.{declared.operations.Op.TheVariants.New, NeverHeap.Call, Types.kinds_of}
-use Rattle.mk_geom.specs.Headers.{header_of}
+use Rattle.mk_geom.specs.Addresses.{header_of}
 
 -- Only `full` answers Full.
 

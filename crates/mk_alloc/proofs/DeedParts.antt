@@ -7,7 +7,7 @@ use Rattle.mk_alloc.proofs.QuarantineVocabulary.{⊎_elim, ◌++◌, ◌||◌, �
 use Rattle.mk_alloc.proofs.Vocabulary.{asked, call_decided, map, or_left}
 use Rattle.std.proofs.lemmas.Bool.{or_right}
 use Rattle.mk_never.specs.NeverHeap.{Call}
-use Rattle.mk_alloc.specs.{Deeds.{Deed, begins_cycle, ends_turn}, DeedLaws.{deeds_by, deeds_from, done_by, frees_at}}
+use Rattle.mk_alloc.specs.Deeds.{Deed, begins_cycle, ends_turn, deeds_by, deeds_from, done_by, frees_at}
 
 -- A deed of a list in two parts is one of the first, or of the second.
 

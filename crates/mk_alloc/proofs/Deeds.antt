@@ -1,5 +1,5 @@
 -- The deeds of a history leave its allocations, and give back what it gave back.
-use Rattle.std.proofs.{lemmas.List.map-id, Common.{suc, zero}, lemmas.Bool.{eqb-true, or_right}}
+use Rattle.std.proofs.{lemmas.{List.map-id, Bool.{eqb-true, or_right}}, Common.{suc, zero}}
 use Rattle.std.specs.Prelude.{filter, sum_by}
 use Rattle.mk_alloc.proofs.QuarantineVocabulary.{Bool, Cell, Config, Event, Flight, List, None, Option}
 use Rattle.mk_alloc.proofs.QuarantineVocabulary.{PlacedAllocation, Some, Step, World, and_parts, ap, arith, cases_Bool}
@@ -13,8 +13,8 @@ use Rattle.mk_core.specs.{History.left_from, Cells.{is_left_unmarked, pointed_ce
 use Rattle.mk_never.specs.NeverHeap.{Call}
 use Rattle.mk_geom.specs.Addresses.{address_of}
 use Rattle.mk_alloc.specs.Deeds.{Deed, after_deed, back_after, back_from, begins_at_one, storage_from}
-use Rattle.mk_alloc.specs.DeedLaws.{DeedsGiveBack, DeedsLeaveTheStorage, bases_released, deeds_by, deeds_from, done_by}
-use Rattle.mk_alloc.specs.{DeedLaws.frees_at, Bounds.{given_back_from, is_given_back}}
+use Rattle.mk_alloc.specs.Deeds.{DeedsGiveBack, DeedsLeaveTheStorage, bases_released, deeds_by, deeds_from, done_by}
+use Rattle.mk_alloc.specs.{Deeds.frees_at, Bounds.{given_back_from, is_given_back}}
 
 -- Deeds one after the other.
 

@@ -7,7 +7,7 @@ use Rattle.mk_alloc.proofs.CycleParts.{BeginIn, EndsIn, begin_done, begin_in, be
 use Rattle.mk_alloc.proofs.Going.{IsCallers, begun_on, callers_then, finished_on, look_part, looked_on, on_then}
 use Rattle.mk_alloc.proofs.{Going.quiet_looked, ListParts.{Lacks, SomeKind, lacks_append}}
 use Rattle.mk_alloc.proofs.Parts.{behind_part, history_before, in_turn_then, part_lacks, seen_by, seen_then}
-use Rattle.mk_alloc.{proofs.CalmStretches.{cycles_in_turn, is_of_cycles}, specs.Underway.{RunsCycle}}
+use Rattle.mk_alloc.{proofs.CalmStretches.{cycles_in_turn, is_of_cycles}, specs.Rooms.{RunsCycle}}
 use Rattle.mk_caller.proofs.Below.Laws.Longer.{longer_at}
 
 pub at_behind : {kind : SomeKind} (xs : List Event) {ys : List Event} → At kind ys → At kind (xs ++ ys)

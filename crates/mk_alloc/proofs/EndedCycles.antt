@@ -1,6 +1,6 @@
 -- Where calls end the cycles that they begin, no `release` stands in a later turn than its `begin`.
 use Rattle.mk_caller.proofs.Below.Laws.Vocabulary.{is_one_of, is_under_turn, left_from}
-use Rattle.mk_caller.proofs.{Below.Laws.CyclePhases.{moves_phase, phases_go_on}, Below.Laws.NextSteps.at_take}
+use Rattle.mk_caller.proofs.Below.Laws.{CyclePhases.{moves_phase, phases_go_on}, NextSteps.at_take}
 use Rattle.mk_caller.proofs.Below.Laws.ProtocolStepKinds.{end_is}
 use Rattle.mk_alloc.proofs.QuarantineVocabulary.{AsksPhase, At, Caller, CallIsExact, Config, EndsExactly, Event}
 use Rattle.mk_alloc.proofs.QuarantineVocabulary.{FreshIsQuarterOfHeld, HoldsTurn, Host, HostBeginsLast, IsHistory}
@@ -15,7 +15,7 @@ use Rattle.mk_alloc.proofs.{EndedFrees.{CallersAreExact, caller_of}, HeldQuarter
 use Rattle.mk_alloc.proofs.{HeldQuarters.since_begin, HeldTurns.{begin_gives_none, beginner_holds, begun_in_turn}}
 use Rattle.mk_alloc.proofs.{HeldTurns.{first_giver, next_of, turn_stays_taken}, CountedWords.IsQuarter}
 use Rattle.mk_alloc.proofs.{OpenFrees.freer_has_free, Vocabulary.RunsOneCycle, ListParts.lacks_second}
-use Rattle.mk_core.specs.Growing.{AreOfOthers}
+use Rattle.mk_core.specs.History.{AreOfOthers}
 
 -- After an `end` no `release` comes before the next `begin`.
 

@@ -5,8 +5,8 @@ use Rattle.mk_alloc.proofs.QuarantineVocabulary.{Step, arith, false, fresh_after
 use Rattle.mk_alloc.proofs.QuarantineVocabulary.{is_close, is_end, is_release, left, refl, [], ◌++◌, ◌∷◌, ◌≡◌, ◌≤◌}
 use Rattle.mk_alloc.specs.Bounds.{given_back_from}
 use Rattle.mk_core.proofs.{EventsAt.{at_number, event_number}, Schedules.{by, c0, fault, first_fault, host, one_page}}
-use Rattle.mk_core.{proofs.MoreSchedules.{full_then_reused, two_pages}, specs.StopConditions.{may_turn_black}}
-use Rattle.mk_core.specs.{Allocations.unreleased_storage, Bounded.all_below, Cells.pointed_cell, History.left_from}
+use Rattle.mk_core.{proofs.MoreSchedules.{full_then_reused, two_pages}, specs.MarkingConditions.{may_turn_black}}
+use Rattle.mk_core.specs.{Allocations.unreleased_storage, Words.all_below, Cells.pointed_cell, History.left_from}
 
 -- A schedule in which what was freed since the last `begin` is more than a quarter of what is held, and just a quarter
 -- with what was given back.

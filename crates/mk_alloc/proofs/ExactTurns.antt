@@ -2,8 +2,8 @@
 use Rattle.mk_alloc.proofs.Vocabulary.{Bool, EndsExactly, Event, List, PassState, Some, Step, ap, append_assoc, arith}
 use Rattle.mk_alloc.proofs.Vocabulary.{event_of, only_seen, own_before, refl, subst, sym, [], ◌++◌, ◌∙◌, ◌∷◌, ◌≡◌}
 use Rattle.mk_alloc.proofs.OwnGives.{GivesNone, calls_give, does_give_none, doing_gives, none_more, one_gives, one_more}
-use Rattle.mk_alloc.{proofs.OwnGives.{others_give}, specs.Laws.{StayExactWhereHeld}}
-use Rattle.mk_alloc.specs.Laws.{OwnAreExact, StayExactBehindCalls, StayExactBehindOthers, StayExactBehindTurns}
+use Rattle.mk_alloc.{proofs.OwnGives.{others_give}, specs.TurnCalls.{StayExactWhereHeld}}
+use Rattle.mk_alloc.specs.TurnCalls.{OwnAreExact, StayExactBehindCalls, StayExactBehindOthers, StayExactBehindTurns}
 use Rattle.mk_caller.proofs.Below.Words.TakesAlone.{taking_does}
 
 pub stay_exact_behind_calls : StayExactBehindCalls

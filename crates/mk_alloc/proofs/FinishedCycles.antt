@@ -2,11 +2,11 @@
 use Rattle.mk_alloc.proofs.Vocabulary.{At, BeginsCycle, SeesNone, Bool, Config, Event, Has, List, PassState, Seat, ap}
 use Rattle.mk_alloc.proofs.Vocabulary.{append-nil, append_assoc, false, is_begin, only_seen, refl, subst, sym, true, []}
 use Rattle.mk_alloc.proofs.{Vocabulary.{⊎_elim, ◌++◌, ◌∙◌, ◌∷◌, ◌≡◌}, ListParts.none_at}
-use Rattle.mk_alloc.specs.Closes.{AreFinishedAtOnce, EachIsFinished, IsFinishedAtOnce}
+use Rattle.mk_alloc.specs.TurnCycles.{AreFinishedAtOnce, EachIsFinished, IsFinishedAtOnce}
 use Rattle.mk_core.specs.{Cycles.through, Frames.Steady}
 use Rattle.mk_cycle.proofs.Begun.{begin_begun, begins_none, begun_then, does_begin_none, has_on}
-use Rattle.mk_cycle.{proofs.InParts.{InFirst, InSecond, in_parts}, specs.{Closing.IsClosedBy, Kinds.clears}}
-use Rattle.mk_cycle.specs.{BeginCycle.MakesBegin, Begun.{EachIsBegunUpTo, EachIsBegunYet, IsBegunUpTo}}
+use Rattle.mk_cycle.{proofs.InParts.{InFirst, InSecond, in_parts}, specs.{Stops.IsClosedBy, TurnKeeps.clears}}
+use Rattle.mk_cycle.specs.BeginCycle.{MakesBegin, EachIsBegunUpTo, EachIsBegunYet, IsBegunUpTo}
 
 -- No cycle begins so.
 abbrev pub Never : Config → Seat → List Event → List Event → Type 0

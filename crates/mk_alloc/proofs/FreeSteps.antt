@@ -19,7 +19,7 @@ use Rattle.mk_alloc.proofs.{Looks.caller_has_call, MayAct.{free_is_acting, may_f
 use Rattle.mk_alloc.proofs.{Unchanged.{HasCall, OfCaller, call_behind}, FreedOnce.frees_now}
 use Rattle.mk_alloc.proofs.{LoadedFrees.{loaded_undecided, value_kept}, Reaching.{made_in, reaches_at_once}}
 use Rattle.mk_alloc.proofs.{Serves.out_of_stop, Takes.one_bit_more}
-use Rattle.mk_alloc.specs.{Deciding.MayFreeOn, Retiring.{HasSeen, seen_free}}
+use Rattle.mk_alloc.specs.{FreeParts.MayFreeOn, Retiring.{HasSeen, seen_free}}
 
 -- The look at the quarantine word of a Free's target: where its freed bit is set, the Free is a double one.
 

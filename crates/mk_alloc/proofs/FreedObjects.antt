@@ -22,16 +22,16 @@ use Rattle.mk_caller.proofs.Below.Laws.Vocabulary.{typed_size, use_under, words_
 use Rattle.mk_caller.proofs.Below.Laws.Vocabulary.{◌==◌, ◌∙◌, ◌≡◌, ◌≢◌, ◌≤◌}
 use Rattle.mk_caller.proofs.Below.Laws.ImagesBefore.{Stands, ready_of, stands_of}
 use Rattle.mk_caller.proofs.Below.Laws.InvariantHistories.{allocations_stand, told_to_images}
-use Rattle.mk_caller.proofs.{Below.Laws.KnownWorlds.{KnownWorld, known_world}, Below.Laws.GrantMoves.pointer_cell}
-use Rattle.mk_caller.proofs.{Below.Laws.ImagesKept.base_at, Below.Laws.Ready.Ready, Below.Laws.RegMoves.flight}
-use Rattle.mk_caller.proofs.{Below.Laws.Settled.unreleased_are_apart, Below.Laws.ImagePremises.IsLaidOut}
-use Rattle.mk_caller.specs.Below.Laws.SettledPages.{StandsUsed}
+use Rattle.mk_caller.proofs.Below.Laws.{KnownWorlds.{KnownWorld, known_world}, GrantMoves.pointer_cell}
+use Rattle.mk_caller.proofs.Below.Laws.{ImagesKept.base_at, Ready.Ready, RegMoves.flight}
+use Rattle.mk_caller.proofs.Below.Laws.{Settled.unreleased_are_apart, ImagePremises.IsLaidOut}
+use Rattle.mk_caller.specs.Below.Laws.Theorems.{StandsUsed}
 use Rattle.mk_alloc.proofs.ObjectVocabulary.{IsBase, IsFreeAt, IsOutOfStop, IsTurn, PassState, call_of, freed_and_fresh}
 use Rattle.mk_alloc.proofs.ObjectVocabulary.{held_by_allocations, histories_keep_the_invariant, loaded_free, now_of}
 use Rattle.mk_alloc.proofs.{ObjectVocabulary.{value_of, world_of}, HeldFreed.{freed_one, held_part, held_set}}
 use Rattle.mk_alloc.proofs.{HeldFreed.{large_part, live_part, small_part}, LoadedFrees.loaded_undecided}
 use Rattle.mk_alloc.proofs.{Looks.acting_caller, MayAct.{free_is_acting, off_four}, RunHeaders.made_use}
-use Rattle.mk_books.specs.{Members.page_at, Runs.StandsOn}
+use Rattle.mk_books.specs.KnownPages.{page_at, StandsOn}
 use Rattle.mk_geom.{proofs.ClassTable.{class_words_within}, specs.PageUses.{PartOfRun}}
 use Rattle.mk_core.proofs.{ObjectHeaders.part_heads_run, StandingAllocations.placed_cell}
 

@@ -6,17 +6,17 @@ use Rattle.mk_caller.proofs.Below.Laws.Vocabulary.{append_assoc, arith, cases_Bo
 use Rattle.mk_caller.proofs.Below.Laws.Vocabulary.{false_from_ne_true, first_world, flight_of, found, if◌then◌else◌}
 use Rattle.mk_caller.proofs.Below.Laws.Vocabulary.{inl, inr, is_one_of, left, left_more, length, not, not-true, refl}
 use Rattle.mk_caller.proofs.Below.Laws.Vocabulary.{subst, sym, true, true≢false, world_behind, [], ◌&&◌, ◌++◌, ◌||◌}
-use Rattle.mk_caller.proofs.{Below.Laws.Vocabulary.{◌∙◌, ◌∷◌, ◌≡◌, ◌⊎◌}, Below.Laws.LastEvents.{comes_last, stands}}
-use Rattle.mk_caller.proofs.{Below.Laws.Actors.is_holders, Below.Laws.FramesHolders.acts_as_holder}
-use Rattle.mk_caller.proofs.{Below.Laws.Known.holds_turn, Below.Laws.Orderly.same_holder}
-use Rattle.mk_caller.proofs.{Below.Laws.OrderlyLists.actor_of, Below.Laws.ProtocolFrames.{other_seat, others_leave}}
-use Rattle.mk_caller.proofs.{Below.Laws.Views.view_of, Below.Words.Doing.none_own}
-use Rattle.mk_caller.proofs.{Below.Words.Seats.{only_one, same_seat, same_self}, Below.Words.TurnSteps.still_turn}
+use Rattle.mk_caller.proofs.Below.Laws.{Vocabulary.{◌∙◌, ◌∷◌, ◌≡◌, ◌⊎◌}, LastEvents.{comes_last, stands}}
+use Rattle.mk_caller.proofs.Below.Laws.{Actors.is_holders, FramesHolders.acts_as_holder}
+use Rattle.mk_caller.proofs.Below.Laws.{Known.holds_turn, Orderly.same_holder}
+use Rattle.mk_caller.proofs.Below.Laws.{OrderlyLists.actor_of, ProtocolFrames.{other_seat, others_leave}}
+use Rattle.mk_caller.proofs.Below.{Laws.Views.view_of, Words.Doing.none_own}
+use Rattle.mk_caller.proofs.Below.Words.{Seats.{only_one, same_seat, same_self}, TurnSteps.still_turn}
 use Rattle.mk_alloc.proofs.ObjectVocabulary.{Does, FreesOnce, IsAsLeft, IsOverQuarter, IsTurn, PassState, WordsState}
 use Rattle.mk_alloc.proofs.{ObjectVocabulary.{event_of, now_of, turn_stays, world_of}, Reaching.MadeIn}
-use Rattle.mk_alloc.specs.{Deciding.{FreesOnly, event_frees}, Retired.IsDueSince}
-use Rattle.mk_caller.specs.{Below.Words.Doing.are_of, Below.Words.Seats.Has}
-use Rattle.mk_core.specs.{Growing.{AreOfOthers, Finding, is_same_seat, own_from}, Allocations.unreleased_storage}
+use Rattle.mk_alloc.specs.{FreeParts.{FreesOnly, event_frees}, Retiring.IsDueSince}
+use Rattle.mk_caller.specs.Below.Words.{Steps.are_of, States.Has}
+use Rattle.mk_core.specs.{History.{AreOfOthers, Finding, is_same_seat, own_from}, Allocations.unreleased_storage}
 use Rattle.mk_core.specs.Counts.{decides_freed}
 
 -- Two ways to part one list.

@@ -16,12 +16,12 @@ use Rattle.mk_alloc.proofs.ListParts.{Lacks, SomeKind, cycle_in, lacks_append, l
 use Rattle.mk_alloc.proofs.{ListParts.stands, Parts.{Part, part_lacks, seen_by, seen_then}}
 use Rattle.mk_alloc.proofs.UnsweptTurns.{kinds_keep, kinds_yet, turn_keeps, turn_keeps_yet}
 use Rattle.mk_alloc.proofs.CycleParts.{EndsIn, begins_held}
-use Rattle.mk_alloc.{proofs.Stretches.{SomeKinds, Within}, specs.TurnCycles.{CycleIsOn}, specs.Underway.KeepsYet}
+use Rattle.mk_alloc.{proofs.Stretches.{SomeKinds, Within}, specs.{TurnCycles.CycleIsOn, Rooms.KeepsYet}}
 use Rattle.mk_caller.proofs.Below.Laws.Vocabulary.{register_at}
-use Rattle.mk_alloc.specs.{Retired.{DecidesFree, FindsFreed, Retires}, Retiring.{IsUnloaded, is_freeing, is_loading}}
+use Rattle.mk_alloc.specs.Retiring.{DecidesFree, FindsFreed, Retires, IsUnloaded, is_freeing, is_loading}
 use Rattle.mk_never.specs.Admitted.{IsBase}
 use Rattle.mk_core.specs.Cycles.{BeginsAndEndsIn, BeginsIn}
-use Rattle.mk_cycle.specs.Ways.{Ways}
+use Rattle.mk_cycle.specs.EngineLaw.{Ways}
 use Rattle.mk_caller.specs.States as caller
 
 -- What the turn of a Free does with cycles, by the events after its `take`.

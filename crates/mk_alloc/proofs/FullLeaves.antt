@@ -2,7 +2,7 @@
 use Rattle.mk_caller.proofs.Below.Laws.Vocabulary.{changed_at, get_or-set_other, holder_may, is_mapped, kinds_of}
 use Rattle.mk_caller.proofs.Below.Laws.Vocabulary.{length-map, no_longer_fresh, placed_at, with_released}
 use Rattle.mk_caller.proofs.Below.Laws.Basics.{WorldBehind, exists_placed, stands_of, unmapped_is}
-use Rattle.mk_caller.proofs.{Below.Laws.GrantMoves.wiped_outside, Below.Laws.ImagesBefore.words_are}
+use Rattle.mk_caller.proofs.Below.Laws.{GrantMoves.wiped_outside, ImagesBefore.words_are}
 use Rattle.mk_caller.proofs.Below.Words.Doing.{not_own}
 use Rattle.mk_alloc.proofs.Vocabulary.{Bool, Cell, Config, Event, Flight, Has, IsHistory, List, Makes, Moment, Op}
 use Rattle.mk_alloc.proofs.Vocabulary.{Option, OwnLeaveAllButReleased, PassState, PlacedAllocation, Seat, Some, Step}
@@ -16,8 +16,8 @@ use Rattle.mk_alloc.proofs.{Vocabulary.{◌≢◌, ◌⊎◌}, CalmStretches.{cy
 use Rattle.mk_alloc.proofs.Stretches.{First, IsOwn, Stretch, Within, call_in, does_stretch, first_of, first_part}
 use Rattle.mk_alloc.proofs.{FreedTurns.is_quar, Going.IsCallers, Parts.{Part, seen_after, seen_by}}
 use Rattle.mk_core.proofs.RegisterAccesses.{tally_leaves_registers}
-use Rattle.mk_core.specs.{Growing.AreOfOthers, History.left_from, TurnConditions.may_wipe}
-use Rattle.mk_alloc.specs.Leaving.{KeepsItsWords, LeavesAllButReleased, OwnLeaveFrom, StaysOrIsReleased}
+use Rattle.mk_core.specs.{History.{AreOfOthers, left_from}, TurnConditions.may_wipe}
+use Rattle.mk_alloc.specs.Rooms.{KeepsItsWords, LeavesAllButReleased, OwnLeaveFrom, StaysOrIsReleased}
 
 -- the kinds of the call's own steps
 

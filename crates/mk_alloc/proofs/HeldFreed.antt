@@ -1,5 +1,5 @@
 -- What one freed object changes among the allocations, and of the held words.
-use Rattle.std.proofs.{Common.ext_get_or, Common.sum_by, lemmas.List.Sums.sum_by-set}
+use Rattle.std.proofs.{Common.{ext_get_or, sum_by}, lemmas.List.Sums.sum_by-set}
 use Rattle.mk_caller.proofs.Below.Laws.Vocabulary.{Bool, Cell, Config, List, PlacedAllocation, Some, Storage, Words, ℕ}
 use Rattle.mk_caller.proofs.Below.Laws.Vocabulary.{ap, arith, cases_eq, changed_at, cond-false, cond-true, false}
 use Rattle.mk_caller.proofs.Below.Laws.Vocabulary.{freed_leaves, freed_where_it_stands, get_or-set_other}
@@ -8,7 +8,7 @@ use Rattle.mk_caller.proofs.Below.Laws.Vocabulary.{kinds_of, length, length-map,
 use Rattle.mk_caller.proofs.Below.Laws.Vocabulary.{placed_at, refl, slice_set, stands_in, storage_of, storage_words}
 use Rattle.mk_caller.proofs.Below.Laws.Vocabulary.{sym, true, [], ◌+◌, ◌<◌, ◌∙◌, ◌∷◌, ◌≡◌, ◌≢◌}
 use Rattle.mk_alloc.proofs.ObjectVocabulary.{freed_and_fresh, held_by_allocations, sum_by-cons}
-use Rattle.mk_geom.specs.StorageWords.{held_by_storages}
+use Rattle.mk_geom.specs.Storages.{held_by_storages}
 use Rattle.mk_core.specs.Allocations.{unreleased_storage}
 
 -- what one allocation holds

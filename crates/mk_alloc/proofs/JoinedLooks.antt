@@ -3,13 +3,13 @@ use Rattle.mk_caller.proofs.Below.Laws.Vocabulary.{Answer, Bool, Config, Decided
 use Rattle.mk_caller.proofs.Below.Laws.Vocabulary.{Place, Seat, Some, Steady, Step, World, and_from, and_parts, ap}
 use Rattle.mk_caller.proofs.Below.Laws.Vocabulary.{append-nil, append_assoc, arith, caller_number, entry_of, flight_of}
 use Rattle.mk_caller.proofs.Below.Laws.Vocabulary.{is_undecided_new, left, phase_of, place_on_pages, refl, subst, sym}
-use Rattle.mk_caller.{proofs.Below.Laws.Vocabulary.{true, [], ◌++◌, ◌∙◌, ◌∷◌, ◌≡◌}, specs.Below.Words.Doing.{are_of}}
+use Rattle.mk_caller.{proofs.Below.Laws.Vocabulary.{true, [], ◌++◌, ◌∙◌, ◌∷◌, ◌≡◌}, specs.Below.Words.Steps.{are_of}}
 use Rattle.mk_alloc.proofs.ObjectVocabulary.{ComesTo, Does, GoesTo, IsAsLeft, IsGrantedAt, IsOutOfStop, IsUnplaced}
 use Rattle.mk_alloc.proofs.ObjectVocabulary.{OnlyLooks, PassState, call_of, does_then, entry_for, is_look, now_of}
 use Rattle.mk_alloc.proofs.{ObjectVocabulary.{object_for, own_calls, world_of}, Reaching.{counts_then, reaches_nothing}}
 use Rattle.mk_alloc.proofs.{Reaching.seeing, Unchanged.{left_joined, left_same}}
 use Rattle.mk_alloc.specs.Placing.{HeldIsExact, IsGranted, serves_at}
-use Rattle.mk_core.specs.Growing.{Finding}
+use Rattle.mk_core.specs.History.{Finding}
 
 are_wider : (narrow wide : Step → Bool) → ((s : Step) → narrow s ≡ true → wide s ≡ true) → (xs : List Finding)
     → are_of narrow xs ≡ true → are_of wide xs ≡ true

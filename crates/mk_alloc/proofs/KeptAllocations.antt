@@ -3,8 +3,8 @@ use Rattle.mk_caller.proofs.Below.Laws.Vocabulary.{AreEnabledFrom, Releasing, Wo
 use Rattle.mk_caller.proofs.Below.Laws.Vocabulary.{left_append, not-true, through_release}
 use Rattle.mk_caller.proofs.Below.Laws.CyclePhases.{begin_is, close_is, moves_phase, phases_go_on, release_is}
 use Rattle.mk_caller.proofs.Below.Laws.Ground.{allocation_step, goes_on}
-use Rattle.mk_caller.proofs.{Below.Laws.PrecisionStopped.keeps_only_the_touched, Below.Laws.ProtocolStepKinds.end_is}
-use Rattle.mk_caller.proofs.{Below.Laws.Stretches.at_release, Below.Laws.UnmappedRuns.unmapped_runs_take_no_memory}
+use Rattle.mk_caller.proofs.Below.Laws.{PrecisionStopped.keeps_only_the_touched, ProtocolStepKinds.end_is}
+use Rattle.mk_caller.proofs.Below.Laws.{Stretches.at_release, UnmappedRuns.unmapped_runs_take_no_memory}
 use Rattle.mk_alloc.proofs.QuarantineVocabulary.{AsksPhase, At, Bool, Cell, Config, Event, IsHistory, IsKeptByLastCycle}
 use Rattle.mk_alloc.proofs.QuarantineVocabulary.{Lacks, List, Next, OfHistories, Option, PlacedAllocation, Seat, Step}
 use Rattle.mk_alloc.proofs.QuarantineVocabulary.{World, WorldBehind, ℕ, and_parts, ap, append-nil, append_assoc, arith}
@@ -16,7 +16,7 @@ use Rattle.mk_alloc.proofs.QuarantineVocabulary.{left_in_parts, length, length-a
 use Rattle.mk_alloc.proofs.QuarantineVocabulary.{phase_behind, phase_of, placed_at, refl, subst, sym, true, true≢false}
 use Rattle.mk_alloc.proofs.QuarantineVocabulary.{world_behind, [], ◌++◌, ◌<◌, ◌∙◌, ◌∷◌, ◌≡◌, ◌⊎◌}
 use Rattle.mk_alloc.proofs.{HeldTurns.{Last, last_of, next_of}, ListParts.lacks_second}
-use Rattle.mk_alloc.specs.{KeptAllocations.{KeptAreTouched, QuarantineIsFreshOrKept}, Bounds.FreedRunsTakeNoMemory}
+use Rattle.mk_alloc.specs.Bounds.{KeptAreTouched, QuarantineIsFreshOrKept, FreedRunsTakeNoMemory}
 use Rattle.mk_core.{proofs.ChangedAllocations.{granted_at}, specs.{Cycles.before_begin, History.left_from}}
 
 -- Where the turn is free, a freed large allocation takes no memory: no Free is unmapping a run.

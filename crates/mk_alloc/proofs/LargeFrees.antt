@@ -12,8 +12,8 @@ use Rattle.mk_alloc.proofs.FreedObjects.{its_freed, its_run, large_held, object_
 use Rattle.mk_alloc.proofs.JoinedLooks.{reached_table, reached_world, reaches_wider}
 use Rattle.mk_alloc.proofs.SmallFrees.{freed_now, frees_counted, fresh_told_by, tally_between}
 use Rattle.mk_alloc.proofs.{ClearedRuns.{IsGoneIn, still_gone}, Serves.out_of_stop}
-use Rattle.mk_alloc.specs.{Deciding.ClearsRun, FreeParts.MayUnmap}
-use Rattle.mk_books.specs.Runs.{StandsOn}
+use Rattle.mk_alloc.specs.FreeParts.{ClearsRun, MayUnmap}
+use Rattle.mk_books.specs.KnownPages.{StandsOn}
 use Rattle.mk_geom.specs.PageUses.{PartOfRun}
 
 -- what heads a run

@@ -9,13 +9,13 @@ use Rattle.mk_caller.proofs.Below.Laws.Vocabulary.{entry_of, eqb-true, false, fl
 use Rattle.mk_caller.proofs.Below.Laws.Vocabulary.{is_held, is_undecided_free, left, lt-ltb, never_behind, progress_reg}
 use Rattle.mk_caller.proofs.Below.Laws.Vocabulary.{refl, reg_access, register_at, register_met, register_word, shown}
 use Rattle.mk_caller.proofs.Below.Laws.Vocabulary.{subst, sym, true, world_behind, [], ◌%◌, ◌*◌, ◌++◌, ◌+◌, ◌/◌, ◌<◌}
-use Rattle.mk_caller.proofs.{Below.Laws.Vocabulary.{◌==◌, ◌∙◌, ◌∷◌, ◌≡◌}, Below.Laws.SeatFrames.admitted_others_leave}
+use Rattle.mk_caller.proofs.Below.Laws.{Vocabulary.{◌==◌, ◌∙◌, ◌∷◌, ◌≡◌}, SeatFrames.admitted_others_leave}
 use Rattle.mk_alloc.proofs.ObjectVocabulary.{Acts, CallIsAt, IsAsLeft, IsBase, IsEnabledTo, IsFreeAt, IsTurn, Known}
 use Rattle.mk_alloc.proofs.ObjectVocabulary.{PassState, answers_full, call_of, event_of, histories_keep_the_invariant}
 use Rattle.mk_alloc.proofs.ObjectVocabulary.{loaded_free, now_of, steady_of, value_of, world_of}
 use Rattle.mk_alloc.proofs.{Looks.caller_has_call, MayAct.asked_more, Reaching.{IsCallers, made_in, reaches_at_once}}
 use Rattle.mk_alloc.{proofs.Unchanged.{HasCall, OfCaller, call_behind}, specs.Retiring.{HasLoaded, IsUnloaded}}
-use Rattle.mk_caller.specs.{Below.Words.CallSteps.register_of, Below.Words.Steps.IsAdmittedTo}
+use Rattle.mk_caller.specs.Below.Words.Steps.{register_of, IsAdmittedTo}
 use Rattle.mk_never.proofs.{Later.calls_stay, Parts.admitted_join}
 use Rattle.mk_core.{proofs.Conditions.{meets_enabled}, specs.{Effects.moment_behind, History.never_first}}
 

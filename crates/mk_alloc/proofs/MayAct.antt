@@ -17,7 +17,8 @@ use Rattle.mk_caller.proofs.Below.Laws.Vocabulary.{◌*◌, ◌++◌, ◌<◌, �
 use Rattle.mk_alloc.proofs.ObjectVocabulary.{IsAdmittedBehind, IsOutOfStop, calls_more, is_acting, is_steady_word}
 use Rattle.mk_never.proofs.{Later.calls_stay, Parts.admitted_join}
 use Rattle.mk_core.{proofs.Conditions.{meets_enabled}, specs.TurnConditions.{is_in_gone_run, takes_snapshot}}
-use Rattle.mk_core.specs.{History.never_first, Order.{is_in_order, is_of_any_holder, may_decide_new}, Ranges.is_word}
+use Rattle.mk_core.specs.{History.never_first, Conditions.{is_in_order, is_of_any_holder, may_decide_new}}
+use Rattle.mk_core.specs.Conditions.{is_word}
 
 -- A seat that is acting is a caller's, and has the steps of any holder next.
 

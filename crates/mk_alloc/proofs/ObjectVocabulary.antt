@@ -6,19 +6,19 @@ pub use Rattle.mk_core.proofs.Histories.{calls_more}
 pub use Rattle.mk_core.specs.{Allocations.held_by_allocations, Effects.words_freed, Frames.steady_of}
 pub use Rattle.mk_core.specs.{History.IsAdmittedBehind, Moments.none_is_held, NewPlaces.bits_made}
 pub use Rattle.mk_caller.proofs.Below.Laws.InvariantHistories.{histories_keep_the_invariant}
-pub use Rattle.mk_caller.proofs.{Below.Laws.Known.{Known, known_left}, Below.Laws.OthersCounts.answers_full}
-pub use Rattle.mk_caller.proofs.{Below.Laws.Tests.all_below_from, Below.Words.Doing.does_then}
+pub use Rattle.mk_caller.proofs.Below.Laws.{Known.{Known, known_left}, OthersCounts.answers_full}
+pub use Rattle.mk_caller.proofs.Below.{Laws.Tests.all_below_from, Words.Doing.does_then}
 pub use Rattle.mk_caller.proofs.Below.Words.Undecided.{decides_nothing}
-pub use Rattle.mk_caller.specs.{Called.own_calls, Below.Words.Doing.Does, Below.Words.Steps.IsEnabledTo}
-pub use Rattle.mk_caller.specs.{Below.Words.TurnSteps.{Acts, turn_stays}, Below.Words.States.{IsTurn, PassState}}
+pub use Rattle.mk_caller.specs.{Called.own_calls, Below.Words.Steps.{Does, IsEnabledTo}}
+pub use Rattle.mk_caller.specs.Below.Words.{TurnSteps.{Acts, turn_stays}, States.{IsTurn, PassState}}
 pub use Rattle.mk_caller.specs.Below.Words.States.{TurnState, WordsState, call_of, event_of, now_of, world_of}
-pub use Rattle.mk_alloc.specs.Deciding.{FreesCell, FreesOnce, IsOverQuarter, MayFree, StaysSo}
+pub use Rattle.mk_alloc.specs.FreeParts.{FreesCell, FreesOnce, IsOverQuarter, MayFree, StaysSo}
 pub use Rattle.mk_alloc.specs.FreeParts.{is_following, Changes, HasGates, RunIsUnmapped, RunIsWiped, SetsGate}
 pub use Rattle.mk_alloc.specs.FreeParts.{SetsGates, SetsTally, Unmaps, Wipes, all_others, is_settling, is_tallying}
-pub use Rattle.mk_alloc.specs.{FreeParts.{with_tally, WipesTo}, Looking.{is_acting, is_steady_word, IsAsLeft}}
+pub use Rattle.mk_alloc.specs.{FreeParts.{with_tally, WipesTo}, Placing.{is_acting, is_steady_word, IsAsLeft}}
 pub use Rattle.mk_alloc.specs.Placing.{ComesTo, GoesTo, HasCarved, IsGrantedAt, IsOutOfStop, IsUnplaced, MayTake}
 pub use Rattle.mk_alloc.specs.Placing.{OnlyLooks, entry_for, is_look, is_placing, object_at_place, object_for, Carving}
-pub use Rattle.mk_alloc.specs.{Placing.{IsCellReady, Serving}, Retired.freed_and_fresh, Retiring.{CallIsAt, HasFreed}}
+pub use Rattle.mk_alloc.specs.{Placing.{IsCellReady, Serving}, Retiring.{freed_and_fresh, CallIsAt, HasFreed}}
 pub use Rattle.mk_alloc.specs.Retiring.{IsFreeAt, IsFreedAt, is_freeing, is_loading, loaded_free, is_freeing_small}
 pub use Rattle.mk_caller.specs.States.{value_of}
 

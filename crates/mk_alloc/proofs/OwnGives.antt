@@ -1,7 +1,7 @@
 -- Lists in which a seat gives no turn back: its turns stay exact after them.
 use Rattle.std.proofs.Math.Bool.{and-false}
 use Rattle.mk_caller.proofs.Below.Laws.Vocabulary.{false_from_ne_true, list_any}
-use Rattle.mk_caller.specs.{Below.Words.Doing.done_in, Called.steps_made}
+use Rattle.mk_caller.specs.{Below.Words.Steps.done_in, Called.steps_made}
 use Rattle.mk_alloc.proofs.Vocabulary.{Answer, Bool, Config, Does, EndsExactly, Event, Finding, Has, List, Makes, Op}
 use Rattle.mk_alloc.proofs.Vocabulary.{PassState, Seat, Stage, Step, TurnsOfAreExact, World, and_from, and_parts, ap}
 use Rattle.mk_alloc.proofs.Vocabulary.{append-nil, are_of, arith, event_of, false, found, if◌then◌else◌, is_same_seat}
@@ -9,7 +9,7 @@ use Rattle.mk_alloc.proofs.Vocabulary.{list_all, list_any-append, map, not, not-
 use Rattle.mk_alloc.proofs.Vocabulary.{own_steps, refl, same_seat, same_self, stages_made, step_at, subst, sym, true}
 use Rattle.mk_alloc.proofs.Vocabulary.{turn_stays, world_behind, world_of, [], ⊎_elim, ◌&&◌, ◌++◌, ◌∙◌, ◌∷◌, ◌≡◌}
 use Rattle.mk_alloc.proofs.ListParts.{InFirst, InSecond, stands}
-use Rattle.mk_core.specs.{Cycles.is_give, Growing.{AreOfOthers, own_from}}
+use Rattle.mk_core.specs.{Cycles.is_give, History.{AreOfOthers, own_from}}
 
 abbrev pub own_give : Seat → Event → Bool
 own_give s e = is_same_seat s e.seat && is_give e.step

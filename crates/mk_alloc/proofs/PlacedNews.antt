@@ -7,16 +7,16 @@ use Rattle.mk_caller.proofs.Below.Laws.Vocabulary.{slice_index_or, true, uses_of
 use Rattle.mk_caller.proofs.Below.Laws.InvariantHistories.{first_fit_finds_the_place}
 use Rattle.mk_caller.proofs.Below.Laws.LayoutHolders.{seat_operands}
 use Rattle.mk_caller.proofs.Below.Words.Sweeping.{does_sweep, other_step_sweeps, step_sweeps, step_then_sweeps}
-use Rattle.mk_caller.proofs.{Below.Words.Sweeping.sweeps_then, Below.Words.StoredHeads.heads_leave}
+use Rattle.mk_caller.proofs.Below.Words.{Sweeping.sweeps_then, StoredHeads.heads_leave}
 use Rattle.mk_alloc.proofs.ObjectVocabulary.{Acts, GoesTo, HasCarved, IsTurn, IsUnplaced, MayTake, OnlyLooks, PassState}
 use Rattle.mk_alloc.proofs.ObjectVocabulary.{WordsState, bits_made, call_of, is_look, known_left, now_of, object_for}
 use Rattle.mk_alloc.proofs.JoinedLooks.{goes_to, looks_call, looks_left, looks_table, looks_unplaced}
 use Rattle.mk_alloc.proofs.{Serving.{place_same, serving_left, serving_marks}, Looks.{acting_caller, acting_now}}
 use Rattle.mk_alloc.proofs.{MayAct.new_is_acting, Reaching.kept_by, RunHeaders.{made_use, made_word}}
 use Rattle.mk_alloc.proofs.{Serves.{KnowsPlace, head_may, heads_on, knows_place}, Takes.unplaced_settled}
-use Rattle.mk_caller.specs.Below.Words.RunSteps.{MayStoreHeads, StoresHeads}
+use Rattle.mk_caller.specs.Below.Words.TurnSteps.{MayStoreHeads, StoresHeads}
 use Rattle.mk_caller.specs.Below.Words.Sweeping.{SweepsNothing, is_mark}
-use Rattle.mk_books.specs.Runs.{HeadersSay, run_word}
+use Rattle.mk_books.specs.KnownPages.{HeadersSay, run_word}
 use Rattle.mk_alloc.specs.{declared.objects.Shape.Shape, Placing.{IsPlaced, IsServed, place_now_for, object_shaped}}
 use Rattle.mk_geom.specs.PageUses.{PartOfRun, place_on_uses}
 use Rattle.mk_core.specs.Calls.{has_type}

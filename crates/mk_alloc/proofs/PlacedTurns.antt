@@ -10,9 +10,9 @@ use Rattle.mk_alloc.proofs.Vocabulary.{releases, same_config, steady_of, subst, 
 use Rattle.mk_alloc.proofs.{Vocabulary.{undecided_new, world_of, [], ◌++◌, ◌∙◌, ◌∷◌, ◌≡◌}, Parts.{Part, seen_behind}}
 use Rattle.mk_alloc.proofs.{Parts.seen_by, Stretches.{Here, Stretch, along, does_stretch, holds_none, widened}}
 use Rattle.mk_alloc.proofs.{FreedTurns.given_is_decided, Going.{quiet_kept, same_phase}, JoinedLooks.looks_call}
-use Rattle.mk_alloc.{proofs.Reaching.{counts_more}, specs.{Placing.object_at_place, Looking.IsAsLeft}}
-use Rattle.mk_caller.proofs.{Below.Laws.Vocabulary.Progress, Below.Laws.Basics.{none_on_its_way, tally_keeps}}
-use Rattle.mk_caller.proofs.{Below.Laws.FreshWords.fresh_pushed, Below.Laws.OthersCounts.{answers_full, counts_nothing}}
+use Rattle.mk_alloc.{proofs.Reaching.{counts_more}, specs.{Placing.object_at_place, Placing.IsAsLeft}}
+use Rattle.mk_caller.proofs.Below.Laws.{Vocabulary.Progress, Basics.{none_on_its_way, tally_keeps}}
+use Rattle.mk_caller.proofs.Below.Laws.{FreshWords.fresh_pushed, OthersCounts.{answers_full, counts_nothing}}
 use Rattle.mk_core.specs.Effects.{holding_behind}
 use Rattle.mk_cycle.{proofs.{BeginSteps.none_held_kept, KeptInParts.held_so}, specs.TurnKeeps.{IsGone}}
 

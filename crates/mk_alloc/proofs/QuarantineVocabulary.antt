@@ -5,7 +5,7 @@ pub use Rattle.mk_caller.proofs.Below.Laws.Basics.{HoldsTurn, KeptByEvents, Know
 pub use Rattle.mk_caller.proofs.Below.Laws.Basics.{before_it, free_has_turn, holds_of_histories, known_left, reg_leaves}
 pub use Rattle.mk_caller.proofs.Below.Laws.Basics.{tally_keeps, turn_of, view_of}
 pub use Rattle.mk_caller.proofs.Below.Laws.CyclePhases.{AsksPhase, phase_asked, phase_behind}
-pub use Rattle.mk_caller.proofs.{Below.Laws.Longer.{longer_at, taken}, Below.Laws.Vocabulary.{At, Bool, Caller, Cell}}
+pub use Rattle.mk_caller.proofs.Below.Laws.{Longer.{longer_at, taken}, Vocabulary.{At, Bool, Caller, Cell}}
 pub use Rattle.mk_caller.proofs.Below.Laws.Vocabulary.{Config, Event, Flight, Holding, Host, IsHistory, List, Marker}
 pub use Rattle.mk_caller.proofs.Below.Laws.Vocabulary.{Moment, None, OfHistories, Op, Option, PlacedAllocation, Seat}
 pub use Rattle.mk_caller.proofs.Below.Laws.Vocabulary.{Some, Step, TurnOf, World, [], and_from, and_parts, ap}
@@ -22,7 +22,7 @@ pub use Rattle.mk_caller.proofs.Below.Laws.Vocabulary.{placed_at, refl, seat_exi
 pub use Rattle.mk_caller.proofs.Below.Laws.Vocabulary.{true, true≢false, with_released, world_behind, ℕ, ◌&&◌, ◌*◌}
 pub use Rattle.mk_caller.proofs.Below.Laws.Vocabulary.{◌++◌, ◌+◌, ◌<◌, ◌||◌, ◌∙◌, ◌∷◌, ◌≡◌, ◌≤◌, ◌⊎◌}
 pub use Rattle.mk_alloc.specs.Bounds.{FreshIsQuarterOfHeld, HostBeginsLast, fresh_after, held_after}
-pub use Rattle.mk_alloc.specs.{Bounds.{given_back, given_back_behind}, KeptAllocations.IsKeptByLastCycle}
+pub use Rattle.mk_alloc.specs.Bounds.{given_back, given_back_behind, IsKeptByLastCycle}
 pub use Rattle.mk_alloc.proofs.ListParts.{InFirst, InSecond, Lacks, lacks_append, lacks_at, lacks_first, lacks_one}
 pub use Rattle.mk_alloc.{proofs.{ListParts.stands, OwnGives.{GivesNone, own_give}}, specs.TurnCycles.{CallIsExact}}
 pub use Rattle.mk_alloc.proofs.Vocabulary.{EndsExactly, TurnsOfAreExact, has_step, held_by_allocations, is_of_cycle}

@@ -12,7 +12,7 @@ use Rattle.mk_alloc.proofs.CountedWords.{IsQuarter, filtered_in_parts, given_mor
 use Rattle.mk_alloc.proofs.EndedFrees.{CallersAreExact, EndedFree, ended_free}
 use Rattle.mk_alloc.proofs.OpenFrees.{FreesNoneFrom, frees_none_at}
 use Rattle.mk_alloc.specs.Bounds.{FreshIsQuarterWithGivenBack, QuarantineIsQuarterAndKept}
-use Rattle.mk_alloc.specs.KeptAllocations.{kept_mapped, quarantined_mapped}
+use Rattle.mk_alloc.specs.Bounds.{kept_mapped, quarantined_mapped}
 use Rattle.mk_core.specs.History.{left_from}
 
 -- A free is due, and no cycle was begun since.

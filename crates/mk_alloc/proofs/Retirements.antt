@@ -18,9 +18,10 @@ use Rattle.mk_alloc.proofs.{FreedOnce.{none_due, once_behind}, JoinedLooks.{look
 use Rattle.mk_alloc.proofs.JoinedLooks.{reached_table, reached_world, reaches_after, reaches_answered, reaches_named}
 use Rattle.mk_alloc.proofs.{JoinedLooks.{reaches_so, reaches_wider}, Serves.out_of_stop}
 use Rattle.mk_alloc.proofs.{LoadedFrees.loaded_undecided, MayAct.free_is_acting, SmallFrees.{exact_still, none_held}}
-use Rattle.mk_alloc.specs.{Deciding.{IsDecidedAt, MayFreeOn, counted}, Retiring.{HasLoaded, HasSeen, IsLoaded}}
-use Rattle.mk_alloc.specs.{Retiring.{IsUnloaded, KeepsValues, entry_seen, seen_free}, Retired.{DecidesFree, FindsFreed}}
-use Rattle.mk_alloc.specs.Retired.{IsFreed, Retires, freeing_kinds, kinds_for, with_freed_object}
+use Rattle.mk_alloc.specs.{FreeParts.{IsDecidedAt, MayFreeOn, counted}, Retiring.{HasLoaded, HasSeen, IsLoaded}}
+use Rattle.mk_alloc.specs.Retiring.{IsUnloaded, KeepsValues, entry_seen, seen_free}
+use Rattle.mk_alloc.specs.Retiring.{DecidesFree, FindsFreed}
+use Rattle.mk_alloc.specs.Retiring.{IsFreed, Retires, freeing_kinds, kinds_for, with_freed_object}
 use Rattle.mk_core.specs.Counts.{TalliesAreExact}
 
 -- A Free on its way: up to its `quar` it only loads, or comes to be decided.

@@ -10,9 +10,9 @@ use Rattle.mk_alloc.proofs.ListParts.{InFirst, InSecond, IsAt, Lacks, none_at, o
 use Rattle.mk_alloc.proofs.Parts.{AreApart, IsHolders, Part, StepBehind, part_lacks, seen_by, seen_then, step_behind}
 use Rattle.mk_alloc.proofs.Stretches.{AreOfTurn, SomeKinds, does_both, does_once, widened}
 use Rattle.mk_caller.proofs.Below.Words.Doing.{own_in_parts}
-use Rattle.mk_core.specs.Growing.{own_from}
-use Rattle.mk_cycle.specs.{FinishCycle.MakesFinish, Releasing.MakesRelease, Telling.IsToldAtClose}
-use Rattle.mk_alloc.specs.{Closes.{AreSaidAtCloses, EachIsSaid, IsSaid}, Rooms.SeesNone}
+use Rattle.mk_core.specs.History.{own_from}
+use Rattle.mk_cycle.specs.{FinishCycle.{MakesFinish, MakesRelease}, Stops.IsToldAtClose}
+use Rattle.mk_alloc.specs.{TurnCycles.{AreSaidAtCloses, EachIsSaid, IsSaid}, Rooms.SeesNone}
 
 -- A `close` is the holder's.
 pub closes_held : IsHolders is_close

@@ -9,7 +9,7 @@ use Rattle.mk_caller.proofs.Below.Laws.Vocabulary.{slice_index, slice_index_or, 
 use Rattle.mk_caller.proofs.Below.Laws.Vocabulary.{◌&&◌, ◌+◌, ◌<◌, ◌==◌, ◌||◌, ◌∙◌, ◌≡◌, ◌≢◌}
 use Rattle.mk_caller.specs.Below.Words.States.{TurnState}
 use Rattle.mk_cycle.proofs.HeldGates.{others_stay}
-use Rattle.mk_cycle.specs.{Holding.HoldsSuch, Stops.{HolderIsLoaded, is_loaded, is_loaded_at}}
+use Rattle.mk_cycle.specs.Stops.{HoldsSuch, HolderIsLoaded, is_loaded, is_loaded_at}
 use Rattle.mk_alloc.proofs.ObjectVocabulary.{Acts, Changes, ComesTo, HasGates, IsAsLeft, IsOutOfStop, IsTurn, PassState}
 use Rattle.mk_alloc.proofs.ObjectVocabulary.{SetsGate, SetsGates, SetsTally, WordsState, all_others, call_of}
 use Rattle.mk_alloc.proofs.ObjectVocabulary.{decides_nothing, held_from, is_acting, is_holding, is_settling}

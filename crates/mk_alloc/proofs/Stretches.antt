@@ -7,10 +7,10 @@ use Rattle.mk_alloc.proofs.Vocabulary.{does_wider, earlier_part_is_history, even
 use Rattle.mk_alloc.proofs.Vocabulary.{holds_turn, if◌then◌else◌, inl, inr, is_same_seat, known_left, left, left_after}
 use Rattle.mk_alloc.proofs.Vocabulary.{now_of, refl, same_seat, same_self, subst, sym, true, true≢false, turn_stays}
 use Rattle.mk_alloc.proofs.Vocabulary.{view_of, world_behind, [], ◌++◌, ◌∙◌, ◌∷◌, ◌≡◌, ◌≢◌, ◌⊎◌}
-use Rattle.mk_core.specs.Growing.{own_from}
-use Rattle.mk_caller.proofs.{Below.Laws.Basics.{Known, Meets, same_holder}, Below.Words.Doing.{none_own, others_are_so}}
-use Rattle.mk_caller.proofs.{Below.Words.Doing.own_in_parts, Below.Words.Seats.others_none}
-use Rattle.mk_caller.{proofs.Below.Words.TurnSteps.{still_turn}, specs.Below.Words.Doing.{AreOwnOrOfOthers}}
+use Rattle.mk_core.specs.History.{own_from}
+use Rattle.mk_caller.proofs.Below.{Laws.Basics.{Known, Meets, same_holder}, Words.Doing.{none_own, others_are_so}}
+use Rattle.mk_caller.proofs.Below.Words.{Doing.own_in_parts, Seats.others_none}
+use Rattle.mk_caller.{proofs.Below.Words.TurnSteps.{still_turn}, specs.Below.Words.Steps.{AreOwnOrOfOthers}}
 
 -- the pass, where it has seen these
 abbrev pub seeing : PassState → List Event → PassState

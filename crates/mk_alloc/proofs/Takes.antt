@@ -1,5 +1,5 @@
 -- The turn's holder takes the cell of its New's place, grants the object and counts it.
-use Rattle.std.proofs.{Common.bit_and, Math.Nat.div-le_self, lemmas.Nat.or_disjoint, lemmas.Nat.Bits.bit_at_and}
+use Rattle.std.proofs.{Common.bit_and, Math.Nat.div-le_self, lemmas.Nat.{or_disjoint, Bits.bit_at_and}}
 use Rattle.mk_caller.proofs.Below.Laws.Vocabulary.{Answer, AreOfPages, Caller, Config, Flight, IsHistory, IsSettled}
 use Rattle.mk_caller.proofs.Below.Laws.Vocabulary.{Object, Place, Seat, Some, Steady, Step, Tally, World, ℕ, address_of}
 use Rattle.mk_caller.proofs.Below.Laws.Vocabulary.{answer_decided, ap, arith, base_made, bit_or, caller_number}
@@ -7,7 +7,7 @@ use Rattle.mk_caller.proofs.Below.Laws.Vocabulary.{cells_made, cond-false, cond-
 use Rattle.mk_caller.proofs.Below.Laws.Vocabulary.{granted_base_is, granted_object, has_bit, has_operands}
 use Rattle.mk_caller.proofs.Below.Laws.Vocabulary.{is_undecided_new, left, length, ltb-true, phase_of, refl}
 use Rattle.mk_caller.proofs.Below.Laws.Vocabulary.{storage_words, sym, true, used_at, words_made, [], ◌%◌, ◌*◌, ◌+◌}
-use Rattle.mk_caller.proofs.{Below.Laws.Vocabulary.{◌<◌, ◌^◌, ◌∙◌, ◌≡◌, ◌≤◌}, Below.Laws.Tracked.unplaced_settles}
+use Rattle.mk_caller.proofs.Below.Laws.{Vocabulary.{◌<◌, ◌^◌, ◌∙◌, ◌≡◌, ◌≤◌}, Tracked.unplaced_settles}
 use Rattle.mk_alloc.proofs.ObjectVocabulary.{Acts, ComesTo, IsCellReady, IsEnabledTo, IsGrantedAt, IsOutOfStop}
 use Rattle.mk_alloc.proofs.ObjectVocabulary.{IsUnplaced, Known, MayTake, PassState, call_of, entry_for}
 use Rattle.mk_alloc.proofs.ObjectVocabulary.{held_by_allocations, is_acting, known_left, now_of, object_at_place}
@@ -18,8 +18,8 @@ use Rattle.mk_alloc.proofs.Serves.{free_pages_of, out_of_stop, place_unused, ser
 use Rattle.mk_alloc.proofs.Serving.{IsTakenAt, granted_behind, granted_left, ready_left, ready_takes, taken_behind}
 use Rattle.mk_alloc.proofs.{Serving.{taken_left, tallied_behind}, Looks.acts_there, Unchanged.acting_has_call}
 use Rattle.mk_alloc.specs.Placing.{HeldIsExact, serves_at}
-use Rattle.mk_caller.specs.{Below.Words.Steps.IsAdmittedTo, Below.Words.TurnSteps.granted_address}
-use Rattle.mk_core.{proofs.WordBits.{bit_for_small, bit_is_none, bit_of_power, zero_from_bits}, specs.Bits.{bit_for}}
+use Rattle.mk_caller.specs.Below.Words.{Steps.IsAdmittedTo, TurnSteps.granted_address}
+use Rattle.mk_core.{proofs.WordBits.{bit_for_small, bit_is_none, bit_of_power, zero_from_bits}, specs.Words.{bit_for}}
 
 -- A bit more, where it wasn't set.
 pub one_bit_more : (n k : ℕ) → k < 64 → has_bit n k ≡ false → bit_or n (1 * 2 ^ k % 2 ^ 64) ≡ n + 2 ^ k

@@ -6,13 +6,13 @@ use Rattle.mk_alloc.proofs.{Vocabulary.{◌≡◌, IsHistory, IsTurn, is_close},
 use Rattle.mk_alloc.proofs.{CalledTurns.GivenBack, ListParts.none_at, OwnGives.steps_are}
 use Rattle.mk_alloc.proofs.SaidCloses.{does_say_none, finish_says, nothing_said, said_then, unclosed_says_none}
 use Rattle.mk_alloc.proofs.FinishedCycles.{Never, finished_then, never_by_none, unbegun_finished}
-use Rattle.mk_alloc.specs.Closes.{EachIsFinished, EachIsSaid}
-use Rattle.mk_alloc.specs.{Laws.{CallsSweepNothing, SweepNothingWhereHeld}, Underway.KeepsYet}
-use Rattle.mk_cycle.specs.{Telling.IsToldAtClose, Begun.{EachIsBegunYet, HoldsFirst}, Ways.Ways}
+use Rattle.mk_alloc.specs.TurnCycles.{EachIsFinished, EachIsSaid}
+use Rattle.mk_alloc.specs.{TurnCalls.{CallsSweepNothing, SweepNothingWhereHeld}, Rooms.KeepsYet}
+use Rattle.mk_cycle.specs.{Stops.IsToldAtClose, BeginCycle.{EachIsBegunYet, HoldsFirst}, EngineLaw.Ways}
 use Rattle.mk_core.specs.Cycles.{is_give}
 use Rattle.mk_cycle.proofs.Begun.{begun_then, does_begin_none, finish_begins_none, left_then, nothing_begun}
 use Rattle.mk_cycle.proofs.HeldFirst.{step_holds}
-use Rattle.mk_caller.proofs.{Below.Words.Made.own_before, Below.Words.Sweeping.{does_sweep, kinds_sweep}}
+use Rattle.mk_caller.proofs.Below.Words.{Made.own_before, Sweeping.{does_sweep, kinds_sweep}}
 use Rattle.mk_caller.proofs.Below.Words.Sweeping.{nothing_sweeps, other_step_sweeps, step_then_sweeps, sweeps_then}
 use Rattle.mk_caller.proofs.Below.Words.TakesAlone.{taking_does}
 use Rattle.mk_caller.specs.Below.Words.Sweeping.{HaveNoMark, SweepsNothing, is_mark}

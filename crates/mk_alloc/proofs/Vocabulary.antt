@@ -1,15 +1,15 @@
 -- The words of the crate and of those below it that several proofs name: they import them from here.
-pub use Rattle.std.proofs.{Common.⊎_elim, lemmas.List.append_cancel_left, lemmas.List.Sums.sum_by_push}
+pub use Rattle.std.proofs.{Common.⊎_elim, lemmas.List.{append_cancel_left, Sums.sum_by_push}}
 pub use Rattle.std.specs.List.{list_all}
 pub use Rattle.mk_core.proofs.{Conditions.meets_enabled, Histories.calls_more, HistoryParts.calls_in_parts}
 pub use Rattle.mk_core.specs.{Allocations.{allocations_by, held_by_allocations}, Counts.{IsDue, full_answers, releases}}
-pub use Rattle.mk_core.specs.{Effects.cycle_ended, Frames.{CountsAreLeft, steady_of}, Growing.{Finding, is_same_seat}}
+pub use Rattle.mk_core.specs.{Effects.cycle_ended, Frames.{CountsAreLeft, steady_of}, History.{Finding, is_same_seat}}
 pub use Rattle.mk_core.specs.{Moments.none_is_held, Placement.place_after, declared.seats.OwnCycle.TheVariants.Ended}
 pub use Rattle.mk_caller.proofs.Below.Laws.Basics.{HoldsTurn, actor_of, known_left, view_of}
-pub use Rattle.mk_caller.proofs.{Below.Laws.InvariantHistories.told_to_images, Below.Laws.Known.holds_turn}
+pub use Rattle.mk_caller.proofs.Below.Laws.{InvariantHistories.told_to_images, Known.holds_turn}
 pub use Rattle.mk_caller.proofs.Below.Laws.LastEvents.{comes_last, stands}
-pub use Rattle.mk_caller.proofs.{Below.Laws.OthersCounts.{fulls_append, fulls_of}, Below.Laws.ProtocolFrames.left_after}
-pub use Rattle.mk_caller.proofs.{Below.Laws.Settled.gone_is_unmapped, Below.Laws.Vocabulary.{Answer, AreOfOthers, At}}
+pub use Rattle.mk_caller.proofs.Below.Laws.{OthersCounts.{fulls_append, fulls_of}, ProtocolFrames.left_after}
+pub use Rattle.mk_caller.proofs.Below.Laws.{Settled.gone_is_unmapped, Vocabulary.{Answer, AreOfOthers, At}}
 pub use Rattle.mk_caller.proofs.Below.Laws.Vocabulary.{Bool, Caller, Cell, Config, Decided, Event, Flight, Holding}
 pub use Rattle.mk_caller.proofs.Below.Laws.Vocabulary.{Holds, Host, IsEnabled, IsHistory, KeepsRegisters, List, Moment}
 pub use Rattle.mk_caller.proofs.Below.Laws.Vocabulary.{None, Object, Op, Option, Place, PlacedAllocation, Placing}
@@ -33,17 +33,17 @@ pub use Rattle.mk_caller.proofs.Below.Words.Seats.{not_both, only_one, others_on
 pub use Rattle.mk_caller.proofs.Below.Words.Doing.{does_nothing, does_step, does_then}
 pub use Rattle.mk_caller.proofs.{Below.Words.Sweeping.{only_seen, only_seen_by}, OneStep.own_seat}
 pub use Rattle.mk_caller.proofs.OwnSteps.{by_append, calls_by, others_add_none}
-pub use Rattle.mk_caller.specs.{Below.Words.Seats.Has, Below.Words.States.{IsTurn, PassState, call_of, event_of}}
-pub use Rattle.mk_caller.specs.{Below.Words.States.{now_of, world_of}, Below.Words.Steps.{IsEnabledTo, Makes}}
-pub use Rattle.mk_caller.specs.{Below.Words.TurnSteps.{Acts, IsFresh, turn_stays}, Below.Words.Doing.{Does, are_of}}
-pub use Rattle.mk_caller.specs.{Below.Words.Taking.{TakesTurn, is_take, waits_for}, Called.{own_calls, own_steps}}
+pub use Rattle.mk_caller.specs.Below.Words.States.{Has, IsTurn, PassState, call_of, event_of}
+pub use Rattle.mk_caller.specs.Below.Words.{States.{now_of, world_of}, Steps.{IsEnabledTo, Makes}}
+pub use Rattle.mk_caller.specs.Below.Words.{TurnSteps.{Acts, IsFresh, turn_stays}, Steps.{Does, are_of}}
+pub use Rattle.mk_caller.specs.{Below.Words.TurnSteps.{TakesTurn, is_take, waits_for}, Called.{own_calls, own_steps}}
 pub use Rattle.mk_caller.specs.{Called.{stages_made, step_at}, States.{CallerState, caller_of_pass}}
 pub use Rattle.mk_alloc.proofs.{JoinedLooks.{does_wider, looks_left}, Looks.acting_caller}
 pub use Rattle.mk_alloc.proofs.MayAct.{new_is_acting, off_four}
-pub use Rattle.mk_alloc.specs.{Retired.IsDueSince, Placing.{object_for, place_now_for, FitsNowhere, IsOutOfStop}}
+pub use Rattle.mk_alloc.specs.{Retiring.IsDueSince, Placing.{object_for, place_now_for, FitsNowhere, IsOutOfStop}}
 pub use Rattle.mk_alloc.specs.Placing.{IsPlaced, IsUnplaced, OnlyLooks, is_look, is_placing}
-pub use Rattle.mk_alloc.specs.Underway.{EndsOlder, RunsIfDue, BeginsTurn, IsQuiet, Looks, PassKeeps, TurnGoesOn}
-pub use Rattle.mk_alloc.specs.{Leaving.OwnLeaveAllButReleased, Rooms.{AnswersFull, AsksRoom, SeesNone, GrantsNone}}
+pub use Rattle.mk_alloc.specs.Rooms.{EndsOlder, RunsIfDue, BeginsTurn, IsQuiet, Looks, PassKeeps, TurnGoesOn}
+pub use Rattle.mk_alloc.specs.Rooms.{OwnLeaveAllButReleased, AnswersFull, AsksRoom, SeesNone, GrantsNone}
 pub use Rattle.mk_alloc.specs.{Rooms.{Misfits, RunsOne, Seeks, asks_room}, TurnCalls.{CalledInTurn, FreesObject}}
 pub use Rattle.mk_alloc.specs.{TurnCalls.{IsAnsweredDouble, IsAnsweredFull}, TurnCycles.{EndsExactly, FreeIsExact}}
 pub use Rattle.mk_alloc.specs.TurnCycles.{FreesFirst, HasNoPlace, IsDueIn, RunsOneCycle, TurnsOfAreExact, finishes}
@@ -52,4 +52,5 @@ pub use Rattle.mk_cycle.proofs.{Calm.frees_none, CleaningSteps.calm_keeps, KeptI
 pub use Rattle.mk_cycle.proofs.{KeptInParts.same_config, OwnSteps.no_more_calls}
 pub use Rattle.mk_cycle.specs.{TurnKeeps.{unchanged, Done, KeepsGates, LeavesTurn}, BeginCycle.BeginsCycle}
 pub use Rattle.mk_cycle.specs.{EngineLaw.{IsAtPhase, is_pending_free, is_pending_free_at}, FinishCycle.FinishesCycle}
-pub use Rattle.mk_cycle.specs.Kinds.{begins_marking, clears, closes_marks, holds_gates, is_giving_back, sets_tallies}
+pub use Rattle.mk_cycle.specs.TurnKeeps.{begins_marking, clears, closes_marks, holds_gates, is_giving_back}
+pub use Rattle.mk_cycle.specs.TurnKeeps.{sets_tallies}

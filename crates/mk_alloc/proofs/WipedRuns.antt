@@ -10,7 +10,7 @@ use Rattle.mk_caller.proofs.Below.Laws.Vocabulary.{le-leb, left, length, lt-ltb,
 use Rattle.mk_caller.proofs.Below.Laws.Vocabulary.{page_at_address, phase_of, place_now, refl, run_header, same_Some}
 use Rattle.mk_caller.proofs.Below.Laws.Vocabulary.{slice_index, stands, subst, sym, true, unmapped_header, unmaps}
 use Rattle.mk_caller.proofs.Below.Laws.Vocabulary.{world_behind, [], ◌*◌, ◌+◌, ◌/◌, ◌<◌, ◌∙◌, ◌≡◌, ◌≤◌}
-use Rattle.mk_caller.proofs.{Below.Laws.Sorts.chosen_none, Below.Words.PointedCells.found_there}
+use Rattle.mk_caller.proofs.Below.{Laws.Sorts.chosen_none, Words.PointedCells.found_there}
 use Rattle.mk_caller.proofs.Below.Words.StoredHeads.{heads_leave}
 use Rattle.mk_alloc.proofs.ObjectVocabulary.{Acts, ComesTo, IsAsLeft, IsEnabledTo, IsOutOfStop, IsTurn, PassState}
 use Rattle.mk_alloc.proofs.ObjectVocabulary.{Unmaps, Wipes, WipesTo, WordsState, all_below_from, call_of, is_acting}
@@ -22,9 +22,9 @@ use Rattle.mk_alloc.proofs.{Reaching.reaches_still_in_stop, Unchanged.{HasCall, 
 use Rattle.mk_alloc.proofs.{Serves.out_of_stop, Serving.{header_here, header_set, next_is}}
 use Rattle.mk_alloc.proofs.RunHeaders.{IsStillMapped, still_mapped, unmapped_use, unmapped_word}
 use Rattle.mk_alloc.specs.FreeParts.{MayUnmap, MayWipe, MayWipeFrom, WipedTo, with_pages}
-use Rattle.mk_caller.specs.{Below.Words.Steps.Finds, Below.Words.RunSteps.{MayStoreHeads, StoresHeads}}
+use Rattle.mk_caller.specs.Below.Words.{Steps.Finds, TurnSteps.{MayStoreHeads, StoresHeads}}
 use Rattle.mk_geom.proofs.{Bridge.run_in_range, HeaderLemmas.header_of-word_of}
-use Rattle.mk_books.specs.Runs.{HeadersSay, run_word}
+use Rattle.mk_books.specs.KnownPages.{HeadersSay, run_word}
 use Rattle.mk_geom.specs.{Addresses.{cell_under, word_at_address}, PageUses.PartOfRun}
 use Rattle.mk_core.specs.{Effects.{hand_given, hand_of_cell, is_in_stop}, Cells.pointed_cell}
 use Rattle.mk_core.specs.Frames.{HoldsAll, written_of}

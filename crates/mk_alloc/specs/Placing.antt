@@ -1,21 +1,43 @@
--- Placing the object of a New: what is asked, and what comes of it.
-use Rattle.std.specs.Prelude.{◌≡◌, ℕ, ◌%◌, ◌^◌, ◌⊎◌, ◌==◌, ◌&&◌, Bool, true, false, List, [], ◌∷◌, ◌++◌, Option, Some}
-use Rattle.std.specs.Prelude.{None, ◌+◌, ◌<◌, ◌≤◌, length}
+-- Placing the object of a New: what is asked, what comes of it, and what only the turn's holder changes meanwhile.
+use Rattle.std.specs.Prelude.{Bool, true, false, ◌≡◌, ℕ, ◌<◌, ◌%◌, ◌^◌, ◌⊎◌, ◌==◌, ◌&&◌, List, [], ◌∷◌, ◌++◌, Option}
+use Rattle.std.specs.Prelude.{Some, None, ◌+◌, ◌≤◌, length}
 use Rattle.mk_never.specs.declared.operations.Op.{Op}
 use Rattle.mk_geom.specs.{declared.pages.Place.Place, Addresses.address_of}
 use Rattle.mk_core.specs.{Accesses.caller_number, Allocations.{PlacedAllocation, held_by_allocations, type_made}}
-use Rattle.mk_core.specs.{Calls.d_of, Decided.{Decided, entry_of}, Frames.{CountsAreLeft, steady_of}}
-use Rattle.mk_core.specs.{History.{World, left}, Moments.{Moment, flight_of}, NewPlaces.{base_made, bits_made}}
+use Rattle.mk_core.specs.{Calls.{d_of, Decided, entry_of}, Frames.{OnlyGrow, steady_of, CountsAreLeft}}
+use Rattle.mk_core.specs.{History.{World, left}, Moments.{flight_of, is_held, Moment}, NewPlaces.{base_made, bits_made}}
 use Rattle.mk_core.specs.{NewPlaces.{is_undecided_new, object_made, header_made, pages_made}, Placement.place_after}
-use Rattle.mk_core.specs.{TurnConditions.{place_now, is_marked_first, is_used_once}, Words.{phase_of, register_word}}
-use Rattle.mk_core.specs.{Words.{header_at, used_at}, declared.config.Config.Config, declared.events.Answer.Answer}
-use Rattle.mk_core.specs.{declared.events.Seat.Seat, declared.events.Seat.TheVariants.Caller, declared.events.Step.Step}
-use Rattle.mk_core.specs.{declared.seats.Flight.Flight, declared.seats.Object.Object}
-use Rattle.mk_core.specs.{declared.seats.Placing.TheVariants.{Unplaced, Granted}, declared.seats.Stage.Stage}
+use Rattle.mk_core.specs.{TurnConditions.{place_now, is_marked_first, is_used_once}, Words.{register_word, phase_of}}
+use Rattle.mk_core.specs.{Words.{header_at, used_at}, declared.{config.Config.Config, events.Answer.Answer}}
+use Rattle.mk_core.specs.declared.events.{Seat.{Seat, TheVariants.Caller}, Step.Step}
+use Rattle.mk_core.specs.declared.{events.Word.Word, seats.{Flight.Flight, Object.Object}}
+use Rattle.mk_core.specs.declared.seats.{Placing.TheVariants.{Unplaced, Granted}, Stage.Stage}
 use Rattle.mk_caller.specs.{Called.own_calls, Below.Words.States.{PassState, call_of, now_of, world_of, WordsState}}
-use Rattle.mk_caller.specs.{Below.Words.Doing.Does, Below.Words.Sweeping.SweepsNothing}
-use Rattle.mk_alloc.specs.{declared.objects.Request.Request, Looking.IsAsLeft, declared.objects.Grant.Grant}
-use Rattle.mk_alloc.specs.declared.objects.Shape.{Shape}
+use Rattle.mk_caller.specs.Below.Words.{Steps.Does, Sweeping.SweepsNothing}
+use Rattle.mk_alloc.specs.declared.objects.{Request.Request, Grant.Grant, Shape.Shape}
+
+-- a word that only the turn's holder changes
+abbrev pub is_steady_word : Word → Bool
+is_steady_word (Word.Head p) = true
+is_steady_word (Word.Used p) = true
+is_steady_word Word.Held = true
+is_steady_word Word.Fresh = true
+is_steady_word _ = false
+
+-- A call under the turn, whose register is loaded where it is a Free.
+abbrev pub is_acting : Stage → Bool
+is_acting Stage.Turn = true
+is_acting Stage.Give = true
+is_acting _ = false
+
+-- What the seat itself and the turn's holder change is as it was.
+pub record IsAsLeft (s : Seat) (w v : World) : Type 0 where
+  pub call : flight_of v.now s ≡ flight_of w.now s
+  pub holding : v.now.seats.holding ≡ w.now.seats.holding
+  pub steady : steady_of v ≡ steady_of w
+  pub marks : OnlyGrow w.now.words.marks v.now.words.marks
+  pub registers : (k r : ℕ) → s ≡ Caller k → r < 8 → register_word v.now.words k r ≡ register_word w.now.words k r
+  pub gates : (j : ℕ) → is_held v.now.words j ≡ is_held w.now.words j
 
 -- Between the first world and this one the New was served up to its cell: its call, and all but the pages, is as it
 -- was.

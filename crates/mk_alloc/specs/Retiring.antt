@@ -1,15 +1,19 @@
--- Freeing an object: what is asked, and how far the call is.
+-- Freeing an object: what is asked, how far the call is, and what comes of it.
 use Rattle.std.specs.Prelude.{◌≡◌, ℕ, ◌+◌, ◌-◌, ◌^◌, min, map, slice_index, slice_set, ◌==◌, ◌<◌, Bool, true, false}
-use Rattle.std.specs.Prelude.{List, [], Some, if◌then◌else◌}
-use Rattle.mk_never.specs.{Admitted.IsBase, declared.operations.Op.Op}
+use Rattle.std.specs.Prelude.{List, [], Some, if◌then◌else◌, ◌∷◌, ◌++◌}
+use Rattle.mk_never.specs.{Admitted.IsBase, declared.{operations.Op.Op, values.Value.Value}}
+use Rattle.mk_never.specs.{declared.values.Value.TheVariants.{Null, Num, Ptr}, NeverHeap.{NeverState, allocation_at}}
+use Rattle.mk_never.specs.Types.{is_large, kinds_of}
 use Rattle.mk_geom.specs.{declared.addresses.Cell.Cell, PageUses.or_else}
-use Rattle.mk_core.specs.{declared.events.Answer.Answer, declared.events.Seat.Seat}
-use Rattle.mk_core.specs.{declared.events.Seat.TheVariants.Caller, declared.events.Step.Step}
-use Rattle.mk_core.specs.{declared.seats.Flight.Flight, declared.config.Config.Config}
-use Rattle.mk_core.specs.{Allocations.freed_where_it_stands, Effects.{run_of_cell, words_freed}, Calls.begun}
-use Rattle.mk_core.specs.{Cells.is_freed, Decided.Decided, Frames.steady_of, History.World}
-use Rattle.mk_core.specs.{Moments.{flight_of, is_held}, Words.register_word, declared.seats.Stage.Stage}
+use Rattle.mk_core.specs.Allocations.{freed_where_it_stands, PlacedAllocation, placed_at}
+use Rattle.mk_core.specs.{Moments.{flight_of, is_held, none_is_held}, Counts.{IsDue, TalliesAreExact, TalliesAreTidy}}
+use Rattle.mk_core.specs.{Effects.{run_of_cell, words_freed}, Calls.{begun, Decided}, History.{World, never_behind}}
+use Rattle.mk_core.specs.{Words.{register_word, phase_of}, declared.events.{Answer.Answer, Seat.Seat}}
+use Rattle.mk_core.specs.declared.events.{Seat.TheVariants.Caller, Step.Step}
+use Rattle.mk_core.specs.{declared.{seats.Flight.Flight, config.Config.Config}, Cells.is_freed, Frames.steady_of}
+use Rattle.mk_core.specs.{declared.{seats.Stage.Stage, events.Event.Event}, NewPlaces.is_run_gone}
 use Rattle.mk_caller.specs.{States.value_of, Below.Words.States.{PassState, call_of, now_of, world_of}}
+use Rattle.mk_caller.specs.{Called.own_calls, Below.Words.Steps.Does}
 use Rattle.mk_alloc.specs.Placing.{ComesTo, entry_for}
 
 -- The values of all its caller's registers are as they were.
@@ -118,3 +122,66 @@ pub record IsFreedAt (c : Config) (s : Seat) (cell : Cell) (w v : World) : Type 
 abbrev pub HasFreed : PassState → Cell → PassState → Type 0
 HasFreed p cell q =
     ComesTo is_freeing_small p (IsFreedAt p.table.config p.seat cell (world_of p)) (entry_for p Answer.Done) q
+
+-- The value points to an allocation that is freed in the heap that never reuses storage.
+abbrev pub IsFreed : NeverState → Value → Type 0
+IsFreed n Null = ⊥
+IsFreed n (Num m) = ⊥
+IsFreed n (Ptr number ty offset) = (allocation_at n number).freed ≡ true
+
+-- the allocation after its free
+abbrev pub freed_and_fresh : PlacedAllocation → PlacedAllocation
+freed_and_fresh a = record a { freed = true; fresh = true }
+
+-- The allocation that the value points to is freed, and fresh; where it points to none, all are as they are.
+abbrev pub with_freed_object : Value → List PlacedAllocation → List PlacedAllocation
+with_freed_object (Ptr number ty offset) xs = slice_set xs number (freed_and_fresh (placed_at xs number))
+with_freed_object _ xs = xs
+
+-- Among what the pass has seen since there is an event that frees an object and is due.
+pub record IsDueSince (p q : PassState) : Type 0 where
+  pub before : List Event
+  pub event : Event
+  pub behind : List Event
+  pub is : q.seen ≡ p.seen ++ before ++ event ∷ behind
+  pub due : IsDue p.table.config (p.seen ++ before) event
+
+-- A Free was decided by this answer, by steps of these kinds. Its turn is as it was, nothing is under way in it, and
+-- the tallies are those of the counts.
+pub record DecidesFree (kinds : Step → Bool) (a : Answer) (p q : PassState) : Type 0 where
+  pub pass : q ≡ record p { seen = q.seen }
+  pub does : Does kinds p q
+  pub calls : own_calls p q.seen ≡ own_calls p p.seen ++ entry_for p a
+  pub decided : (call_of q).stage ≡ Stage.Give
+  pub op : (call_of q).op ≡ (call_of p).op
+  pub placing : (now_of q).seats.holding.placing ≡ (now_of p).seats.holding.placing
+  pub cycle : (now_of q).seats.holding.cycle ≡ (now_of p).seats.holding.cycle
+  pub phase : phase_of (now_of q).words ≡ phase_of (now_of p).words
+  pub gone : is_run_gone (now_of q).words (now_of q).seats.holding.freed ≡ true
+  pub gates : none_is_held p.table.config.callers (now_of q).words ≡ true
+  pub exact : TalliesAreExact q.table.config q.seen
+  pub tidy : TalliesAreTidy p.table.config p.seen → TalliesAreTidy q.table.config q.seen
+
+-- the kinds of step by which what the value points to is freed
+abbrev pub freeing_kinds : Config → List PlacedAllocation → Value → Step → Bool
+freeing_kinds c xs (Ptr number ty offset) =
+    if is_large (kinds_of c.types (placed_at xs number).ty) then is_freeing else is_freeing_small
+freeing_kinds c xs _ = is_loading
+
+-- the steps that free what this register points to
+abbrev pub kinds_for : PassState → ℕ → Step → Bool
+kinds_for p r = freeing_kinds p.table.config (world_of p).allocations (value_of p r)
+
+-- The object was freed, or the register was null, and then words were only looked at.
+pub record Retires (p : PassState) (r : ℕ) (due : Bool) (q : PassState) : Type 0 where
+  pub decides : DecidesFree is_freeing Answer.Done p q
+  pub steps : Does (kinds_for p r) p q
+  pub unfreed : IsFreed (never_behind p.table.config p.seen) (value_of p r) → ⊥
+  pub allocations : (world_of q).allocations ≡ with_freed_object (value_of p r) (world_of p).allocations
+  pub is_due : due ≡ true → IsDueSince p q
+  pub not_due : due ≡ false → IsDueSince p q → ⊥
+
+-- The object was freed already: words were looked at, and nothing was stored.
+pub record FindsFreed (p : PassState) (r : ℕ) (q : PassState) : Type 0 where
+  pub decides : DecidesFree is_loading Answer.Double p q
+  pub freed : IsFreed (never_behind p.table.config p.seen) (value_of p r)

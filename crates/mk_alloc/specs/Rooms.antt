@@ -1,14 +1,128 @@
--- A New asks for room: it begins and ends cycles only where its object has no place.
-use Rattle.std.specs.Prelude.{◌≡◌, ℕ, Bool, true, false, ◌||◌, List, ◌∷◌, ◌++◌, Option, Some, None}
-use Rattle.mk_geom.specs.{declared.pages.Census.Census, PageUses.census_among, PageWords.uses_of_pages}
-use Rattle.mk_core.specs.{declared.events.Answer.Answer, declared.events.Event.Event, declared.events.Step.Step}
-use Rattle.mk_core.specs.{declared.seats.Object.Object, declared.seats.OwnCycle.TheVariants.Ended}
+-- A New asks for room: it begins and ends cycles only if its object has no place. What the call has done so far.
+use Rattle.std.specs.Prelude.{◌≡◌, ℕ, ◌+◌, ◌<◌, true, List, [], ◌∷◌, ◌++◌, length, slice_index, ⊤, false, Option, Some}
+use Rattle.std.specs.Prelude.{None, is_some, Bool, ◌||◌}
+use Rattle.mk_never.specs.{Types.kinds_of, declared.operations.Op.Op}
+use Rattle.mk_geom.specs.{declared.pages.Census.Census, PageUses.{census_among, uses_of_pages}}
+use Rattle.mk_core.specs.declared.{config.Config.Config, events.{Event.Event, Seat.Seat}}
+use Rattle.mk_core.specs.{Allocations.{PlacedAllocation, is_mapped, placed_at}, History.{is_same_seat, World}}
+use Rattle.mk_core.specs.{History.world_behind, declared.events.Answer.Answer, Counts.{TalliesAreExact, TalliesAreTidy}}
+use Rattle.mk_core.specs.{Calls.entry_of, Moments.none_is_held, declared.{seats.Stage.Stage, events.Step.Step}}
+use Rattle.mk_core.specs.declared.seats.{Object.Object, OwnCycle.TheVariants.Ended}
 use Rattle.mk_core.specs.Cycles.{At, is_begin, is_end}
-use Rattle.mk_caller.specs.Below.Words.States.{IsTurn, PassState, WordsState, event_of, now_of, world_of}
-use Rattle.mk_alloc.specs.{Placing.{IsUnplaced, Requests, object_for, place_now_for}, declared.objects.Request.Request}
-use Rattle.mk_alloc.specs.{Leaving.OwnLeaveAllButReleased, TurnCycles.{HasNoPlace, RunsOneCycle, has_step, is_grant}}
-use Rattle.mk_alloc.specs.{TurnCycles.{is_hold, is_want, lets_go}, Underway.{IsQuiet, TurnGoesOn}}
-use Rattle.mk_cycle.specs.EngineLaw.{IsAtPhase}
+use Rattle.mk_caller.specs.Below.Words.States.{PassState, world_of, WordsState, call_of, now_of, IsTurn, event_of}
+use Rattle.mk_caller.specs.Below.Words.{TurnSteps.{IsFresh, turn_stays}, Steps.Does}
+use Rattle.mk_caller.specs.{Below.Words.Sweeping.SweepsNothing, States.caller_of_pass, Called.own_calls}
+use Rattle.mk_alloc.specs.TurnCycles.{EachIsFinished, EachIsSaid, HasNoPlace, RunsOneCycle, has_step, is_grant, is_hold}
+use Rattle.mk_alloc.specs.{TurnCycles.{is_want, lets_go}, Placing.{IsOutOfStop, is_look, IsUnplaced, Requests}}
+use Rattle.mk_alloc.specs.{Placing.{object_for, place_now_for}, declared.objects.Request.Request}
+use Rattle.mk_cycle.specs.{BeginCycle.{EachIsBegun, EachIsBegunYet, BeginsCycle}, EngineLaw.{IsFreeForCycle, IsAtPhase}}
+use Rattle.mk_cycle.specs.{EngineLaw.Ways, TurnKeeps.{KeepsGates, LeavesTurn, unchanged}, FinishCycle.FinishesCycle}
+
+-- An allocation is as it was, but that it may be released, and no longer fresh.
+pub record StaysOrIsReleased (a b : PlacedAllocation) : Type 0 where
+  pub same : b ≡ record a { fresh = b.fresh; released = b.released }
+  pub released : a.released ≡ true → b.released ≡ true
+
+-- An allocation that is mapped keeps its words.
+abbrev pub KeepsItsWords : Config → World → World → PlacedAllocation → Type 0
+KeepsItsWords c w v a =
+    is_mapped c a ≡ true → (i : ℕ) → i < length (kinds_of c.types a.ty)
+    → slice_index v.now.words.heap (a.base + i) ≡ slice_index w.now.words.heap (a.base + i)
+
+-- All registers and globals stay, and so does each allocation that isn't released. None is new.
+pub record LeavesAllButReleased (c : Config) (w v : World) : Type 0 where
+  pub registers : v.now.words.registers ≡ w.now.words.registers
+  pub globals : v.now.words.globals ≡ w.now.words.globals
+  pub count : length v.allocations ≡ length w.allocations
+  pub each : (a : ℕ) → StaysOrIsReleased (placed_at w.allocations a) (placed_at v.allocations a)
+  pub words : (a : ℕ) → KeepsItsWords c w v (placed_at w.allocations a)
+
+-- So does each event of the seat in the list,
+unfoldable pub OwnLeaveFrom : Config → Seat → World → List Event → Type 0
+OwnLeaveFrom c s w [] = ⊤
+OwnLeaveFrom c s w (e ∷ es) =
+    (is_same_seat s e.seat ≡ true → LeavesAllButReleased c w (world_behind c w e))
+    × OwnLeaveFrom c s (world_behind c w e) es
+
+-- or from what the one pass had seen to what the other has seen.
+pub record OwnLeaveAllButReleased (p q : PassState) : Type 0 where
+  pub more : List Event
+  pub is : q.seen ≡ p.seen ++ more
+  pub each : OwnLeaveFrom p.table.config p.seat (world_of p) more
+
+-- Nothing is under way that a cycle or a `give` waits for, and the tallies are what they count.
+pub record IsQuiet (p : PassState) : Type 0 where
+  pub free : IsFreeForCycle p
+  pub phase : IsOutOfStop (now_of p)
+  pub gates : none_is_held p.table.config.callers (now_of p).words ≡ true
+  pub exact : TalliesAreExact p.table.config p.seen
+  pub tidy : TalliesAreTidy p.table.config p.seen
+
+-- Directly after its `take` for this operation.
+pub record BeginsTurn (o : Op) (p : PassState) : Type 0 where
+  pub fresh : IsFresh p (Some o)
+  pub phase : IsOutOfStop (now_of p)
+  pub exact : TalliesAreExact p.table.config p.seen
+  pub tidy : TalliesAreTidy p.table.config p.seen
+
+-- From one to the other the turn went on, and is quiet. Its call was answered so, or not yet.
+pub record TurnGoesOn (a : Option Answer) (p q : PassState) : Type 0 where
+  pub does : Does turn_stays p q
+  pub quiet : IsQuiet q
+  pub entry : own_calls p q.seen ≡ own_calls p p.seen ++ entry_of (caller_of_pass p) (call_of p).op a
+  pub op : (call_of q).op ≡ (call_of p).op
+  pub decided : is_some a ≡ true → (call_of q).stage ≡ Stage.Give
+  pub undecided : a ≡ None → call_of q ≡ call_of p
+
+-- The holder looked, and all is as it was.
+pub record Looks (p q : PassState) : Type 0 where
+  pub does : Does is_look p q
+  pub keeps : LeavesTurn unchanged p q
+  pub gates : KeepsGates p q
+
+-- A cycle may run in it: the turn of this table is quiet, and the engine is made for the table's pages.
+pub record MayRunCycle (w : WordsState) (pages : ℕ) (p : PassState) : Type 0 where
+  pub one_table : p.table ≡ w
+  pub made_for : pages ≡ w.config.pages
+  pub quiet : IsQuiet p
+
+-- What an engine keeps to from one to the other. If it doesn't sweep it makes no sweeping mark. After each `begin` it
+-- does its part, and then nothing but holding gates comes before the close is wanted or the turn given back. At each
+-- `close` it says of the world what engines of its type say. If it doesn't keep on, it finishes at once each cycle that
+-- it begins.
+pub record PassKeeps {V : Type 0} (ways : Ways V) (p q : PassState) : Type 0 where
+  pub reached : ways.sweeps ≡ false → SweepsNothing p q
+  pub begun : EachIsBegun ways.begins p q
+  pub said : EachIsSaid ways.tells p q
+  pub finished : ways.on ≡ false → EachIsFinished ways.closes p q
+
+-- So it keeps in a turn that goes on: a cycle that was begun may still be on.
+pub record KeepsYet {V : Type 0} (ways : Ways V) (p q : PassState) : Type 0 where
+  pub reached : ways.sweeps ≡ false → SweepsNothing p q
+  pub begun : EachIsBegunYet ways.begins p q
+  pub said : EachIsSaid ways.tells p q
+  pub finished : ways.on ≡ false → EachIsFinished ways.closes p q
+
+-- A cycle that was on is finished.
+pub record EndsOlder (p q : PassState) : Type 0 where
+  pub looked : PassState
+  pub looks : Looks p looked
+  pub none : IsAtPhase p 0 → q ≡ looked
+  pub on : IsAtPhase p 1 → FinishesCycle looked q
+
+-- Then one begins, and is finished, unless the engine keeps on.
+pub record RunsCycle (on : Bool) (p q : PassState) : Type 0 where
+  pub idle : PassState
+  pub begun : PassState
+  pub older : EndsOlder p idle
+  pub begins : BeginsCycle idle begun
+  pub goes_on : on ≡ true → q ≡ begun
+  pub stops : on ≡ false → FinishesCycle begun q
+
+-- A cycle is run if the Free is due, and otherwise nothing is done.
+pub record RunsIfDue (on due : Bool) (p q : PassState) : Type 0 where
+  pub runs : due ≡ true → RunsCycle on p q
+  pub rests : due ≡ false → q ≡ p
 
 -- the steps that begin a cycle, or its end, and those that hold the gates of others for either
 abbrev pub asks_room : Step → Bool

@@ -1,14 +1,16 @@
--- A call under the turn, in the history: a New, or a Free.
+-- A call under the turn, in the history: a New, or a Free. The turns of a caller stay exact, whatever it calls next.
 use Rattle.std.specs.Prelude.{◌≡◌, ◌<◌, ◌↔◌, ℕ, Bool, true, List, [], ◌∷◌, ◌++◌, Some}
 use Rattle.mk_never.specs.declared.operations.Op.{Op}
 use Rattle.mk_geom.specs.declared.pages.Census.{Census}
-use Rattle.mk_core.specs.{declared.events.Answer.Answer, declared.events.Event.Event, Allocations.census_of_allocations}
-use Rattle.mk_core.specs.{Calls.at_rest, Decided.{entry_of, flagged}, Placement.FindsNoPlace, declared.events.Step.Step}
-use Rattle.mk_caller.specs.{Below.Words.States.{PassState, world_of, call_of, event_of}, Below.Words.Steps.Makes}
-use Rattle.mk_caller.specs.{Below.Words.TurnSteps.turn_stays, Below.Words.Doing.Does, Below.Words.Taking.TakesTurn}
-use Rattle.mk_caller.specs.{States.{CallerState, caller_of_pass}, Called.{own_calls, IsDecidedIn}}
-use Rattle.mk_alloc.specs.{Retired.kinds_for, Retiring.is_loading, Underway.RunsIfDue, Leaving.OwnLeaveAllButReleased}
-use Rattle.mk_alloc.specs.TurnCycles.{EndsExactly, IsDueIn}
+use Rattle.mk_core.specs.{declared.events.{Answer.Answer, Event.Event}, Allocations.census_of_allocations}
+use Rattle.mk_core.specs.{Calls.{at_rest, entry_of, flagged}, Placement.FindsNoPlace, declared.events.Step.Step}
+use Rattle.mk_core.specs.{declared.{config.Config.Config, events.Seat.Seat}, History.Grows}
+use Rattle.mk_caller.specs.Below.Words.States.{PassState, world_of, call_of, event_of, Has}
+use Rattle.mk_caller.specs.Below.Words.{Steps.{Makes, Does}, TurnSteps.{turn_stays, TakesTurn}}
+use Rattle.mk_caller.specs.{States.{CallerState, caller_of_pass}, Called.{own_calls, IsDecidedIn, Called}}
+use Rattle.mk_caller.specs.{Called.FindsGateHeld, Below.Words.Sweeping.SweepsNothing}
+use Rattle.mk_alloc.specs.{Retiring.{kinds_for, is_loading}, Rooms.{RunsIfDue, OwnLeaveAllButReleased}}
+use Rattle.mk_alloc.specs.TurnCycles.{EndsExactly, IsDueIn, TurnsOfAreExact}
 
 -- A caller may call so, with an engine that is made for this many pages: its pass is home, it exists, no other seat is
 -- in its pass, and its heap has so many pages.
@@ -60,3 +62,42 @@ pub record FreesObject (on : Bool) (p : PassState) (r : ℕ) (due : Bool) (q : P
 pub record IsAnsweredDouble (on : Bool) (p : PassState) (r : ℕ) (q : PassState) : Type 0 where
   pub called : CalledInTurn on p (Op.Free r) Answer.Double q
   pub only_looks : Does is_loading called.taken called.done
+
+-- the turns of the pass's seat
+abbrev pub OwnAreExact : Bool → PassState → Type 0
+OwnAreExact on p = TurnsOfAreExact on p.table.config p.seat p.seen
+
+-- A caller's turns stay exact after a call that needs no turn.
+abbrev pub StayExactBehindCalls : Type 0
+StayExactBehindCalls =
+    (on : Bool) (p : PassState) (o : Op) (a : Answer) (q : PassState) → Has p.seats p.seat → Called p o a q
+    → OwnAreExact on p → OwnAreExact on q
+
+-- And after a try that finds its gate held.
+abbrev pub StayExactWhereHeld : Type 0
+StayExactWhereHeld =
+    (on : Bool) (p : PassState) (o : Op) (q : PassState) → Has p.seats p.seat → FindsGateHeld p o q
+    → OwnAreExact on p → OwnAreExact on q
+
+-- And after a New or a Free.
+abbrev pub StayExactBehindTurns : Type 0
+StayExactBehindTurns =
+    (on : Bool) (p : PassState) (o : Op) (a : Answer) (q : PassState) → Has p.seats p.seat → CalledInTurn on p o a q
+    → OwnAreExact on p → OwnAreExact on q
+
+-- Events of others leave them.
+abbrev pub StayExactBehindOthers : Type 0
+StayExactBehindOthers =
+    (on : Bool) (c : Config) (s : Seat) (seats : List Seat) (es fs : List Event) → Has seats s → Grows seats es fs
+    → TurnsOfAreExact on c s es → TurnsOfAreExact on c s fs
+
+-- A call with `enter` and `leave` takes no step that is a sweeping mark, nor does one that finds its gate held.
+
+-- A call that needs no turn makes no sweeping mark.
+abbrev pub CallsSweepNothing : Type 0
+CallsSweepNothing = (p : PassState) (o : Op) (a : Answer) (q : PassState) → Called p o a q → SweepsNothing p q
+
+-- Nor does a try that finds its gate held.
+abbrev pub SweepNothingWhereHeld : Type 0
+SweepNothingWhereHeld = (p : PassState) (o : Op) (q : PassState) → Has p.seats p.seat → FindsGateHeld p o q
+    → SweepsNothing p q

@@ -1,7 +1,7 @@
 //! The cycle that a free begins if one is due.
 ghost use Rattle.std.specs.Prelude.{◌≡◌};
-ghost use Rattle.mk_alloc.specs.Underway.{EndsOlder, RunsCycle, RunsIfDue};
-ghost use Rattle.mk_alloc.specs.Underway.{KeepsYet, MayRunCycle, PassKeeps};
+ghost use Rattle.mk_alloc.specs.Rooms.{EndsOlder, RunsCycle, RunsIfDue};
+ghost use Rattle.mk_alloc.specs.Rooms.{KeepsYet, MayRunCycle, PassKeeps};
 
 use crate::turns::is_cycle_on;
 use mk_caller::lower::words::{Turn, Words};

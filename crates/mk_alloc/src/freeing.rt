@@ -2,7 +2,7 @@
 ghost use Rattle.std.specs.Prelude.{◌≡◌, ◌<◌, ◌∷◌, [], IfOk, OnErr, true};
 ghost use Rattle.mk_never.specs.Admitted.{IsBase};
 ghost use Rattle.mk_caller.specs.States.{caller_of_pass, value_of};
-ghost use Rattle.mk_alloc.specs.{TurnCalls.{FreesObject, IsAnsweredDouble, MayTakeTurns}, Underway.PassKeeps};
+ghost use Rattle.mk_alloc.specs.{TurnCalls.{FreesObject, IsAnsweredDouble, MayTakeTurns}, Rooms.PassKeeps};
 
 use crate::cycles::run_if_due;
 use crate::retirement::{Double, Freed, retire_object};

@@ -1,10 +1,10 @@
 //! A New for whose object there is no room.
 ghost use Rattle.std.specs.Prelude.{◌≡◌, None};
 ghost use Rattle.mk_core.specs.{declared.seats.OwnCycle.TheVariants.Ended, Cycles.{is_begin, is_close}};
-ghost use Rattle.mk_caller.specs.{Below.Words.States.now_of, Below.Words.Sweeping.SweepsNothing};
+ghost use Rattle.mk_caller.specs.Below.Words.{States.now_of, Sweeping.SweepsNothing};
 ghost use Rattle.mk_alloc.specs.Placing.{IsUnplaced, place_now_for};
 ghost use Rattle.mk_cycle.specs.EngineLaw.{IsAtPhase};
-ghost use Rattle.mk_alloc.specs.{Rooms.{AnswersFull, SeesNone}, Underway.IsQuiet};
+ghost use Rattle.mk_alloc.specs.Rooms.{AnswersFull, SeesNone, IsQuiet};
 
 use mk_caller::lower::words::{Turn, Words};
 use mk_core::{Tally, Word};

@@ -1,6 +1,6 @@
 //! What calls leave of the turns before: facts, without code.
-ghost use Rattle.mk_alloc.specs.Laws.{StayExactBehindCalls, StayExactWhereHeld, StayExactBehindTurns};
-ghost use Rattle.mk_alloc.specs.Laws.{StayExactBehindOthers, CallsSweepNothing, SweepNothingWhereHeld};
+ghost use Rattle.mk_alloc.specs.TurnCalls.{StayExactBehindCalls, StayExactWhereHeld, StayExactBehindTurns};
+ghost use Rattle.mk_alloc.specs.TurnCalls.{StayExactBehindOthers, CallsSweepNothing, SweepNothingWhereHeld};
 
 /// A caller's turns stay exact, whatever its next call is, and whatever others do.
 pub fn turns_stay_exact()

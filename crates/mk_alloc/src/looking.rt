@@ -1,9 +1,9 @@
 //! Looks of the turn's holder, at words that none but it changes.
 ghost use Rattle.std.specs.Prelude.{◌≡◌, ℕ, ◌<◌, ◌==◌, true};
-ghost use Rattle.mk_core.specs.{Ranges.is_word, Words.{named_word, phase_of}};
+ghost use Rattle.mk_core.specs.{Conditions.is_word, Words.{named_word, phase_of}};
 ghost use Rattle.mk_caller.specs.Below.Words.States.{call_of, now_of};
 ghost use Rattle.mk_caller.specs.States.{value_of};
-ghost use Rattle.mk_alloc.specs.{Looking.{is_acting, is_steady_word}, Placing.OnlyLooks};
+ghost use Rattle.mk_alloc.specs.Placing.{is_acting, is_steady_word, OnlyLooks};
 
 use mk_caller::lower::words::{Turn, Words};
 use mk_core::{Phase, Word};

@@ -2,7 +2,7 @@
 ghost use Rattle.std.specs.Prelude.{◌≡◌, ◌<◌, ◌∷◌, [], OnOk, IfErr, IfSome, Some, true, false, length};
 ghost use Rattle.mk_caller.specs.States.{caller_of_pass};
 ghost use Rattle.mk_alloc.specs.Rooms.{CountsFull, NeedsRoom, RunsOne, Seeks, answer_with};
-ghost use Rattle.mk_alloc.specs.{TurnCalls.{CalledInTurn, IsAnsweredFull, MayTakeTurns}, Underway.PassKeeps};
+ghost use Rattle.mk_alloc.specs.{TurnCalls.{CalledInTurn, IsAnsweredFull, MayTakeTurns}, Rooms.PassKeeps};
 ghost use Rattle.mk_never.specs.declared.operations.Op.TheVariants as op;
 ghost use Rattle.mk_core.specs.declared.events.Answer.TheVariants as answer;
 

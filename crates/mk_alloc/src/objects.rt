@@ -2,8 +2,8 @@
 ghost use Rattle.std.specs.Prelude.{◌≡◌, ◌<◌, ◌≤◌, ◌*◌, ◌%◌, ◌^◌, if◌then◌else◌, length, true};
 ghost use Rattle.mk_never.specs.Types.{kinds_of};
 ghost use Rattle.mk_core.specs.NewPlaces.{object_of, is_small_object, class_made, pages_made, header_made, bits_made};
-ghost use Rattle.mk_core.specs.{NewPlaces.base_made, ObjectHeaders.{IsSized, words_made}};
-ghost use Rattle.mk_geom.specs.{Addresses.address_of, Classes.{class_words_of, run_pages_of}, Headers.IsInRange};
+ghost use Rattle.mk_core.specs.{NewPlaces.base_made, Allocations.{IsSized, words_made}};
+ghost use Rattle.mk_geom.specs.Addresses.{address_of, class_words_of, run_pages_of, IsInRange};
 ghost use Rattle.mk_geom.specs.Storages.{block_header, run_header};
 ghost use Rattle.mk_alloc.specs.Placing.{object_shaped};
 

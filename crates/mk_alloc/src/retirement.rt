@@ -1,11 +1,12 @@
 //! Freeing the object of a Free under the turn: it is quarantined, and counted.
 ghost use Rattle.std.specs.Prelude.{◌≡◌, ℕ, ◌<◌, true, false, IfOk, OnErr, Some, option_map};
-ghost use Rattle.mk_geom.specs.Headers.{header_of};
+ghost use Rattle.mk_geom.specs.Addresses.{header_of};
 ghost use Rattle.mk_core.specs.{Cells.{header_in, heads_run, run_headed, words_under}, Counts.TalliesAreExact};
 ghost use Rattle.mk_core.specs.{Moments.{none_is_held, nothing_done}, Words.header_at};
 ghost use Rattle.mk_caller.specs.Below.Words.States.{call_of, now_of};
-ghost use Rattle.mk_alloc.specs.{Deciding.{FreesCell, MayFreeOn}, FreeParts.{HasRunAt, HoldsOthers, SetsTally, run_on}};
-ghost use Rattle.mk_alloc.specs.{Looking.is_acting, Placing.IsOutOfStop, Retired.{FindsFreed, Retires}};
+ghost use Rattle.mk_alloc.specs.FreeParts.{FreesCell, MayFreeOn};
+ghost use Rattle.mk_alloc.specs.FreeParts.{HasRunAt, HoldsOthers, SetsTally, run_on};
+ghost use Rattle.mk_alloc.specs.{Placing.{is_acting, IsOutOfStop}, Retiring.{FindsFreed, Retires}};
 ghost use Rattle.mk_alloc.specs.Retiring.{IsUnloaded};
 
 use crate::looking::look_at;

@@ -1,11 +1,11 @@
 //! Room for the object of a New: if it fits nowhere, cycles are finished and begun.
 ghost use Rattle.std.specs.Prelude.{◌≡◌, false};
-ghost use Rattle.mk_caller.specs.{Below.Words.States.now_of, Below.Words.Sweeping.SweepsNothing};
+ghost use Rattle.mk_caller.specs.Below.Words.{States.now_of, Sweeping.SweepsNothing};
 ghost use Rattle.mk_alloc.specs.Placing.{OnlyLooks};
-ghost use Rattle.mk_cycle.specs.{Begun.HoldsFirst, Closing.IsClosedBy, EngineLaw.IsAtPhase};
+ghost use Rattle.mk_cycle.specs.{BeginCycle.HoldsFirst, Stops.IsClosedBy, EngineLaw.IsAtPhase};
 ghost use Rattle.mk_core.specs.{Cycles.{is_begin, is_close}, Effects.cycle_ended};
 ghost use Rattle.mk_alloc.specs.Rooms.{EndsOnly, IsPlacedOr, Misfits, MisfitsAtLast, MisfitsIdly, SeesNone};
-ghost use Rattle.mk_alloc.specs.{Rooms.{NeedsRoom, RunsOne, SeeksRoom}, Underway.PassKeeps};
+ghost use Rattle.mk_alloc.specs.Rooms.{NeedsRoom, RunsOne, SeeksRoom, PassKeeps};
 
 use crate::objects::Request;
 use crate::placing::place_object;

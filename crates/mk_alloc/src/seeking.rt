@@ -2,11 +2,11 @@
 //! the table is looked at.
 ghost use Rattle.std.specs.Prelude.{◌≡◌, ◌+◌, ◌<◌, ◌≤◌, ◌^◌, nat_lt, if◌then◌else◌, not, true, None, Some, option_map};
 ghost use Rattle.std.specs.Prelude.{false, ◌==◌, IfSome};
-ghost use Rattle.mk_geom.specs.{Classes.cells_of, PageUses.{first_where, is_free_page, place_on_uses, small_place}};
-ghost use Rattle.mk_geom.specs.{PageUses.{large_place, carved, resident_pages}, PageWords.{bits_of, use_of_page}};
-ghost use Rattle.mk_geom.specs.PageWords.{uses_of_pages};
+ghost use Rattle.mk_geom.specs.{Addresses.cells_of, PageUses.{first_where, is_free_page, place_on_uses, small_place}};
+ghost use Rattle.mk_geom.specs.PageUses.{large_place, carved, resident_pages, bits_of, use_of_page};
+ghost use Rattle.mk_geom.specs.PageUses.{uses_of_pages};
 ghost use Rattle.mk_core.specs.Words.{header_at, page_of};
-ghost use Rattle.mk_books.specs.{Laws.free_cell_on, Members.has_free_cell};
+ghost use Rattle.mk_books.specs.KnownPages.{free_cell_on, has_free_cell};
 ghost use Rattle.mk_caller.specs.Below.Words.States.{now_of};
 
 use crate::objects::Shape;

@@ -1,11 +1,11 @@
 //! The target of a Free: its register is loaded, its cell found, and the cell quarantined.
 ghost use Rattle.std.specs.Prelude.{◌≡◌, ◌<◌, ◌==◌, ◌%◌, ◌||◌, not, true, false, Some};
 ghost use Rattle.mk_never.specs.declared.values.Value.TheVariants.{Null};
-ghost use Rattle.mk_core.specs.{NewPlaces.target, Bits.has_bit, Cells.{header_in, heads_run, is_freed}};
+ghost use Rattle.mk_core.specs.{NewPlaces.target, Words.has_bit, Cells.{header_in, heads_run, is_freed}};
 ghost use Rattle.mk_core.specs.{Moments.others_are_held, Words.{header_at, named_word}};
 ghost use Rattle.mk_caller.specs.Below.Words.States.{call_of, now_of};
 ghost use Rattle.mk_caller.specs.States.{value_of};
-ghost use Rattle.mk_alloc.specs.{Deciding.{FreesOnce, MayFreeOn}, Placing.OnlyLooks, Retiring.{HasFreed, HasLoaded}};
+ghost use Rattle.mk_alloc.specs.{FreeParts.{FreesOnce, MayFreeOn}, Placing.OnlyLooks, Retiring.{HasFreed, HasLoaded}};
 ghost use Rattle.mk_alloc.specs.Retiring.{HasSeen, IsLoaded, IsUnloaded, KeepsValues};
 ghost use Rattle.mk_core.specs.declared.events.Word.TheVariants as word;
 

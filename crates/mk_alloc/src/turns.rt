@@ -1,10 +1,10 @@
 //! Parts of a turn that every call has.
 ghost use Rattle.std.specs.Prelude.{◌≡◌, ◌==◌, ◌<◌, ◌∷◌, [], Some, true};
 ghost use Rattle.mk_core.specs.{Calls.{at_rest, has_operands, is_under_turn}, Words.phase_of};
-ghost use Rattle.mk_caller.specs.{Below.Words.States.{call_of, now_of}, Below.Words.Steps.Makes};
-ghost use Rattle.mk_caller.specs.Below.Words.Taking.{TakesTurn};
+ghost use Rattle.mk_caller.specs.Below.Words.{States.{call_of, now_of}, Steps.Makes};
+ghost use Rattle.mk_caller.specs.Below.Words.TurnSteps.{TakesTurn};
 ghost use Rattle.mk_caller.specs.States.{IsIdleCaller, caller_of_pass};
-ghost use Rattle.mk_alloc.specs.Underway.{BeginsTurn, IsQuiet, Looks};
+ghost use Rattle.mk_alloc.specs.Rooms.{BeginsTurn, IsQuiet, Looks};
 ghost use Rattle.mk_core.specs.declared.events.Step.TheVariants as step;
 ghost use Rattle.mk_core.specs.declared.seats.Stage.TheVariants as stage;
 

@@ -2,7 +2,7 @@
 //! of all other callers are held.
 ghost use Rattle.std.specs.Prelude.{◌≡◌};
 ghost use Rattle.mk_caller.specs.Below.Words.TurnSteps.{IsStopped};
-ghost use Rattle.mk_alloc.specs.{Deciding.ClearsRun, FreeParts.{HoldsOthers, MayUnmap, Unmaps}};
+ghost use Rattle.mk_alloc.specs.FreeParts.{ClearsRun, HoldsOthers, MayUnmap, Unmaps};
 
 use crate::gates::open_gates;
 use crate::wiping::wipe_run;

@@ -6,8 +6,8 @@ use Rattle.mk_books.proofs.Vocabulary.{arith, cases_eq, cases_lt, false, first_w
 use Rattle.mk_books.proofs.Vocabulary.{is_free_page, is_member, is_of_set, is_some, nat_lt, not, refl, sym, true}
 use Rattle.mk_books.proofs.Vocabulary.{use_of_kind, ◌%◌, ◌<◌, ◌∙◌, ◌≡◌, ◌≤◌}
 use Rattle.mk_books.specs.{PageSets.PutsFree, declared.kinds.PageKind.TheVariants.Block}
-use Rattle.mk_geom.specs.{Classes.{cells_of, class_words_of}, PageUses.{Cells, is_same_sort}, PageWords.bits_of}
-use Rattle.mk_books.{proofs.FreeCellLemmas.{cells_taken_alike}, specs.FreeCells.{class_place}}
+use Rattle.mk_geom.specs.{Addresses.{cells_of, class_words_of}, PageUses.{Cells, is_same_sort, bits_of}}
+use Rattle.mk_books.{proofs.FreeCellLemmas.{cells_taken_alike}, specs.Cells.{class_place}}
 
 pub of_block_set : (set : ℕ) (use' : PageUse) → set < 16
     → is_of_set set use' ≡ has_free_cell (set % 8) (nat_le 8 set) use'

@@ -3,7 +3,7 @@ use Rattle.std.proofs.Common.{add-one, if◌then◌else◌, option_and_then, opt
 use Rattle.mk_books.proofs.Vocabulary.{Bool, List, None, Option, Page, Some, ℕ, ap, arith, false, first_where}
 use Rattle.mk_books.proofs.Vocabulary.{has_free_cell, is_free_page, is_some, nat_lt, not, page_at, refl, resident_pages}
 use Rattle.mk_books.proofs.Vocabulary.{sym, use_of_page, uses_of_pages, [], ◌+◌, ◌∙◌, ◌≡◌}
-use Rattle.mk_books.specs.Laws.{LowestBlockHasThePlace, free_cell_on}
+use Rattle.mk_books.specs.KnownPages.{LowestBlockHasThePlace, free_cell_on}
 use Rattle.mk_geom.specs.{PageUses.{carved, cell_place, cells_taken, or_else, page_behind}, declared.pages.Place.Place}
 
 abbrev cell_here : ℕ → ℕ → Place

@@ -6,11 +6,11 @@ use Rattle.std.proofs.lemmas.List.{map_more, same_lists, set-append_left, set-ap
 use Rattle.std.proofs.lemmas.List.FromFn.{get_or-map-range_with_len, length-map-range_with_len}
 use Rattle.std.proofs.{lemmas.List.Sums.{count_by-le-length, sum_by-cons, sum_by_push}, Math.Bool.beq}
 use Rattle.std.proofs.lemmas.Bool.{and_right}
-use Rattle.mk_geom.specs.{PageWords.{bits_of, use_of_page, use_under, uses_of_pages}, Classes.cells_of}
-use Rattle.mk_geom.specs.{Headers.header_of, PageUses.{Cells, PageUse, cells_taken, free_cells_among}}
-use Rattle.mk_geom.specs.{declared.headers.Header.Header, declared.pages.Page.Page}
+use Rattle.mk_geom.specs.{PageUses.{bits_of, use_of_page, use_under, uses_of_pages}, Addresses.cells_of}
+use Rattle.mk_geom.specs.{Addresses.header_of, PageUses.{Cells, PageUse, cells_taken, free_cells_among}}
+use Rattle.mk_geom.specs.declared.{headers.Header.Header, pages.Page.Page}
 use Rattle.mk_books.proofs.UsedBitLemmas.{length-bits_of}
-use Rattle.mk_books.specs.FreeCells.{HasNoCells, class_place, free_cells_by_class, free_cells_of_sort}
+use Rattle.mk_books.specs.Cells.{HasNoCells, class_place, free_cells_by_class, free_cells_of_sort}
 
 free_cells_among-push : (leaf : Bool) (pages : List PageUse) (page : PageUse) (class : ℕ) → free_cells_among leaf
     (pages ++ page ∷ []) class ≡ free_cells_among leaf pages class + count_by not (cells_taken class leaf page)

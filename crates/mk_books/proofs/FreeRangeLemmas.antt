@@ -4,7 +4,7 @@ use Rattle.std.proofs.Common.{if◌then◌else◌, le-leb, length, length-drop, 
 use Rattle.std.{proofs.{Common.{[], ◌+◌, ◌-◌, ◌<◌, ◌∙◌, ◌∷◌, ◌≡◌, ◌≤◌}, lemmas.Bool.lt-leb}, specs.Option.{option_or}}
 use Rattle.std.proofs.lemmas.List.{at_drop_more, drop-map, length-map}
 use Rattle.mk_geom.specs.PageUses.{PageUse, free_range, is_free_page, longest_free_range, range_start}
-use Rattle.mk_geom.specs.{PageWords.{use_of_page, uses_of_pages}, declared.pages.Page.Page}
+use Rattle.mk_geom.specs.{PageUses.{use_of_page, uses_of_pages}, declared.pages.Page.Page}
 
 -- the longest range, if this many free pages come before these and the longest before is known
 abbrev pub longest_with : ℕ → ℕ → List PageUse → ℕ

@@ -2,7 +2,7 @@
 use Rattle.std.proofs.Common.{ℕ, ap, arith, bit_and, min, pow-add, sym, w64, ◌%◌, ◌+◌, ◌-◌, ◌/◌, ◌<◌, ◌^◌, ◌↔◌, ◌∙◌}
 use Rattle.std.proofs.{Common.{◌≡◌, ◌≤◌}, lemmas.Nat.Bits.{bit_at-lt, bit_at_above, bit_at_and, bit_at_not}}
 use Rattle.std.{proofs.Math.Nat.{div-div-eq-div-mul}, specs.Int.{bit_at, bit_not}}
-use Rattle.mk_books.specs.Quarantine.{IsFreeable}
+use Rattle.mk_books.specs.Cells.{IsFreeable}
 
 -- what `freeable` computes
 abbrev pub freeable_cells : ℕ → ℕ → ℕ → ℕ

@@ -1,10 +1,10 @@
 -- First fit, page by page: what the pages from one on give, and the pages before it.
 use Rattle.std.proofs.Common.{Bool, List, None, Option, Some, ℕ, ap, arith, cond, count_by, drop, false, get_or, length}
 use Rattle.std.proofs.Common.{map, not, option_map, refl, sym, true, zero-add, [], ◌+◌, ◌<◌, ◌∙◌, ◌∷◌, ◌≡◌, ◌≤◌}
-use Rattle.std.proofs.{lemmas.List.{at_drop_all, at_drop_more}, lemmas.List.Sums.sum_by-cons}
+use Rattle.std.proofs.lemmas.List.{at_drop_all, at_drop_more, Sums.sum_by-cons}
 use Rattle.std.specs.Option.{option_or}
 use Rattle.mk_geom.specs.PageUses.{cell_place, cells_taken, first_where, is_free_page, is_resident_page, page_behind}
-use Rattle.mk_geom.specs.{PageUses.resident_pages, PageWords.{use_of_page, uses_of_pages}, declared.pages.Page.Page}
+use Rattle.mk_geom.specs.{PageUses.{resident_pages, use_of_page, uses_of_pages}, declared.pages.Page.Page}
 use Rattle.mk_geom.specs.declared.pages.Place.{Place}
 
 -- a place among the pages from page n on, as a place among all

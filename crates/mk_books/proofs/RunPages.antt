@@ -4,7 +4,7 @@ use Rattle.mk_books.proofs.Vocabulary.{List, Page, ap, arith, cases_eq, cases_lt
 use Rattle.mk_books.proofs.Vocabulary.{get_or-set_other, get_or-set_same, inl, inr, length, length-set, page_at, refl}
 use Rattle.mk_books.proofs.Vocabulary.{resident_pages, set, subst, suc, sym, uses_of_pages, zero, ◌+◌, ◌-◌}
 use Rattle.mk_books.proofs.{Vocabulary.{ℕ, ◌<◌, ◌∙◌, ◌≡◌, ◌≤◌}, FitStays.{resident_changed, resident_one}}
-use Rattle.mk_books.specs.Runs.{with_headers}
+use Rattle.mk_books.specs.KnownPages.{with_headers}
 
 pub length-with_headers : (pages : List Page) (first count : ℕ) (headers : ℕ → ℕ)
     → length (with_headers pages first count headers) ≡ length pages

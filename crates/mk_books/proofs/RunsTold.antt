@@ -11,8 +11,8 @@ use Rattle.mk_books.proofs.{RunPages.{in_range, length-with_headers, page_inside
 use Rattle.mk_books.proofs.Showing.{known_by, member_at, member_of_freed, sets_written, written_in}
 use Rattle.mk_books.proofs.Uncleaned.{uncleaned_alike, uncleaned_at}
 use Rattle.mk_books.{proofs.MovedPages.{no_teller, placed}, specs.PageSets.{MovesPages, is_between, tells_free}}
-use Rattle.mk_books.specs.Runs.{AreBare, HeadersSay, RunIsTold, StandsOn, with_headers}
-use Rattle.mk_geom.specs.{Headers.header_of, PageWords.use_under}
+use Rattle.mk_books.specs.KnownPages.{AreBare, HeadersSay, RunIsTold, StandsOn, with_headers}
+use Rattle.mk_geom.specs.{Addresses.header_of, PageUses.use_under}
 
 -- Header words are stored under which this is on the pages: the pages and the sets before, and the sets and the count
 -- of resident pages then.

@@ -4,7 +4,7 @@ use Rattle.mk_books.proofs.Vocabulary.{AreSets, drop, take, ◌++◌}
 use Rattle.mk_books.proofs.Vocabulary.{KnownPages, List, OthersStay, Page, PageUse, PutsPage, Shows, SortsPage, ℕ, ap}
 use Rattle.mk_books.proofs.Vocabulary.{arith, cases_eq, false, get_or, get_or-set_other, get_or-set_same, inl, inr}
 use Rattle.mk_books.proofs.Vocabulary.{is_member, length, length-set, nat_eq, not, set, sym, ◌<◌, ◌∙◌, ◌≡◌, ◌≤◌}
-use Rattle.mk_books.specs.{Members.has_freed_cells, PageSets.members}
+use Rattle.mk_books.specs.{KnownPages.has_freed_cells, PageSets.members}
 
 abbrev pub known_by : List Page → List ℕ → KnownPages
 known_by pages sets =

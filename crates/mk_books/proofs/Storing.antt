@@ -4,7 +4,7 @@ use Rattle.mk_books.proofs.Vocabulary.{Bool, FitPages, KnownPages, List, Page, P
 use Rattle.mk_books.proofs.Vocabulary.{free_page, is_resident_page, length, page_at, resident_pages, set, subst, sym}
 use Rattle.mk_books.proofs.Vocabulary.{use_of_kind, use_of_page, uses_of_pages, ◌+◌, ◌<◌, ◌≡◌, ◌≤◌}
 use Rattle.mk_books.proofs.{FitStays.{fit_changed, resident_changed, resident_one}, Showing.{changed_shows, known_by}}
-use Rattle.mk_geom.specs.{Headers.header_of, PageWords.use_under}
+use Rattle.mk_geom.specs.{Addresses.header_of, PageUses.use_under}
 
 -- a store: the pages and the sets before it, the sets as they were passed on and left, and the page then
 pub record Stores (held : List Page) (sets slice after : List ℕ) (resident page : ℕ) (now : Page) : Type 0 where

@@ -4,10 +4,10 @@ use Rattle.std.proofs.Common.{inr, le-ltb, length, lt-ltb, map-id, min, nat_eq, 
 use Rattle.std.proofs.Common.{◌-◌, ◌<◌, ◌^◌, ◌∙◌, ◌∷◌, ◌≡◌, ◌≤◌}
 use Rattle.std.proofs.lemmas.List.FromFn.{get_or-map-range_with_len, length-map-range_with_len}
 use Rattle.std.proofs.lemmas.Nat.Bits.{bit_at-lt, bit_at-trailing_ones, bit_at_and, bit_at_ones, bit_at_ones_above}
-use Rattle.std.proofs.{lemmas.Nat.Bits.same_from_bits, lemmas.Simd.{bit_mask_l, ones-mask_l}, lemmas.Bool.cases_lt}
-use Rattle.std.proofs.{lemmas.List.get_or_past, lemmas.List.Sums.sum_by-cons}
+use Rattle.std.proofs.lemmas.{Nat.Bits.same_from_bits, Simd.{bit_mask_l, ones-mask_l}, Bool.cases_lt}
+use Rattle.std.proofs.lemmas.List.{get_or_past, Sums.sum_by-cons}
 use Rattle.std.specs.{Bool.then_some, Int.{bit_at, bit_not, trailing_ones, trailing_zeros}}
-use Rattle.mk_geom.specs.{PageUses.first_where, PageWords.bits_of}
+use Rattle.mk_geom.specs.PageUses.{first_where, bits_of}
 use Rattle.mk_books.proofs.FirstWhereLemmas.{first_where_at, first_where_nowhere}
 use lib.Lanes.{mask_l}
 use lib.Count.{trailing_of_zero}

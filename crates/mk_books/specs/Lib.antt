@@ -1,7 +1,3 @@
-pub mod Quarantine
-pub mod FreeCells
-pub mod Members
+pub mod Cells
 pub mod KnownPages
 pub mod PageSets
-pub mod Runs
-pub mod Laws

@@ -4,9 +4,9 @@ use Rattle.std.specs.Prelude.{◌≡◌, ℕ, ◌+◌, ◌*◌, ◌/◌, ◌%◌
 use Rattle.std.specs.{Prelude.{List, Option, Some, true, length, slice_index, if◌then◌else◌, map}, Int.bit_at}
 use Rattle.std.specs.List.{range_with_len}
 use Rattle.mk_geom.specs.{declared.pages.Page.Page, PageUses.{PageUse, Nothing, Cells, PartOfRun, is_free_page}}
-use Rattle.mk_geom.specs.{PageUses.resident_pages, PageWords.{use_of_page, uses_of_pages, bits_of}, Classes.cells_of}
+use Rattle.mk_geom.specs.{PageUses.{resident_pages, use_of_page, uses_of_pages, bits_of}, Addresses.cells_of}
 use Rattle.mk_geom.specs.declared.headers.Header.{Header}
-use Rattle.mk_books.specs.{Members.{page_at, has_free_cell}, declared.kinds.PageKind.PageKind}
+use Rattle.mk_books.specs.{KnownPages.{page_at, has_free_cell}, declared.kinds.PageKind.PageKind}
 use Rattle.mk_books.specs.declared.kinds.PageKind.TheVariants.{Free, Block, Run}
 
 -- word number word of a set: 64 pages, a bit each

@@ -1,8 +1,8 @@
 //! Counts of what is on the pages.
 ghost use Rattle.std.specs.Prelude.{◌≡◌, ◌<◌, count_by};
 ghost use Rattle.mk_geom.specs.PageUses.{is_free_page, resident_pages, longest_free_range, held_by_uses, census_among};
-ghost use Rattle.mk_geom.specs.PageWords.{uses_of_pages};
-ghost use Rattle.mk_books.specs.FreeCells.{free_cells_by_class, class_place};
+ghost use Rattle.mk_geom.specs.PageUses.{uses_of_pages};
+ghost use Rattle.mk_books.specs.Cells.{free_cells_by_class, class_place};
 
 use crate::page_uses::{BlockKind, block_of, count_clear, is_free, is_resident, words_on};
 use mk_geom::{Census, Page, cells};

@@ -1,9 +1,9 @@
 //! What a page map answers.
 ghost use Rattle.std.specs.Prelude.{◌≡◌, ℕ, ◌<◌, ◌≤◌, List, length, false, true};
 ghost use Rattle.mk_geom.specs.{declared.pages.Page.Page, PageUses.{first_where, is_free_page, range_start}};
-ghost use Rattle.mk_geom.specs.{PageUses.resident_pages, PageWords.{use_of_page, uses_of_pages}};
+ghost use Rattle.mk_geom.specs.PageUses.{resident_pages, use_of_page, uses_of_pages};
 ghost use Rattle.mk_books.specs.KnownPages.{Shows, is_quarantined_page, is_uncleaned};
-ghost use Rattle.mk_books.specs.Members.{IsNext, has_free_cell, has_freed_cells, is_in_use, page_at};
+ghost use Rattle.mk_books.specs.KnownPages.{IsNext, has_free_cell, has_freed_cells, is_in_use, page_at};
 ghost use Rattle.mk_books.specs.PageSets.{AreSets, is_member, is_of_set};
 
 use crate::kinds::{PageKind, kind_of};

@@ -1,6 +1,6 @@
 //! Where an object goes, by first fit.
 ghost use Rattle.std.specs.Prelude.{◌≡◌, ◌<◌, ◌≤◌, ◌^◌};
-ghost use Rattle.mk_geom.specs.{PageUses.{place_on_uses, small_place, large_place, carved}, PageWords.uses_of_pages};
+ghost use Rattle.mk_geom.specs.PageUses.{place_on_uses, small_place, large_place, carved, uses_of_pages};
 
 use crate::page_uses::{free_cell, is_free, is_resident};
 use mk_geom::{Page, Place, SMALL_WORDS, class_of, run_pages};

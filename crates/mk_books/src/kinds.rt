@@ -1,7 +1,7 @@
 //! What pages are by their header words.
 ghost use Rattle.std.specs.Prelude.{◌≡◌, ℕ, ◌<◌, ◌==◌, is_some, not};
-ghost use Rattle.mk_geom.specs.{Classes.cells_of, Headers.header_of, PageUses.first_where};
-ghost use Rattle.mk_geom.specs.{PageUses.is_free_page, PageUses.is_resident_page, PageWords.{bits_of, use_under}};
+ghost use Rattle.mk_geom.specs.{Addresses.{cells_of, header_of}, PageUses.first_where};
+ghost use Rattle.mk_geom.specs.PageUses.{is_free_page, is_resident_page, bits_of, use_under};
 ghost use Rattle.mk_books.specs.PageSets.{HasClass, is_mapped_run, use_of_kind};
 
 use mk_geom::cells;

@@ -1,8 +1,8 @@
 //! What is on one page.
 ghost use Rattle.std.specs.Prelude.{◌≡◌, ◌<◌, ◌≤◌, not, count_by, IfSome, IfNone};
 ghost use Rattle.mk_geom.specs.PageUses.{Cells, is_free_page, is_resident_page, cells_taken, first_where, held_by_use};
-ghost use Rattle.mk_geom.specs.{PageWords.{use_of_page, bits_of}, Classes.cells_of};
-ghost use Rattle.mk_books.specs.FreeCells.{HasNoCells};
+ghost use Rattle.mk_geom.specs.{PageUses.{use_of_page, bits_of}, Addresses.cells_of};
+ghost use Rattle.mk_books.specs.Cells.{HasNoCells};
 
 use mk_geom::{Header, PAGE_WORDS, Page, cells, class_words, decode};
 

@@ -2,7 +2,7 @@
 ghost use Rattle.std.specs.Prelude.{◌≡◌, ◌+◌, ◌*◌, ◌≤◌, ◌^◌, ◌<◌, true, false, length};
 ghost use Rattle.mk_geom.specs.PageUses.{PartOfRun};
 ghost use Rattle.mk_books.specs.PageSets.{AreSets, MovesPages, is_between};
-ghost use Rattle.mk_books.specs.Runs.{AreBare, HeadersSay, RunIsTold, StandsOn, run_word, with_headers};
+ghost use Rattle.mk_books.specs.KnownPages.{AreBare, HeadersSay, RunIsTold, StandsOn, run_word, with_headers};
 
 use crate::page_map::PageMap;
 use crate::sets::{bits_between, put_bits};

@@ -2,7 +2,7 @@
 //! So a set's next page is found by two words of it and the summary.
 ghost use Rattle.std.specs.Prelude.{◌≡◌, ℕ, ◌+◌, ◌*◌, ◌<◌, ◌≤◌, ◌==◌, false, true, nat_lt, not, if◌then◌else◌};
 ghost use Rattle.std.specs.{Int.bit_at};
-ghost use Rattle.mk_books.specs.{Members.IsNext};
+ghost use Rattle.mk_books.specs.{KnownPages.IsNext};
 ghost use Rattle.mk_books.specs.PageSets.{AreSets, PutsBits, PutsPage, StoresWord, is_between, is_member};
 
 /// A summary and 64 words.

@@ -1,7 +1,7 @@
 //! The sets that a page is in, by what is on it.
 ghost use Rattle.std.specs.Prelude.{◌≡◌, ℕ, ◌<◌, ◌≤◌, ◌==◌, ◌&&◌, ◌||◌, IfOk, false, true, nat_lt, not};
-ghost use Rattle.mk_books.specs.FreeCells.{class_place};
-ghost use Rattle.mk_geom.specs.{Headers.header_of, PageWords.use_under};
+ghost use Rattle.mk_books.specs.Cells.{class_place};
+ghost use Rattle.mk_geom.specs.{Addresses.header_of, PageUses.use_under};
 ghost use Rattle.mk_geom.specs.PageUses.{PartOfRun, is_free_page, is_resident_page};
 ghost use Rattle.mk_books.specs.PageSets.{AreSets, HasClass, IsInItsSets, PutsFree, PutsPage, SortsPage, is_member};
 ghost use Rattle.mk_books.specs.PageSets.{use_of_kind};

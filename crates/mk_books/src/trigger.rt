@@ -1,6 +1,6 @@
 //! When a marking pass is due, and which cells of a block it frees.
 ghost use Rattle.std.specs.{Prelude.{◌≡◌, ◌↔◌, ℕ, ◌*◌, ◌<◌, ◌≤◌, IsTrue}, Int.bit_at};
-ghost use Rattle.mk_books.specs.Quarantine.{IsFreeable};
+ghost use Rattle.mk_books.specs.Cells.{IsFreeable};
 
 /// Whether what was freed since the last pass is more than a quarter of what is held. Both are counts of words.
 pub fn due(fresh: u64, held: u64) -> bool

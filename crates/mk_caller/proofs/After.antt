@@ -3,11 +3,11 @@ use Rattle.mk_words.proofs.Below.Laws.Vocabulary.{Answer, Bool, NeverState, Null
 use Rattle.mk_words.proofs.Below.Laws.Vocabulary.{WordOf, ℕ, after_free, ap, arith, false, get_or-set_other}
 use Rattle.mk_words.proofs.Below.Laws.Vocabulary.{get_or-set_same, if◌then◌else◌, is_same, never_behind, refl}
 use Rattle.mk_words.proofs.Below.Laws.Vocabulary.{register_at, true, with_register, with_word, word_at, ◌*◌, ◌++◌, ◌+◌}
-use Rattle.mk_words.proofs.{Below.Laws.Vocabulary.{◌<◌, ◌∙◌, ◌≡◌, ◌≢◌}, Below.Laws.OtherCalls.never_continues}
+use Rattle.mk_words.proofs.Below.Laws.{Vocabulary.{◌<◌, ◌∙◌, ◌≡◌, ◌≢◌}, OtherCalls.never_continues}
 use Rattle.mk_never.specs.{NeverHeap.{after_op, left_at}, Admitted.IsCaller, declared.values.Target.Target}
 use Rattle.mk_never.specs.declared.values.Target.TheVariants.{Nothing}
 use Rattle.mk_caller.specs.{States.{caller_of_pass, never_of, value_of}, Called.Called}
-use Rattle.mk_caller.specs.Laws.{CallsLeaveOtherRegisters, destination}
+use Rattle.mk_caller.specs.Called.{CallsLeaveOtherRegisters, destination}
 use Rattle.mk_words.specs.States.{PassState}
 
 set_other : (n : NeverState) (k d r : ℕ) (v : Value) → Some d ≢ Some r

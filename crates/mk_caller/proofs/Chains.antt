@@ -8,7 +8,7 @@ use Rattle.mk_never.specs.{Admitted.OperandsAreInRange, declared.values.Target.T
 use Rattle.mk_caller.proofs.Joined.{joined, joined_on}
 use Rattle.mk_caller.specs.Moves.{CallGoesOn, IsAtFlight, MakesSteps, MayBeginCall, is_access, loads, passes}
 use Rattle.mk_caller.specs.{Moves.{refused_register, refused_steps}, States.{caller_of_pass, never_of, value_of}}
-use Rattle.mk_caller.specs.{Called.{Called, steps_made}, Causes.{Probes, ProbesAWord}}
+use Rattle.mk_caller.specs.Called.{Called, steps_made, Probes, ProbesAWord}
 use Rattle.mk_words.specs.States.{PassState, call_of}
 
 -- Further steps of a call that isn't decided; how they go on is said by the call before them.

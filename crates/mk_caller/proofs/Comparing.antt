@@ -4,9 +4,9 @@ use Rattle.mk_words.proofs.Below.Laws.Vocabulary.{answer_of, ap, arith, bit, is_
 use Rattle.mk_words.proofs.Below.Laws.Vocabulary.{target_of, true, word_at, ◌↔◌, ◌∙◌, ◌≡◌}
 use Rattle.mk_never.proofs.Sameness.{equal_from_same, same_from_equal}
 use Rattle.mk_never.specs.declared.values.Target.TheVariants.{Nothing}
-use Rattle.mk_never.specs.{NeverHeap.reply_at, declared.operations.Reply.Reply, declared.values.Target.Target}
+use Rattle.mk_never.specs.{NeverHeap.reply_at, declared.{operations.Reply.Reply, values.Target.Target}}
 use Rattle.mk_caller.specs.States.{Admits, caller_of_pass, never_then, value_of}
-use Rattle.mk_caller.specs.{Called.Says, Comparing.CallComparesValues}
+use Rattle.mk_caller.specs.Called.{Says, CallComparesValues}
 use Rattle.mk_words.specs.States.{PassState}
 
 -- the word that an access gets to which is answered by a number, and what that says

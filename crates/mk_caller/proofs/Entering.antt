@@ -2,8 +2,8 @@
 use Rattle.std.proofs.Common.{Err, Ok, OnErr, OnOk, Result}
 use Rattle.mk_words.proofs.Below.Laws.Vocabulary.{None, Op, Step, ap, append-nil, begun, refl, still, ◌∙◌}
 use Rattle.mk_caller.proofs.{OneStep.one_step, Onward.enters}
-use Rattle.mk_caller.specs.{Called.own_calls, Causes.FindsGateHeld, Moves.{CallMoves, MayBeginCall}}
-use Rattle.mk_words.specs.{States.{PassState, call_of}, CallSteps.FindsHeld, Steps.Goes, declared.call_steps.Held.Held}
+use Rattle.mk_caller.specs.{Called.{own_calls, FindsGateHeld}, Moves.{CallMoves, MayBeginCall}}
+use Rattle.mk_words.specs.{States.{PassState, call_of}, Steps.{FindsHeld, Goes}, declared.call_steps.Held.Held}
 
 pub entered : {p : PassState} {o : Op} (q : PassState) (r : Result (Unit {0}) Held) → MayBeginCall p o
     → OnOk r (Goes p (Step.Enter o) (record { flight = begun o; answer = None }) q)

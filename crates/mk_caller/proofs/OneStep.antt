@@ -8,9 +8,9 @@ use Rattle.mk_words.proofs.Below.Laws.Vocabulary.{flagged, is_under_turn, left, 
 use Rattle.mk_words.proofs.Below.Laws.Vocabulary.{sym, true, world_behind, [], ◌++◌, ◌<◌, ◌∙◌, ◌∷◌, ◌≡◌}
 use Rattle.mk_words.proofs.Below.Laws.LastEvents.{comes_last, stands}
 use Rattle.mk_words.proofs.Below.Laws.OtherCalls.{never_continues, registers_are_left}
-use Rattle.mk_words.proofs.{Below.Laws.FramesLongerLists.call_on, Below.Laws.ImagesHistories.one_event}
+use Rattle.mk_words.proofs.Below.Laws.{FramesLongerLists.call_on, ImagesHistories.one_event}
 use Rattle.mk_words.proofs.Below.Laws.InvariantHistories.{told_to_images}
-use Rattle.mk_core.{proofs.Histories.{calls_more}, specs.Ranges.{is_word_met}}
+use Rattle.mk_core.{proofs.Histories.{calls_more}, specs.Conditions.{is_word_met}}
 use Rattle.mk_caller.proofs.OwnSteps.{by_append, calls_by, others_add_none, own_entry, own_step}
 use Rattle.mk_caller.specs.{Moves.{IsDecidedAs, IsUnderway, MakesSteps, is_past_decision}, Called.own_calls}
 use Rattle.mk_caller.specs.States.{Admits, caller_of_pass, never_of}

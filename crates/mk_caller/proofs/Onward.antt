@@ -4,11 +4,11 @@ use Rattle.mk_words.proofs.Below.Laws.Vocabulary.{ℕ, ap, arith, at_rest, begun
 use Rattle.mk_words.proofs.Below.Laws.Vocabulary.{is_under_turn, is_unmapped_header, onward, progress_read}
 use Rattle.mk_words.proofs.Below.Laws.Vocabulary.{progress_reg, refl, refused, stage_behind, steps_of, subst, sym, true}
 use Rattle.mk_words.proofs.Below.Laws.Vocabulary.{[], ◌∙◌, ◌∷◌, ◌≡◌}
-use Rattle.mk_core.specs.{Calls.progress_getg, Effects.progress_probe, Ranges.is_word_met}
-use Rattle.mk_caller.proofs.{Enabling.caller_exists, OneStep.goes_underway, OneStep.one_step}
-use Rattle.mk_caller.specs.{Moves.CallMoves, Moves.IsUnderway, Moves.MayBeginCall, Moves.is_past_decision}
-use Rattle.mk_caller.specs.{Moves.is_stage_of, Moves.loads_register, Moves.stores_register, States.Admits}
-use Rattle.mk_words.{proofs.Made.pass_before, specs.States.PassState, specs.States.call_of, specs.Steps.Goes}
+use Rattle.mk_core.specs.{Calls.progress_getg, Effects.progress_probe, Conditions.is_word_met}
+use Rattle.mk_caller.proofs.{Enabling.caller_exists, OneStep.{goes_underway, one_step}}
+use Rattle.mk_caller.specs.Moves.{CallMoves, IsUnderway, MayBeginCall, is_past_decision}
+use Rattle.mk_caller.specs.{Moves.{is_stage_of, loads_register, stores_register}, States.Admits}
+use Rattle.mk_words.{proofs.Made.pass_before, specs.{States.{PassState, call_of}, Steps.Goes}}
 
 pub record Next (c : Config) (f : Flight) (x : Progress) : Type 0 where
   pub op : x.flight.op ≡ f.op

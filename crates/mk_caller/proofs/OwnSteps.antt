@@ -6,7 +6,7 @@ use Rattle.mk_words.proofs.Below.Laws.Vocabulary.{false}
 use Rattle.mk_words.proofs.Below.Laws.Vocabulary.{found, if◌then◌else◌, is_one_of, map, map-append}
 use Rattle.mk_words.proofs.Below.Laws.Vocabulary.{refl, sym, true, world_behind, [], ◌++◌, ◌∙◌, ◌∷◌, ◌≡◌}
 use Rattle.mk_words.proofs.{Below.Laws.ProtocolFrames.other_seat}
-use Rattle.mk_core.specs.{Growing.{AreOfOthers, Finding, is_same_seat, own_from}, History.{left_from}}
+use Rattle.mk_core.specs.History.{AreOfOthers, Finding, is_same_seat, own_from, left_from}
 use Rattle.mk_words.proofs.Seats.{same_seat, same_self}
 
 own_append : (c : Config) (s : Seat) (w : World) (xs ys : List Event)

@@ -6,15 +6,15 @@ use Rattle.mk_words.proofs.Below.Laws.Vocabulary.{bases_of, caller_number, false
 use Rattle.mk_words.proofs.Below.Laws.Vocabulary.{header_of, i_of, if◌then◌else◌, image_scene_of, is_unmapped_header}
 use Rattle.mk_words.proofs.Below.Laws.Vocabulary.{left, never_behind, page_met, q_of, refl, register_at, subst, sym}
 use Rattle.mk_words.proofs.Below.Laws.Vocabulary.{target_of, true, [], ◌*◌, ◌++◌, ◌+◌, ◌<◌, ◌∙◌, ◌∷◌, ◌≡◌, ◌≢◌}
-use Rattle.mk_words.proofs.{Below.Laws.FramesLongerLists.meets_register, Below.Laws.LastEvents.{Stands, stands}}
+use Rattle.mk_words.proofs.Below.Laws.{FramesLongerLists.meets_register, LastEvents.{Stands, stands}}
 use Rattle.mk_words.proofs.Below.Laws.OrderlyLists.{not_astray}
 use Rattle.mk_words.proofs.Below.Laws.OtherCalls.{never_continues, registers_are_left}
 use Rattle.mk_words.proofs.Below.Laws.ProbesStill.{pages_tell, ready}
 use Rattle.mk_words.proofs.Below.Laws.Reached.{mapped_met, unmapped_target}
-use Rattle.mk_words.proofs.{Below.Laws.Stages.{calls_stand, is_call_stage}, Below.Laws.Standings.{InCall, standing}}
-use Rattle.mk_words.specs.Below.Laws.LoadedRegisters.{has_q, has_some_q}
+use Rattle.mk_words.proofs.Below.Laws.{Stages.{calls_stand, is_call_stage}, Standings.{InCall, standing}}
+use Rattle.mk_words.specs.Below.Laws.Theorems.{has_q, has_some_q}
 use Rattle.mk_caller.proofs.{Enabling.met_is_small, OneStep.own_seat, WordsMet.access_meets}
-use Rattle.mk_caller.specs.{States.{caller_of_pass, never_of, value_of}, Causes.{Probes, ProbesAWord}}
+use Rattle.mk_caller.specs.{States.{caller_of_pass, never_of, value_of}, Called.{Probes, ProbesAWord}}
 use Rattle.mk_caller.specs.Moves.{IsUnderway, is_access}
 use Rattle.mk_words.{proofs.Made.{Made, made}, specs.{States.{PassState, call_of, event_of}, Steps.Finds}}
 

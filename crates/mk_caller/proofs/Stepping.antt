@@ -4,12 +4,12 @@ use Rattle.mk_words.proofs.Below.Laws.Vocabulary.{comes_next, false, group_of, h
 use Rattle.mk_words.proofs.Below.Laws.Vocabulary.{is_in_range, is_put, is_unmapped_header, leb-true, ltb-true, onward}
 use Rattle.mk_words.proofs.Below.Laws.Vocabulary.{refl, refused, register_met, true, word_met, ◌*◌, ◌+◌, ◌-◌, ◌/◌, ◌<◌}
 use Rattle.mk_words.proofs.Below.Laws.Vocabulary.{◌^◌, ◌↔◌, ◌≡◌, ◌≤◌}
-use Rattle.mk_words.specs.Below.Laws.LoadedRegisters.{has_q, has_some_q}
-use Rattle.mk_core.specs.{Effects.progress_probe, Ranges.is_word_met}
+use Rattle.mk_words.specs.Below.Laws.Theorems.{has_q, has_some_q}
+use Rattle.mk_core.specs.{Effects.progress_probe, Conditions.is_word_met}
 use Rattle.mk_caller.proofs.Enabling.{admitted, enabled, idly_admitted, met_is_small, put_decides_nothing}
 use Rattle.mk_caller.{proofs.WordsMet.{null_tells, word_is_met}, specs.States.value_of}
 use Rattle.mk_caller.specs.Moves.{CallMoves, IsUnderway, is_access, is_past_decision, loads_register, stores_register}
-use Rattle.mk_words.specs.{States.{PassState, call_of}, CallSteps.register_of, Steps.{IsAdmittedTo, IsEnabledTo}}
+use Rattle.mk_words.specs.{States.{PassState, call_of}, Steps.{register_of, IsAdmittedTo, IsEnabledTo}}
 
 load_undecided : (s : Stage) → loads_register s ≡ true → (is_past_decision s ≡ false) × (is_put s ≡ false)
 load_undecided x0 h = grind arith

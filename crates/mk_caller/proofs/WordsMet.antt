@@ -5,12 +5,12 @@ use Rattle.mk_words.proofs.Below.Laws.Vocabulary.{Op, Ptr, Value, World, ℕ, an
 use Rattle.mk_words.proofs.Below.Laws.Vocabulary.{flight_of, histories_keep_lengths, i_of, image_of, is_put, le-leb}
 use Rattle.mk_words.proofs.Below.Laws.Vocabulary.{left, lt-ltb, never_behind, q_of, register_at, register_word, sym}
 use Rattle.mk_words.proofs.Below.Laws.Vocabulary.{true, ◌%◌, ◌*◌, ◌+◌, ◌/◌, ◌<◌, ◌↔◌, ◌∙◌, ◌≡◌}
-use Rattle.mk_words.proofs.{Below.Laws.ImagesKept.base_at, Below.Laws.LastEvents.stands, Below.Laws.Pairs.shows_plain}
-use Rattle.mk_words.proofs.{Below.Laws.ProbesStill.ready, Below.Laws.Ready.image_zero}
-use Rattle.mk_words.specs.Below.Laws.LoadedRegisters.{has_q, has_some_q}
-use Rattle.mk_core.specs.Ranges.{is_word_met}
-use Rattle.mk_caller.specs.{Moves.is_access, States.Admits, States.value_of}
-use Rattle.mk_words.specs.{CallSteps.register_of, States.PassState, States.call_of}
+use Rattle.mk_words.proofs.Below.Laws.{ImagesKept.base_at, LastEvents.stands, Pairs.shows_plain}
+use Rattle.mk_words.proofs.Below.Laws.{ProbesStill.ready, Ready.image_zero}
+use Rattle.mk_words.specs.Below.Laws.Theorems.{has_q, has_some_q}
+use Rattle.mk_core.specs.Conditions.{is_word_met}
+use Rattle.mk_caller.specs.{Moves.is_access, States.{Admits, value_of}}
+use Rattle.mk_words.specs.{Steps.register_of, States.{PassState, call_of}}
 
 meets_some : (n : NeverState) (v : Value) (i : ℕ) (P : Kind → Type 0) → Meets n v i P → Meets n v i (λ kind. Unit {0})
 meets_some n Null i P h = tt

@@ -2,11 +2,11 @@
 use Rattle.std.specs.Prelude.{◌≡◌, ℕ, ◌<◌, Bool, true, false, List, [], ◌∷◌, ◌++◌, map, Option, Some, None}
 use Rattle.std.specs.List.{list_any}
 use Rattle.mk_never.specs.{declared.operations.Op.Op, Laws.KeepsRegisters}
-use Rattle.mk_core.specs.{declared.events.Answer.Answer, declared.events.Event.Event, Ranges.is_word_met}
-use Rattle.mk_core.specs.{declared.events.Seat.TheVariants.Caller, declared.events.Step.Step}
-use Rattle.mk_core.specs.{declared.seats.Stage.Stage, declared.seats.Flight.Flight, declared.seats.Progress.Progress}
+use Rattle.mk_core.specs.{declared.events.{Answer.Answer, Event.Event}, Conditions.is_word_met}
+use Rattle.mk_core.specs.declared.events.{Seat.TheVariants.Caller, Step.Step}
+use Rattle.mk_core.specs.declared.seats.{Stage.Stage, Flight.Flight, Progress.Progress}
 use Rattle.mk_core.specs.Calls.{at_rest, begun, onward, refused, is_same_stage, is_under_turn, stage_refused, one_if}
-use Rattle.mk_core.specs.{Calls.{progress_reg, progress_read, progress_getg}, Decided.entry_of, History.never_behind}
+use Rattle.mk_core.specs.{Calls.{progress_reg, progress_read, progress_getg, entry_of}, History.never_behind}
 use Rattle.mk_words.specs.States.{PassState, IsPass, call_of}
 use Rattle.mk_caller.specs.{States.{caller_of_pass, never_of, Admits}, Called.{step_at, refused_from, own_steps}}
 use Rattle.mk_caller.specs.Called.{own_calls, IsDecidedIn}

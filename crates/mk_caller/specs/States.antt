@@ -1,11 +1,11 @@
 -- What contracts see of a caller.
 use Rattle.std.specs.{Prelude.{◌≡◌, ℕ, Bool, true, false, List, [], ◌++◌, Option, Some, None, is_some}, Coded.codes}
-use Rattle.mk_never.specs.{declared.operations.Op.Op, declared.values.Value.Value, NeverHeap.{NeverState, register_at}}
+use Rattle.mk_never.specs.{declared.{operations.Op.Op, values.Value.Value}, NeverHeap.{NeverState, register_at}}
 use Rattle.mk_never.specs.Admitted.{IsAdmitted}
 use Rattle.mk_core.specs.{Accesses.caller_number, History.never_behind, Calls.at_rest, declared.events.Event.Event}
-use Rattle.mk_core.specs.{declared.events.Seat.Seat, declared.events.Seat.TheVariants.Caller}
+use Rattle.mk_core.specs.declared.events.Seat.{Seat, TheVariants.Caller}
 use Rattle.mk_core.specs.declared.seats.Flight.{Flight}
-use Rattle.mk_words.specs.{OneProof.pass_prop, States.{WordsState, IsPass, PassState, call_of}}
+use Rattle.mk_words.specs.{Laws.pass_prop, States.{WordsState, IsPass, PassState, call_of}}
 use denote.Struct.Props.{props}
 
 -- the caller whose pass it is

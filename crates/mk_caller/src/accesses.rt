@@ -1,11 +1,11 @@
 //! What several calls do in the same way: they begin an access through a register, probe its page, and end.
 ghost use Rattle.std.specs.Prelude.{◌≡◌, ◌≢◌, IfOk, IfErr, IfSome, IfNone, Some, None, true, [], ◌∷◌, ◌++◌};
-ghost use Rattle.mk_never.specs.{declared.values.Target.TheVariants.Unmapped, declared.values.Value.TheVariants.Null};
+ghost use Rattle.mk_never.specs.declared.values.{Target.TheVariants.Unmapped, Value.TheVariants.Null};
 ghost use Rattle.mk_core.specs.{declared.accesses.Access.TheVariants.Store, Accesses.reg_access};
 ghost use Rattle.mk_core.specs.Calls.{at_rest, onward, stage_refused, stage_behind, steps_of, q_of, i_of, d_of};
 ghost use Rattle.mk_core.specs.Calls.{word_met, progress_reg};
 ghost use Rattle.mk_words.specs.States.{call_of};
-ghost use Rattle.mk_caller.specs.{States.{IsPassOfCaller, value_of}, Causes.{Probes, ProbesAWord, IsRefused}};
+ghost use Rattle.mk_caller.specs.{States.{IsPassOfCaller, value_of}, Called.{Probes, ProbesAWord, IsRefused}};
 ghost use Rattle.mk_caller.specs.Moves.{MayBeginCall, IsUnderway, IsAtFlight, Ends, CallGoesOn, is_access};
 ghost use Rattle.mk_caller.specs.Moves.{stores_register, refused_register, refused_steps, behind_q, loads};
 ghost use Rattle.mk_caller.specs.Moves.{passes};

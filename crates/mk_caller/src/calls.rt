@@ -2,7 +2,7 @@
 ghost use Rattle.std.specs.Prelude.{◌≡◌, ◌≢◌, IfOk, OnOk, OnErr, IfErr};
 ghost use Rattle.mk_never.specs.{declared.values.Value.TheVariants.Null, NeverHeap.is_same};
 ghost use Rattle.mk_caller.specs.{States.{IsPassOfCaller, value_of}, Called.{Called, Says, IsAnswered}};
-ghost use Rattle.mk_caller.specs.{Causes.{FindsGateHeld, IsRefused, ProbesAWord}, Comparing.CallComparesValues};
+ghost use Rattle.mk_caller.specs.Called.{FindsGateHeld, IsRefused, ProbesAWord, CallComparesValues};
 ghost use Rattle.mk_caller.specs.Moves.{MayBeginCall};
 ghost use Rattle.mk_never.specs.declared.operations.Op.TheVariants as op;
 ghost use Rattle.mk_core.specs.declared.events.Answer.TheVariants as answer;

@@ -1,12 +1,12 @@
 //! The steps of a call, each with what is known of the call after it.
 ghost use Rattle.std.specs.Prelude.{◌≡◌, ◌↔◌, OnOk, OnErr, IfSome, IfNone, Some, None, true, ◌+◌, ◌-◌, ◌*◌, ◌/◌, ◌%◌};
 ghost use Rattle.std.specs.Prelude.{◌^◌};
-ghost use Rattle.mk_never.specs.{declared.values.Value.TheVariants.Null, declared.values.Target.TheVariants.Unmapped};
+ghost use Rattle.mk_never.specs.declared.values.{Value.TheVariants.Null, Target.TheVariants.Unmapped};
 ghost use Rattle.mk_core.specs.{declared.accesses.Access.TheVariants.Store, Accesses.{register_met, reg_access}};
 ghost use Rattle.mk_core.specs.Calls.{refused, g_of, i_of, value_written, page_met, word_met};
 ghost use Rattle.mk_words.specs.States.{call_of};
-ghost use Rattle.mk_words.specs.Below.Laws.LoadedRegisters.{has_q, has_some_q};
-ghost use Rattle.mk_caller.specs.{States.{IsPassOfCaller, value_of}, Causes.{FindsGateHeld, Probes, ProbesAWord}};
+ghost use Rattle.mk_words.specs.Below.Laws.Theorems.{has_q, has_some_q};
+ghost use Rattle.mk_caller.specs.{States.{IsPassOfCaller, value_of}, Called.{FindsGateHeld, Probes, ProbesAWord}};
 ghost use Rattle.mk_caller.specs.Moves.{MayBeginCall, IsUnderway, CallMoves, CallGoesOn, begins, is_access};
 ghost use Rattle.mk_caller.specs.Moves.{loads_register, stores_register, loads, loads_global, passes, faults, reads};
 ghost use Rattle.mk_caller.specs.Moves.{writes, exchanges, call_ends};

@@ -9,7 +9,7 @@ use Rattle.mk_check.proofs.{Vocabulary.{◌∷◌, ◌≡◌, ◌≤◌}, FaultL
 use Rattle.mk_check.proofs.GrammarLemmas.{at_most-None, heap_within, length-global_names, length-script_names}
 use Rattle.mk_check.proofs.{GrammarLemmas.length-type_names, NumberLemmas.{length-globals_among, length-kinds_among}}
 use Rattle.mk_check.{proofs.{DeclaredPlaces.type_place, FormLemmas.line_item-word}, specs.Declarations.{config_of}}
-use Rattle.mk_core.specs.Config.{IsAmong, IsTypeAmong, IsWithinLimits}
+use Rattle.mk_core.specs.Moments.{IsAmong, IsTypeAmong, IsWithinLimits}
 use Rattle.mk_check.specs.Typing.{IsWellTyped, inside_fault, offsets_fault, pointers_fault, type_fault}
 use Rattle.mk_script.{proofs.PassedLines.{IsWhole}, specs.declared.items.TypeWord.TheVariants.{Number, Pointer}}
 use Rattle.mk_script.specs.{Lines.at_most, declared.items.Item.TheVariants.{Global, TypeLine}}

@@ -4,7 +4,7 @@ use Rattle.std.proofs.lemmas.Grind.{reverse_onto}
 use Rattle.mk_check.proofs.Vocabulary.{Bool, Item, List, Part, PartCount, ℕ, ap, arith, branch, cases_lt, counts_of}
 use Rattle.mk_check.proofs.Vocabulary.{get_or, get_or_at, if◌then◌else◌, length, length-append, refl, reverse, suc}
 use Rattle.mk_check.proofs.Vocabulary.{with_item, zero, [], ◌*◌, ◌++◌, ◌+◌, ◌-◌, ◌<◌, ◌∙◌, ◌∷◌, ◌≡◌}
-use Rattle.mk_check.specs.{Counts.{counts_with, saturated_count, with_count, with_innermost}, Lengths.length_of}
+use Rattle.mk_check.specs.Blocks.{counts_with, saturated_count, with_count, with_innermost, length_of}
 
 saturated_count-rounds : (rounds body : ℕ)
     → saturated_count (1 + rounds * (1 + body)) ≡ saturated_count (1 + rounds * (1 + saturated_count body))

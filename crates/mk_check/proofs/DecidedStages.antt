@@ -2,14 +2,14 @@
 use Rattle.std.specs.List.{list_any}
 use Rattle.mk_check.proofs.Vocabulary.{Answer, Bool, Config, None, Op, Option, Some, ℕ, and_parts, arith, false}
 use Rattle.mk_check.proofs.Vocabulary.{if◌then◌else◌, not, refl, true, [], ◌+◌, ◌==◌, ◌∷◌, ◌≡◌}
-use Rattle.mk_geom.specs.Headers.{header_of}
+use Rattle.mk_geom.specs.Addresses.{header_of}
 use Rattle.mk_core.specs.Effects.{decided, progress, progress_freed, sees_double}
-use Rattle.mk_core.specs.{Calls.begun, Calls.is_same_stage, Calls.onward, Calls.progress_q, Calls.progress_reg}
-use Rattle.mk_core.specs.{Calls.refused, Calls.stage_behind, Calls.steps_of, Calls.still, Cells.is_unmapped_header}
-use Rattle.mk_core.specs.{Enabled.holder_may, Moments.Moment, Order.comes_next, Order.is_of_any_holder}
-use Rattle.mk_core.specs.{Order.may_decide_new, Words.Words, declared.events.Step.Step, declared.events.Word.Word}
-use Rattle.mk_core.specs.{declared.seats.Flight.Flight, declared.seats.Progress.Progress, declared.seats.Stage.Stage}
-use Rattle.mk_check.specs.Output.{ends_call}
+use Rattle.mk_core.specs.Calls.{begun, is_same_stage, onward, progress_q, progress_reg}
+use Rattle.mk_core.specs.{Calls.{refused, stage_behind, steps_of, still}, Cells.is_unmapped_header}
+use Rattle.mk_core.specs.{Enabled.holder_may, Moments.Moment, Conditions.{comes_next, is_of_any_holder}}
+use Rattle.mk_core.specs.{Conditions.may_decide_new, Words.Words, declared.events.{Step.Step, Word.Word}}
+use Rattle.mk_core.specs.declared.seats.{Flight.Flight, Progress.Progress, Stage.Stage}
+use Rattle.mk_check.specs.Feed.{ends_call}
 
 -- The operation has a stage. A refused Lea stores null, at a stage that it hasn't else.
 abbrev pub has_stage : Op → Stage → Bool

@@ -3,9 +3,9 @@ use Rattle.std.{proofs.lemmas.List.Elements.filter_map-append, specs.{Borrow.Bor
 use Rattle.mk_check.proofs.Vocabulary.{At, Err, Item, List, None, Ok, OnOk, Option, Result, TypeWord, ap, arith, map}
 use Rattle.mk_check.proofs.Vocabulary.{map-append, refl, sym, ℕ, [], ◌++◌, ◌∙◌, ◌∷◌, ◌≡◌}
 use Rattle.mk_check.proofs.DeclaredPlaces.{declares_nothing}
-use Rattle.mk_check.specs.{declared.declarations.Declarations.Declarations, declared.registers.Registers.Registers}
+use Rattle.mk_check.specs.declared.{declarations.Declarations.Declarations, registers.Registers.Registers}
 use Rattle.mk_check.specs.Declarations.{declared_type, declared_words}
-use Rattle.mk_check.specs.{Lookups.{AreDeclared, AreRegisters, declared_for}, Typing.declared_place}
+use Rattle.mk_check.specs.Typing.{AreDeclared, AreRegisters, declared_for, declared_place}
 use Rattle.mk_script.proofs.Pushed.{names_of-append}
 use Rattle.mk_script.specs.{declared.items.Item.TheVariants.{Global, Num, Ptr, TypeLine}, Scopes.declared_name}
 use Rattle.mk_script.specs.declared.sorts.Sort.{Sort}

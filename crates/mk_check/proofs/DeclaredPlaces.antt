@@ -1,5 +1,5 @@
 -- What stands at the place of a declared name.
-use Rattle.std.proofs.{lemmas.List.Elements.filter_map-append, lemmas.Option.get_or_from_slice_get}
+use Rattle.std.proofs.lemmas.{List.Elements.filter_map-append, Option.get_or_from_slice_get}
 use Rattle.std.specs.List.{cons_option, filter_map, list_any}
 use Rattle.mk_check.proofs.Vocabulary.{At, Bool, Item, List, None, Option, Some, TypeWord, ℕ, append-nil, arith}
 use Rattle.mk_check.proofs.Vocabulary.{bytes_eq, bytes_eq-Decides, get_or, global_names, global_type, globals_among}
@@ -7,7 +7,7 @@ use Rattle.mk_check.proofs.Vocabulary.{if◌then◌else◌, kind_of, kinds_among
 use Rattle.mk_check.proofs.Vocabulary.{number_of_name, option_map, option_or, pointer_at, pointer_names, refl}
 use Rattle.mk_check.proofs.Vocabulary.{same_Some, slice_get, slice_get_within, suc, sym, type_names, type_words, []}
 use Rattle.mk_check.proofs.Vocabulary.{◌++◌, ◌+◌, ◌<◌, ◌∙◌, ◌∷◌, ◌≡◌}
-use Rattle.mk_check.specs.{Declarations.{declared_type, declared_words}, Lookups.declared_for}
+use Rattle.mk_check.specs.{Declarations.{declared_type, declared_words}, Typing.declared_for}
 use Rattle.mk_check.specs.Typing.{declared_place, value_of}
 use Rattle.std.proofs.{Common.{nat_lt, ◌||◌}, lemmas.Bool.Decides.nat_tests}
 use Rattle.mk_script.specs.{Scopes.{declared_name, names_of}, declared.sorts.Sort.Sort}

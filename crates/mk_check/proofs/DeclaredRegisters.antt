@@ -9,7 +9,7 @@ use Rattle.mk_check.proofs.DeclaredPlaces.{global_place, pointer_within, same_pl
 use Rattle.mk_check.proofs.TypedLines.{PointsBefore}
 use Rattle.mk_never.{proofs.Edits.{exists, if_by, set_by}, specs.declared.values.Target.TheVariants.{WordOf}}
 use Rattle.mk_never.specs.NeverHeap.{allocation_at, global_at, moved_on, register_at, target_of, with_register, word_at}
-use Rattle.mk_never.specs.{NeverHeap.words_of, Typed.{IsSound, IsTyped, kind_in}}
+use Rattle.mk_never.specs.{NeverHeap.words_of, Admitted.{IsSound, IsTyped, kind_in}}
 use Rattle.mk_never.specs.{declared.values.Value.TheVariants.{Null, Ptr}, Admitted.{IsCaller, Meets}}
 use Rattle.mk_script.specs.declared.items.TypeWord.TheVariants.{Pointer}
 use Rattle.mk_never.specs.declared.types.Kind.TheVariants.{Num as NumKind, To}

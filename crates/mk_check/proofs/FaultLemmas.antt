@@ -3,7 +3,7 @@ use Rattle.std.proofs.{Common.{IfOk, cond, count_by}, lemmas.List.Recursion.is_c
 use Rattle.mk_check.proofs.Vocabulary.{Bool, Item, List, None, Option, Result, Some, TypeKind, ℕ, arith, around}
 use Rattle.mk_check.proofs.Vocabulary.{at_line, drop, drop_more, fault_from, get_or, is_script, is_some, length}
 use Rattle.mk_check.proofs.Vocabulary.{option_or, refl, script_names, take, take_more, true, typing_fault, ◌+◌, ◌<◌}
-use Rattle.mk_check.{proofs.Vocabulary.{◌∙◌, ◌∷◌, ◌≡◌}, specs.{Lookups.Reading, Typing.{TypingFault, unless}}}
+use Rattle.mk_check.{proofs.Vocabulary.{◌∙◌, ◌∷◌, ◌≡◌}, specs.{Typing.Reading, Typing.{TypingFault, unless}}}
 
 pub IfOk-map : {T E : Type 0} {P Q : T → Type 0} (r : Result T E) → ((x : T) → P x → Q x) → IfOk r P → IfOk r Q
 IfOk-map x0 f p = grind arith

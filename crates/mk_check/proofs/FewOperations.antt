@@ -5,9 +5,9 @@ use Rattle.mk_check.proofs.Vocabulary.{fault_from, fed_before_answers, fed_befor
 use Rattle.mk_check.proofs.Vocabulary.{length, length-append, max, note, op_of, refl, run, script_from, script_of}
 use Rattle.mk_check.proofs.Vocabulary.{script_scope, suc, take_answer, take_answers, true}
 use Rattle.mk_check.proofs.Vocabulary.{with_answer, zero, ℕ, [], ◌++◌, ◌*◌, ◌+◌, ◌==◌, ◌∙◌, ◌∷◌, ◌≡◌, ◌≤◌}
-use Rattle.mk_check.proofs.{Numbered.ops-with_answer, Numbered.run_agrees, TypedScripts.next_none}
-use Rattle.mk_check.specs.{Blocks.followed_by, Blocks.is_end_of_block, Feed.number_in, Feed.run_line, Feed.run_rounds}
-use Rattle.mk_check.specs.{Feed.then_run, Laws.ScriptsAskForFew, Lengths.length_of, Lengths.script_length}
+use Rattle.mk_check.proofs.{Numbered.{ops-with_answer, run_agrees}, TypedScripts.next_none}
+use Rattle.mk_check.specs.{Blocks.{followed_by, is_end_of_block}, Feed.{number_in, run_line, run_rounds}}
+use Rattle.mk_check.specs.{Feed.then_run, Laws.ScriptsAskForFew, Blocks.{length_of, script_length}}
 use Rattle.mk_check.specs.Typing.{length_fault}
 use Rattle.mk_script.specs.{Scopes.is_instruction, declared.items.Item.TheVariants.Script}
 

@@ -1,7 +1,7 @@
 -- What a script was given after a history, with one event more.
 use Rattle.std.proofs.Common.{eq-eqb, get_or-set_other, get_or-set_same, length-set, length-take, ltb-true, set, ◌≢◌}
-use Rattle.std.proofs.{lemmas.List.Sums.{count_by-le-length, sum_by-cons, sum_by_push}, lemmas.Bool.cases_eq}
-use Rattle.std.proofs.{lemmas.Bool.Decides.nat_tests, lemmas.List.take-append-le, lemmas.List.Elements.filter-append}
+use Rattle.std.proofs.lemmas.{List.Sums.{count_by-le-length, sum_by-cons, sum_by_push}, Bool.cases_eq}
+use Rattle.std.proofs.lemmas.{Bool.Decides.nat_tests, List.{take-append-le, Elements.filter-append}}
 use Rattle.std.{proofs.lemmas.Option.{slice_get-get_or, slice_get_past}, specs.List.{cons_option, slice_get}}
 use Rattle.mk_check.proofs.Vocabulary.{Answer, Bool, Config, List, None, Op, Option, Some, ℕ, ap, append-nil}
 use Rattle.mk_check.proofs.Vocabulary.{append_assoc, arith, false, get_or, if◌then◌else◌, inl, inr, length}
@@ -9,14 +9,14 @@ use Rattle.mk_check.proofs.Vocabulary.{length-append, length-replicate, map-appe
 use Rattle.mk_check.proofs.Vocabulary.{suc, sym, take, take_more, true, zero, [], ◌&&◌, ◌++◌, ◌+◌, ◌<◌, ◌==◌, ◌∙◌, ◌∷◌}
 use Rattle.mk_check.proofs.{Vocabulary.{◌≡◌, ◌≤◌}, DecidedStages.{Goes, count, ends, goes, has_stage, pending}}
 use Rattle.mk_core.proofs.{Histories.{calls_more, enabled_parts, last_enabled}, Conditions.enabled_meets}
-use Rattle.mk_core.specs.{Decided.{Decided, entry_of}, Effects.{answer_decided, flights_behind, progress}}
+use Rattle.mk_core.specs.{Calls.{Decided, entry_of}, Effects.{answer_decided, flights_behind, progress}}
 use Rattle.mk_core.specs.History.{AreEnabled, AreEnabledFrom, World, call_decided, calls, calls_from, first_world, left}
 use Rattle.mk_core.specs.{History.{left_from, world_behind}, declared.events.Seat.TheVariants.{Caller, Host, Marker}}
-use Rattle.mk_core.specs.{Accesses.found, Calls.at_rest, Enabled.IsEnabled, Growing.is_same_seat}
-use Rattle.mk_core.specs.{Moments.{Moment, flight_of}, declared.events.Event.Event, declared.events.Seat.Seat}
-use Rattle.mk_core.specs.{declared.events.Step.Step, declared.seats.Flight.Flight, declared.seats.Progress.Progress}
-use Rattle.mk_check.specs.Output.{EndedCallsAreAnswered, answer_waiting, answers_among, answers_given, ended_calls}
-use Rattle.mk_check.specs.Output.{ends_call, ends_call_of}
+use Rattle.mk_core.specs.{Accesses.found, Calls.at_rest, Enabled.IsEnabled, History.is_same_seat}
+use Rattle.mk_core.specs.{Moments.{Moment, flight_of}, declared.events.{Event.Event, Seat.Seat}}
+use Rattle.mk_core.specs.declared.{events.Step.Step, seats.{Flight.Flight, Progress.Progress}}
+use Rattle.mk_check.specs.Feed.{EndedCallsAreAnswered, answer_waiting, answers_among, answers_given, ended_calls}
+use Rattle.mk_check.specs.Feed.{ends_call, ends_call_of}
 
 abbrev pub as_list : Option Answer → List Answer
 as_list a = cons_option a []

@@ -5,11 +5,11 @@ use Rattle.mk_check.proofs.Vocabulary.{ap, append-nil, append_assoc, arith, befo
 use Rattle.mk_check.proofs.Vocabulary.{global_names, if◌then◌else◌, length, length-append, limit_fault, pages_of}
 use Rattle.mk_check.proofs.Vocabulary.{resident_of, script_from, script_names, subst, suc, sym, true, type_names, zero}
 use Rattle.mk_check.proofs.{Vocabulary.{[], ◌++◌, ◌+◌, ◌∷◌, ◌≡◌, ◌≤◌}, FaultLemmas.or-None}
-use Rattle.mk_core.specs.Config.{IsBetween}
+use Rattle.mk_core.specs.Moments.{IsBetween}
 use Rattle.mk_script.{proofs.{PassedLines.IsWhole, Pushed.names_of-append}, specs.declared.sorts.Sort.{Sort}}
 use Rattle.mk_script.specs.{declared.items.Item.TheVariants.{Heap, Script}, Lines.{at_most, has_script, heap_line}}
 use Rattle.mk_script.specs.{Lines.within, Operands.{item_from, number, ◌>>=◌}, Scopes.names_of}
-use Rattle.mk_script.specs.{declared.faults.LineFault.LineFault, declared.keywords.Keyword.Keyword}
+use Rattle.mk_script.specs.declared.{faults.LineFault.LineFault, keywords.Keyword.Keyword}
 
 -- a test that an Ok has passed
 pub passed_then : {X Fault : Type 0} (test : Bool) (fault : Fault) (found : Result X Fault) (x : X)

@@ -4,7 +4,7 @@ use Rattle.mk_check.proofs.Vocabulary.{fed_before_answers, feed, if◌then◌els
 use Rattle.mk_check.proofs.Vocabulary.{length-map, take_answer, take_answers, true, ℕ, [], ◌==◌, ◌∙◌, ◌∷◌, ◌≡◌}
 use Rattle.mk_check.proofs.{Vocabulary.{length, script_names, ◌++◌}, AdmittedScripts.scripts_are_admitted}
 use Rattle.std.specs.Prelude.{filter}
-use Rattle.mk_core.specs.{Decided.{Decided, asked}, Image.{answer_of, answers_of, image_of}}
+use Rattle.mk_core.specs.{Calls.{Decided, asked}, History.{answer_of, answers_of, image_of}}
 use Rattle.mk_never.specs.{NeverHeap.{Call, NeverState, after_op, reply_of}, declared.operations.Reply.Reply}
 use Rattle.mk_check.specs.{Laws.{heap_of, ops_of_caller}, Observed.{replies_to, told_of, told_to}}
 use Rattle.mk_check.specs.ObservedLaws.{AnswersAreImages, NoneIsLeftOver, ObservedRunsAreAdmitted, WordsAreNotTold}

@@ -12,7 +12,7 @@ use Rattle.mk_never.specs.declared.operations.Reply.{Reply}
 use Rattle.mk_check.proofs.{AdmittedScripts.first_are_noted, Numbered.{ops-with_answer, run_agrees}}
 use Rattle.mk_check.proofs.Observed.{as_many_told}
 use Rattle.mk_check.specs.{Laws.ops_of_caller, Observed.{replies_to, told_of}}
-use Rattle.mk_check.specs.ObservedSteps.{EachCallIsAskedFor, heap_before}
+use Rattle.mk_check.specs.ObservedLaws.{EachCallIsAskedFor, heap_before}
 
 -- Calls in two parts.
 

@@ -5,8 +5,8 @@ use Rattle.mk_check.proofs.Vocabulary.{after_answer, ap, arith, asks_at, false, 
 use Rattle.mk_check.proofs.Vocabulary.{sequel_to, sequels_of, subst, sym, true, with_kept, ◌&&◌, ◌∙◌, ◌≡◌}
 use Rattle.mk_check.proofs.{NextRounds.{kept_left, left_with, stops_behind_block}, AtOnce.{asks_so, stopped_here}}
 use Rattle.mk_check.proofs.{Moves.{below_length, line_fits}, TreeNodes.is_at}
-use Rattle.mk_check.specs.{AtOnce.{LeavesToOp, TakesAtOnce}, Steps.{is_show, is_silent, keeping_register, with_value}}
-use Rattle.mk_check.specs.{Feed.is_refusal, Spots.sequels_by, declared.feeding.tree.Sequels.Sequels}
+use Rattle.mk_check.specs.{Feeding.{LeavesToOp, TakesAtOnce}, Steps.{is_show, is_silent, keeping_register, with_value}}
+use Rattle.mk_check.specs.{Feed.is_refusal, Trees.sequels_by, declared.feeding.tree.Sequels.Sequels}
 
 -- what is next, where that is told
 

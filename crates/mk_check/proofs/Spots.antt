@@ -6,7 +6,7 @@ use Rattle.mk_check.proofs.Vocabulary.{length_push, map-append, node_at, op_aske
 use Rattle.mk_check.proofs.Vocabulary.{steps_at, steps_from, subst, sym, trees, [], ◌++◌, ◌<◌, ◌∷◌, ◌≡◌}
 use Rattle.mk_check.proofs.TreeNodes.{IsBelow-more, IsTree_push, steps_at-trees, steps_from_same}
 use Rattle.mk_check.{proofs.Builds.{steps_at_push}, specs.declared.feeding.tree.Spot.{Spot}}
-use Rattle.mk_check.specs.Spots.{IsMarked, IsMarkedTree, end_spot, nodes_of, sequels_before, spot_at}
+use Rattle.mk_check.specs.Trees.{IsMarked, IsMarkedTree, end_spot, nodes_of, sequels_before, spot_at}
 
 -- the operation that it asks for
 pub op_by_instruction : (numbers : List ℕ) (n : Node) → op_asked numbers (instruction_of_node n) ≡ op_of_node numbers n

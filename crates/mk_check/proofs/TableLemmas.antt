@@ -5,7 +5,7 @@ use Rattle.mk_check.proofs.Vocabulary.{Bool, List, ap, arith, bytes_eq, bytes_eq
 use Rattle.mk_check.proofs.Vocabulary.{false, get_or, get_or_append_left, get_or_at, if◌then◌else◌, length, length_push}
 use Rattle.mk_check.proofs.Vocabulary.{number_of_name, refl, subst, suc, sym, true, zero, ℕ, [], ⊎_elim, ◌++◌, ◌+◌}
 use Rattle.mk_check.proofs.Vocabulary.{◌<◌, ◌∙◌, ◌∷◌, ◌≡◌, ◌≤◌}
-use Rattle.mk_check.specs.{NameTables.{IsIndex, key_of}, NamesInScope.referred_names}
+use Rattle.mk_check.specs.{Declarations.{IsIndex, key_of}, Feed.referred_names}
 
 none_before : (n : ℕ) → 0 + n ≡ n
 none_before n = omega arith

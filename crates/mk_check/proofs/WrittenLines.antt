@@ -4,7 +4,7 @@ use Rattle.mk_check.proofs.Vocabulary.{ℕ, ap, append_assoc, arith, before_next
 use Rattle.mk_check.proofs.Vocabulary.{length-append, outermost_blocks, parts_from, refl, script_from, script_of, subst}
 use Rattle.mk_check.proofs.Vocabulary.{suc, sym, true, with_line, zero, [], ◌++◌, ◌+◌, ◌∙◌, ◌∷◌, ◌≡◌}
 use Rattle.mk_check.specs.Blocks.{no_lines, with_else, with_if, with_repeat}
-use Rattle.mk_check.specs.WrittenBlocks.{AreWritten, IsSecondBranch, ScriptsAreTheirLines, is_plain}
+use Rattle.mk_check.specs.Blocks.{AreWritten, IsSecondBranch, ScriptsAreTheirLines, is_plain}
 use Rattle.mk_script.proofs.ClosedBlocks.{Closes, program_closes}
 use Rattle.mk_script.specs.declared.items.Item.TheVariants.{Else, End, If, Repeat, Script}
 

@@ -1,8 +1,9 @@
--- A script as a tree of blocks.
-use Rattle.std.specs.Prelude.{◌≡◌, ℕ, zero, suc, ◌+◌, ◌<◌, ◌≤◌, Bool, true, false, List, [], ◌∷◌, length, Option}
-use Rattle.std.specs.Prelude.{Some, None}
-use Rattle.mk_script.specs.{declared.items.Item.Item, declared.items.Item.TheVariants.{Script, Repeat, If, Else, End}}
-use Rattle.mk_script.specs.Scopes.{script_names}
+-- A script as a tree of blocks, the lines that it stands for, and how many instructions it executes at most.
+use Rattle.std.specs.Prelude.{◌≡◌, ℕ, zero, suc, ◌+◌, ◌<◌, ◌≤◌, Bool, true, false, List, [], ◌∷◌, length, Option, Some}
+use Rattle.std.specs.Prelude.{None, ◌*◌, max, if◌then◌else◌, ◌⊎◌, ◌++◌, ◌-◌, ◌^◌, min, map}
+use Rattle.mk_script.specs.declared.items.Item.{Item, TheVariants.{Script, Repeat, If, Else, End}}
+use Rattle.mk_script.specs.{Scopes.{script_names, is_instruction}, Grammar.IsOfSomeText}
+use Rattle.mk_check.specs.declared.lengths.PartCount.{PartCount}
 
 -- Lines to run: a plain line, a `repeat` of a body, or an `if` on a number register with its two branches, each
 -- with the lines after it.
@@ -115,3 +116,110 @@ pub record IsScriptAt (program : List Item) (k : ℕ) (name : List ℕ) (line : 
   pub line_is : line ≡ (script_of program k).line
   pub items_are : items ≡ (script_of program k).items
   pub within : line + length items ≤ length program + 1
+
+-- An instruction counts 1, `repeat k` counts 1 + k * (1 + its body), and `if` counts 1 and the greater of its branches.
+abbrev pub length_of : Blocks → ℕ
+length_of Done = 0
+length_of (Line line item rest) = (if is_instruction item then 1 else 0) + length_of rest
+length_of (Rounds rounds body rest) = 1 + rounds * (1 + length_of body) + length_of rest
+length_of (Choice number first second rest) = 1 + max (length_of first) (length_of second) + length_of rest
+
+-- how many instructions a script executes at most
+abbrev pub script_length : ScriptText → ℕ
+script_length script = length_of (blocks_from script.line script.items)
+
+-- a line that neither begins nor ends a block or a branch
+abbrev pub is_plain : Item → Bool
+is_plain (Repeat rounds) = false
+is_plain (If number) = false
+is_plain Else = false
+is_plain End = false
+is_plain item = true
+
+-- Nothing, where the second branch has no line; or `else`, and lines that are so.
+abbrev pub IsSecondBranch : (List Item → Type 0) → Blocks → List Item → Type 0
+IsSecondBranch AreSo second items =
+    ((items ≡ []) × (second ≡ Done)) ⊎ ((inner : List Item) × (items ≡ Else ∷ inner) × AreSo inner)
+
+-- The items, of which the first stands at this line, are the lines of the blocks, with their `else` and `end`.
+abbrev pub AreWritten : ℕ → Blocks → List Item → Type 0
+AreWritten line Done items = items ≡ []
+AreWritten line (Line at item rest) items =
+    (more : List Item) × (items ≡ item ∷ more) × (at ≡ line) × (is_plain item ≡ true) × AreWritten (line + 1) rest more
+AreWritten line (Rounds rounds body rest) items =
+    (inner more : List Item) × (items ≡ Repeat rounds ∷ (inner ++ End ∷ more)) × AreWritten (line + 1) body inner
+    × AreWritten (line + 1 + length inner + 1) rest more
+AreWritten line (Choice number first second rest) items =
+    (inner other more : List Item) × (items ≡ If number ∷ (inner ++ (other ++ End ∷ more)))
+    × AreWritten (line + 1) first inner
+    × IsSecondBranch (AreWritten (line + 1 + length inner + 1) second) second other
+    × AreWritten (line + 1 + length inner + length other + 1) rest more
+
+-- The blocks of each script of a text, written out as lines again, are its lines.
+abbrev pub ScriptsAreTheirLines : List Item → Type 0
+ScriptsAreTheirLines program = IsOfSomeText program → (k : ℕ)
+    → AreWritten (script_of program k).line (blocks_from (script_of program k).line (script_of program k).items)
+    (script_of program k).items
+
+-- What is counted of the open parts of a script that is read from its end, the innermost first. A count that passes
+-- 2^64 - 1 stays there.
+-- Private functions alone cite these words.
+
+-- the count, at most 2^64 - 1
+abbrev pub saturated_count : ℕ → ℕ
+saturated_count n = min n (2 ^ 64 - 1)
+
+-- the counts of a part's lines and of its second branch
+abbrev pub count_of : Part → PartCount
+count_of part =
+    record {
+      lines = saturated_count (length_of part.blocks);
+      second = saturated_count (length_of (branch part.second));
+    }
+
+-- what is counted of each open block
+abbrev pub counts_of : List Part → List PartCount
+counts_of parts = map count_of parts
+
+-- nothing counted yet
+abbrev pub no_count : PartCount
+no_count = record { lines = 0; second = 0 }
+
+-- the count of the innermost open block
+abbrev pub innermost_count : List PartCount → PartCount
+innermost_count [] = no_count
+innermost_count (count ∷ counts) = count
+
+-- those of the blocks around it
+abbrev pub outer_counts : List PartCount → List PartCount
+outer_counts [] = []
+outer_counts (count ∷ counts) = counts
+
+-- the innermost part's counts changed so
+abbrev pub with_innermost : (PartCount → PartCount) → List PartCount → List PartCount
+with_innermost f [] = []
+with_innermost f (count ∷ counts) = f count ∷ counts
+
+-- as many instructions before the innermost part
+abbrev pub with_count : ℕ → List PartCount → List PartCount
+with_count n counts = with_innermost (λ count. record count { lines = saturated_count (count.lines + n) }) counts
+
+-- the innermost part was a second branch
+abbrev pub with_second : List PartCount → List PartCount
+with_second counts = with_innermost (λ count. record { lines = 0; second = count.lines }) counts
+
+-- what an `if` of these branches counts, and a `repeat` of this body
+abbrev pub if_count : PartCount → ℕ
+if_count branches = saturated_count (1 + max branches.lines branches.second)
+
+-- the instructions that a `repeat` executes
+abbrev pub repeat_count : ℕ → PartCount → ℕ
+repeat_count rounds body = saturated_count (1 + rounds * (1 + body.lines))
+
+-- the counts with an item before them
+abbrev pub counts_with : Item → List PartCount → List PartCount
+counts_with (Repeat rounds) counts = with_count (repeat_count rounds (innermost_count counts)) (outer_counts counts)
+counts_with (If number) counts = with_count (if_count (innermost_count counts)) (outer_counts counts)
+counts_with Else counts = with_second counts
+counts_with End counts = no_count ∷ counts
+counts_with item counts = if is_instruction item then with_count 1 counts else counts

@@ -1,12 +1,11 @@
 -- What a program declares: a name's place among the names of its sort is its number.
-use Rattle.std.specs.{Prelude.{ℕ, ◌+◌, List, [], ◌∷◌, length, map, if◌then◌else◌, Option, Some, None}, List.filter_map}
-use Rattle.std.specs.Str.{bytes_eq}
-use Rattle.mk_never.specs.declared.types.Kind.{Kind}
-use Rattle.mk_script.specs.{declared.items.TypeWord.TypeWord, declared.items.TypeWord.TheVariants.{Number, Pointer}}
-use Rattle.mk_script.specs.{declared.items.Item.Item, declared.items.Item.TheVariants.{Heap, TypeLine, Global}}
-use Rattle.mk_script.specs.Scopes.{type_names, script_names}
+use Rattle.std.specs.Prelude.{ℕ, ◌+◌, List, [], ◌∷◌, length, map, if◌then◌else◌, Option, Some, None, ◌-◌, ◌*◌, ◌%◌, ◌<◌}
+use Rattle.std.specs.{Prelude.{◌≤◌, slice_index, slice_index_or}, List.filter_map, Str.bytes_eq}
+use Rattle.mk_never.specs.declared.types.Kind.{Kind, TheVariants.{Num as NumKind, To}}
 use Rattle.mk_core.specs.declared.config.Config.{Config}
-use Rattle.mk_never.specs.declared.types.Kind.TheVariants.{Num as NumKind, To}
+use Rattle.mk_script.specs.declared.items.TypeWord.{TypeWord, TheVariants.{Number, Pointer}}
+use Rattle.mk_script.specs.declared.items.Item.{Item, TheVariants.{Heap, TypeLine, Global}}
+use Rattle.mk_script.specs.Scopes.{type_names, script_names}
 
 -- the place of a name among these; after them if it isn't one
 abbrev pub number_of_name : List ℕ → List (List ℕ) → ℕ
@@ -68,3 +67,16 @@ config_of program markers =
       types = types_of program;
       globals = globals_of program;
     }
+
+-- Names that are found by a key.
+-- Private functions alone cite these words.
+
+-- the key of a name: its last byte, and the one before it, as two digits of a number
+abbrev pub key_of : List ℕ → ℕ
+key_of [] = 0
+key_of (only ∷ []) = only % 64
+key_of name = (10 * slice_index name (length name - 2) + slice_index name (length name - 1)) % 64
+
+-- for each key, a place before which no name has it
+abbrev pub IsIndex : List ℕ → List (List ℕ) → Type 0
+IsIndex starts names = (i : ℕ) → i < length names → slice_index starts (key_of (slice_index_or names i [])) ≤ i

@@ -1,18 +1,19 @@
--- A script fed with answers: the operations that it asks for, and its text.
+-- A script fed with answers: the operations that it asks for, its text, and what it prints of a history.
 use Rattle.std.specs.Prelude.{ℕ, zero, suc, ◌+◌, ◌-◌, ◌%◌, ◌^◌, Bool, true, false, List, [], ◌∷◌, ◌++◌, replicate}
-use Rattle.std.specs.{Prelude.{slice_index, slice_set, ◌==◌, if◌then◌else◌, Option, Some, None, is_some}, Fmt.decimal}
-use lib.Chars.{codes}
+use Rattle.std.specs.Prelude.{slice_index, slice_set, ◌==◌, if◌then◌else◌, Option, Some, None, is_some, ◌≤◌, length}
+use Rattle.std.specs.{Prelude.{map, ◌≡◌, ◌&&◌, filter, take, count_by, slice_get}, Fmt.decimal, Borrow.Bor}
+use Rattle.std.specs.List.{flat_map, range_with_len}
 use Rattle.mk_never.specs.declared.operations.Op.{Op}
-use Rattle.mk_core.specs.{declared.events.Answer.Answer, Decided.flagged}
-use Rattle.mk_script.specs.{declared.items.Item.Item}
-use Rattle.mk_script.specs.declared.items.Item.TheVariants.{New, Free, Getn, Setn, Getp, Setp, Casp, Lea}
-use Rattle.mk_script.specs.declared.items.Item.TheVariants.{Move, Clear, Loadg, Storeg, Same, Isnull, Show, Const, Add}
-use Rattle.mk_script.specs.declared.items.Item.TheVariants.{Sub, Print}
-use Rattle.mk_script.specs.Scopes.{type_names, global_names, pointer_names, number_names}
+use Rattle.mk_core.specs.{declared.{events.Answer.Answer, config.Config.Config}, Calls.{flagged, Decided}}
+use Rattle.mk_core.specs.declared.events.{Seat.TheVariants.Caller, Step.Step}
+use Rattle.mk_core.specs.{declared.events.Event.Event, History.{is_same_seat, calls, AreEnabled}}
+use Rattle.mk_script.specs.declared.items.Item.{Item, TheVariants.{New, Free, Getn, Setn, Getp}}
+use Rattle.mk_script.specs.declared.items.Item.TheVariants.{Setp, Casp, Lea, Move, Clear, Loadg, Storeg, Same, Isnull}
+use Rattle.mk_script.specs.declared.items.Item.TheVariants.{Show, Const, Add, Sub, Print}
+use Rattle.mk_script.specs.Scopes.{type_names, global_names, pointer_names, number_names, script_names}
 use Rattle.mk_check.specs.{Declarations.number_of_name, Blocks.{Blocks, Done, Line, Rounds, Choice, followed_by}}
 use Rattle.mk_check.specs.Blocks.{is_end_of_block, blocks_from, ScriptText, script_of}
-use Rattle.mk_never.specs.declared.operations.Op.TheVariants as op
-use Rattle.mk_core.specs.declared.events.Answer.TheVariants as answer
+use lib.Chars.{codes}
 
 -- the names that a script may use
 pub record Scope : Type 0 where
@@ -46,28 +47,28 @@ fed_with_number scope fed name value = record fed {
 
 -- the operation that an instruction asks for, if it is one on the heap, a register or a global
 abbrev pub op_of : Scope → Fed → Item → Option Op
-op_of scope fed (New pointer ty) = Some (op.New (pointer_place scope pointer) (number_of_name ty scope.types) false)
-op_of scope fed (Free pointer) = Some (op.Free (pointer_place scope pointer))
-op_of scope fed (Getn number pointer index) = Some (op.GetNum (pointer_place scope pointer) index)
+op_of scope fed (New pointer ty) = Some (Op.New (pointer_place scope pointer) (number_of_name ty scope.types) false)
+op_of scope fed (Free pointer) = Some (Op.Free (pointer_place scope pointer))
+op_of scope fed (Getn number pointer index) = Some (Op.GetNum (pointer_place scope pointer) index)
 op_of scope fed (Setn pointer index number) =
-    Some (op.SetNum (pointer_place scope pointer) index (number_in scope fed number))
+    Some (Op.SetNum (pointer_place scope pointer) index (number_in scope fed number))
 op_of scope fed (Getp loaded pointer index) =
-    Some (op.GetPtr (pointer_place scope loaded) (pointer_place scope pointer) index)
+    Some (Op.GetPtr (pointer_place scope loaded) (pointer_place scope pointer) index)
 op_of scope fed (Setp pointer index stored) =
-    Some (op.SetPtr (pointer_place scope pointer) index (pointer_place scope stored))
+    Some (Op.SetPtr (pointer_place scope pointer) index (pointer_place scope stored))
 op_of scope fed (Casp number pointer index expected stored) =
-    Some (op.CasPtr (pointer_place scope pointer) index (pointer_place scope expected) (pointer_place scope stored))
+    Some (Op.CasPtr (pointer_place scope pointer) index (pointer_place scope expected) (pointer_place scope stored))
 op_of scope fed (Lea moved pointer index) =
-    Some (op.Lea (pointer_place scope moved) (pointer_place scope pointer) index)
-op_of scope fed (Move copied pointer) = Some (op.Move (pointer_place scope copied) (pointer_place scope pointer))
-op_of scope fed (Clear pointer) = Some (op.Clear (pointer_place scope pointer))
+    Some (Op.Lea (pointer_place scope moved) (pointer_place scope pointer) index)
+op_of scope fed (Move copied pointer) = Some (Op.Move (pointer_place scope copied) (pointer_place scope pointer))
+op_of scope fed (Clear pointer) = Some (Op.Clear (pointer_place scope pointer))
 op_of scope fed (Loadg loaded global) =
-    Some (op.GetGlobal (pointer_place scope loaded) (number_of_name global scope.globals))
+    Some (Op.GetGlobal (pointer_place scope loaded) (number_of_name global scope.globals))
 op_of scope fed (Storeg stored global) =
-    Some (op.SetGlobal (number_of_name global scope.globals) (pointer_place scope stored))
-op_of scope fed (Same number first second) = Some (op.Same (pointer_place scope first) (pointer_place scope second))
-op_of scope fed (Isnull number pointer) = Some (op.IsNull (pointer_place scope pointer))
-op_of scope fed (Show pointer) = Some (op.IsNull (pointer_place scope pointer))
+    Some (Op.SetGlobal (number_of_name global scope.globals) (pointer_place scope stored))
+op_of scope fed (Same number first second) = Some (Op.Same (pointer_place scope first) (pointer_place scope second))
+op_of scope fed (Isnull number pointer) = Some (Op.IsNull (pointer_place scope pointer))
+op_of scope fed (Show pointer) = Some (Op.IsNull (pointer_place scope pointer))
 op_of scope fed _ = None
 
 -- the byte that ends a line
@@ -107,21 +108,21 @@ run scope (Choice number first second rest) fed =
 
 -- what is printed of an answer that refuses the instruction at this line
 abbrev pub refusal_text : Answer → List ℕ
-refusal_text answer.Full = codes "full"
-refusal_text answer.Fault = codes "fault"
-refusal_text answer.Null = codes "null"
-refusal_text answer.Double = codes "double"
+refusal_text Answer.Full = codes "full"
+refusal_text Answer.Fault = codes "fault"
+refusal_text Answer.Null = codes "null"
+refusal_text Answer.Double = codes "double"
 refusal_text _ = []
 
 -- whether it refuses it
 abbrev pub is_refusal : Answer → Bool
-is_refusal answer.Done = false
-is_refusal (answer.Num n) = false
-is_refusal (answer.Word w) = false
-is_refusal answer.Full = true
-is_refusal answer.Fault = true
-is_refusal answer.Null = true
-is_refusal answer.Double = true
+is_refusal Answer.Done = false
+is_refusal (Answer.Num n) = false
+is_refusal (Answer.Word w) = false
+is_refusal Answer.Full = true
+is_refusal Answer.Fault = true
+is_refusal Answer.Null = true
+is_refusal Answer.Double = true
 
 -- what is printed of a refused instruction
 abbrev pub refusal_line : ℕ → List ℕ → List ℕ
@@ -130,7 +131,7 @@ refusal_line line (byte ∷ bytes) = decimal line ++ (codes ": " ++ (byte ∷ by
 
 -- the number that is answered, and 0 where there is none
 abbrev pub answered_number : Answer → ℕ
-answered_number (answer.Num n) = n
+answered_number (Answer.Num n) = n
 answered_number a = 0
 
 -- what `show` prints of a register that is null, or isn't
@@ -201,3 +202,55 @@ feed program k answers = feed_script (scope_of program (script_of program k).ite
 -- the script has ended
 abbrev pub has_ended : Fed → Bool
 has_ended fed = is_end_of_block fed.left
+
+-- Names that a script may use.
+-- Private functions alone cite these words.
+
+-- what references point to
+abbrev pub referred_names : List (Bor (List ℕ)) → List (List ℕ)
+referred_names names = map (λ (n : Bor (List ℕ)). n.now) names
+
+-- so few registers that each has its place, and so few globals that a byte numbers them
+pub record HasFew (scope : Scope) : Type 0 where
+  pub pointers : length scope.pointers ≤ 8
+  pub globals : length scope.globals ≤ 64
+  pub numbers : length scope.numbers ≤ 8
+
+-- the last step of a call
+abbrev pub ends_call : Step → Bool
+ends_call Step.Leave = true
+ends_call Step.Give = true
+ends_call _ = false
+
+-- the event ends a call of this script
+abbrev pub ends_call_of : ℕ → Event → Bool
+ends_call_of k e = is_same_seat (Caller k) e.seat && ends_call e.step
+
+-- how many calls of caller k have ended
+abbrev pub ended_calls : ℕ → List Event → ℕ
+ended_calls k es = count_by (ends_call_of k) es
+
+-- the answers of caller k's calls among these, in their order
+abbrev pub answers_among : ℕ → List Decided → List Answer
+answers_among k xs = map (λ (x : Decided). x.answer) (filter (λ (x : Decided). x.caller == k) xs)
+
+-- The answers of caller k's calls of a history, as many as its calls that ended.
+abbrev pub answers_given : Config → List Event → ℕ → List Answer
+answers_given c es k = take (ended_calls k es) (answers_among k (calls c es))
+
+-- the answer that is decided in caller k's call in flight, if one is
+abbrev pub answer_waiting : Config → List Event → ℕ → Option Answer
+answer_waiting c es k = slice_get (answers_among k (calls c es)) (ended_calls k es)
+
+-- The text of script k, fed with these.
+abbrev pub text_behind : List Item → Config → List Event → ℕ → List ℕ
+text_behind program c es k = (feed program k (answers_given c es k)).text
+
+-- all that the scripts print: their texts, one after the other
+abbrev pub output : List Item → Config → List Event → List ℕ
+output program c es = flat_map (text_behind program c es) (range_with_len 0 (length (script_names program)))
+
+-- After each enabled list, each call that ended has its answer.
+abbrev pub EndedCallsAreAnswered : Type 0
+EndedCallsAreAnswered =
+    (c : Config) (es : List Event) (k : ℕ) → AreEnabled c es → length (answers_given c es k) ≡ ended_calls k es

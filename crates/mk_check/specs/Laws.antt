@@ -2,7 +2,7 @@
 use Rattle.std.specs.Prelude.{◌≡◌, ◌≢◌, ℕ, ◌<◌, ◌≤◌, List, [], ◌∷◌, ◌++◌, length, ◌==◌, if◌then◌else◌, Some, All}
 use Rattle.mk_never.specs.{declared.operations.Op.Op, NeverHeap.{NeverState, Call, start_of, after_calls}}
 use Rattle.mk_never.specs.Admitted.{IsAdmitted, AreAdmitted}
-use Rattle.mk_core.specs.{declared.events.Answer.Answer, Decided.flagged}
+use Rattle.mk_core.specs.{declared.events.Answer.Answer, Calls.flagged}
 use Rattle.mk_script.specs.{declared.items.Item.Item, Scopes.script_names, Grammar.IsOfSomeText}
 use Rattle.mk_check.specs.{Typing.IsWellTyped, Declarations.{types_of, globals_of}, Feed.feed, Feeding.next_op}
 

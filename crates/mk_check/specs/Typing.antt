@@ -1,18 +1,17 @@
--- Which programs are well typed, line by line.
+-- Which programs are well typed, line by line, and what look-ups by name know of a program.
 use Rattle.std.specs.Prelude.{◌≡◌, ⊤, ℕ, ◌+◌, ◌-◌, ◌^◌, min, Bool, true, false, ◌&&◌, ◌==◌, nat_le, if◌then◌else◌, List}
-use Rattle.std.specs.Prelude.{[], ◌∷◌, ◌++◌, Option, Some, None, is_some, option_map, slice_get}
+use Rattle.std.specs.Prelude.{[], ◌∷◌, ◌++◌, Option, Some, None, is_some, option_map, slice_get, map, take}
 use Rattle.std.specs.{List.{filter_map, list_any}, Option.option_or, Str.bytes_eq}
-use Rattle.mk_script.specs.{declared.items.At.At, declared.items.TypeWord.TypeWord}
-use Rattle.mk_script.specs.{declared.items.TypeWord.TheVariants.{Number, Pointer}, declared.items.Item.Item}
-use Rattle.mk_script.specs.declared.items.Item.TheVariants.{TypeLine, Global, Script, Ptr, New, Free, Getn}
-use Rattle.mk_script.specs.declared.items.Item.TheVariants.{Setn, Getp, Setp, Casp, Lea, Move, Clear, Loadg, Storeg}
-use Rattle.mk_script.specs.declared.items.Item.TheVariants.{Same, Isnull, Show, Const, Add, Sub, Print, If}
-use Rattle.mk_script.specs.Scopes.{this_script, number_names}
-use Rattle.mk_check.specs.{declared.typing_faults.TypeKind.TypeKind, declared.typing_faults.TypeStop.TypeStop}
-use Rattle.mk_check.specs.{Blocks.before_next_script, Declarations.{declared_type, declared_words}}
-use Rattle.mk_check.specs.Lengths.{script_length}
-use Rattle.mk_check.specs.declared.typing_faults.TypeKind.TheVariants as kind
-use Rattle.mk_check.specs.declared.typing_faults.TypeStop.TheVariants as stop
+use Rattle.mk_script.specs.declared.items.{At.At, TypeWord.TypeWord}
+use Rattle.mk_script.specs.declared.items.{TypeWord.TheVariants.{Number, Pointer}, Item.Item}
+use Rattle.mk_script.specs.declared.items.Item.TheVariants.{TypeLine, Global, Script, Ptr, New, Free, Getn, Setn, Getp}
+use Rattle.mk_script.specs.declared.items.Item.TheVariants.{Setp, Casp, Lea, Move, Clear, Loadg, Storeg, Same, Isnull}
+use Rattle.mk_script.specs.declared.items.Item.TheVariants.{Show, Const, Add, Sub, Print, If}
+use Rattle.mk_script.specs.Scopes.{this_script, number_names, global_names, is_script, pointer_names, type_names}
+use Rattle.mk_check.specs.declared.typing_faults.{TypeKind.TypeKind, TypeStop.TypeStop}
+use Rattle.mk_check.specs.{Blocks.{before_next_script, script_length}, Declarations.{declared_type, declared_words}}
+use Rattle.mk_check.specs.declared.{places.Place.Place, declarations.Declarations.Declarations}
+use Rattle.mk_check.specs.{declared.registers.Registers.Registers, Feed.referred_names}
 
 -- Look-ups. A type may be declared in a later line, and so may a global that another line names; a register is
 -- declared before in its script.
@@ -57,19 +56,19 @@ unless false k = Some k
 
 -- the type isn't declared
 abbrev pub type_fault : Around → List ℕ → Option TypeKind
-type_fault a name = unless (is_some (type_words name a.program)) kind.NoType
+type_fault a name = unless (is_some (type_words name a.program)) TypeKind.NoType
 
 -- the global isn't declared
 abbrev pub global_fault : Around → List ℕ → Option TypeKind
-global_fault a name = unless (is_some (global_type name a.program)) kind.NoGlobal
+global_fault a name = unless (is_some (global_type name a.program)) TypeKind.NoGlobal
 
 -- there is no such pointer register
 abbrev pub pointer_fault : Around → List ℕ → Option TypeKind
-pointer_fault a name = unless (is_some (pointer_at name a.script)) kind.NoRegister
+pointer_fault a name = unless (is_some (pointer_at name a.script)) TypeKind.NoRegister
 
 -- there is no such number register
 abbrev pub number_fault : Around → List ℕ → Option TypeKind
-number_fault a name = unless (list_any (bytes_eq name) (number_names a.script)) kind.NoRegister
+number_fault a name = unless (list_any (bytes_eq name) (number_names a.script)) TypeKind.NoRegister
 
 -- both are one word of one type
 abbrev pub same_at : Option At → Option At → Bool
@@ -96,7 +95,7 @@ type_word_at a (Some at) = word_among (type_words at.name a.program) at.offset
 
 -- there is no such word
 abbrev pub inside_fault : Around → Option At → Option TypeKind
-inside_fault a place = unless (is_some (type_word_at a place)) kind.Offset
+inside_fault a place = unless (is_some (type_word_at a place)) TypeKind.Offset
 
 -- the word is a number
 abbrev pub is_number_word : Option TypeWord → Bool
@@ -131,7 +130,7 @@ offsets_fault a (Pointer at ∷ words) = inside_fault a (Some at) or offsets_fau
 
 -- a script's length
 abbrev pub length_fault : ℕ → Option TypeKind
-length_fault count = unless (nat_le count 1000000) (kind.TooLong (min count (2 ^ 64 - 1)))
+length_fault count = unless (nat_le count 1000000) (TypeKind.TooLong (min count (2 ^ 64 - 1)))
 
 -- the first word of a global's type
 abbrev pub base_of_global : Around → List ℕ → Option At
@@ -139,11 +138,12 @@ base_of_global a name = option_map base_of (global_type name a.program)
 
 -- they aren't one word of one type
 abbrev pub kind_fault : Option At → Option At → Option TypeKind
-kind_fault s t = unless (same_at s t) kind.Kind
+kind_fault s t = unless (same_at s t) TypeKind.Kind
 
 -- a word after a register holds a number, or points to where another register does
 abbrev pub number_word_fault : Around → List ℕ → ℕ → Option TypeKind
-number_word_fault a pointer index = unless (is_number_word (type_word_at a (place_behind a pointer index))) kind.Kind
+number_word_fault a pointer index =
+    unless (is_number_word (type_word_at a (place_behind a pointer index))) TypeKind.Kind
 
 -- the register isn't declared for what the word points to
 abbrev pub pointer_word_fault : Around → List ℕ → ℕ → List ℕ → Option TypeKind
@@ -161,7 +161,7 @@ typing_fault a line behind (Ptr name at) = type_fault a at.name or inside_fault 
 typing_fault a line behind (New pointer ty) =
     pointer_fault a pointer or type_fault a ty or kind_fault (pointer_at pointer a.script) (Some (base_of ty))
 typing_fault a line behind (Free pointer) =
-    pointer_fault a pointer or unless (is_base (pointer_at pointer a.script)) kind.InteriorFree
+    pointer_fault a pointer or unless (is_base (pointer_at pointer a.script)) TypeKind.InteriorFree
 typing_fault a line behind (Getn number pointer index) =
     number_fault a number or pointer_fault a pointer or inside_fault a (place_behind a pointer index)
     or number_word_fault a pointer index
@@ -229,5 +229,50 @@ IsWellTyped program = first_typing_fault program ≡ None
 
 -- a stop names the first fault of the program, or is for memory
 abbrev pub NamesFirstFault : List Item → TypeStop → Type 0
-NamesFirstFault program (stop.IllTyped line k) = first_typing_fault program ≡ Some (record { line = line; kind = k })
-NamesFirstFault program stop.NoMemory = ⊤
+NamesFirstFault program (TypeStop.IllTyped line k) =
+    first_typing_fault program ≡ Some (record { line = line; kind = k })
+NamesFirstFault program TypeStop.NoMemory = ⊤
+
+-- Rules for the lines of each sort.
+-- Private functions alone cite these words.
+
+-- the word that is named
+abbrev pub at_of : Place → At
+at_of place = record { name = place.name.now; offset = place.offset }
+
+-- what is wrong with a line of some sort
+abbrev pub fault_of_sort : (Item → Bool) → Around → Item → Option TypeKind
+fault_of_sort is_of_sort a item = if is_of_sort item then typing_fault a 0 [] item else None
+
+-- What look-ups by name know of a program.
+-- Private functions alone cite these words.
+
+-- A program, and how many of its lines were read.
+pub record Reading : Type 0 where
+  pub program : List Item
+  pub count : ℕ
+
+-- the program and the script around the line that is read
+abbrev pub around : Reading → Around
+around reading = record { program = reading.program; script = this_script (take reading.count reading.program) }
+
+-- what names are declared for, in the order of their lines
+abbrev pub declared_for : {X : Type 0} → (Item → Option (List ℕ × X)) → List Item → List X
+declared_for {X = X} says items = map (λ (d : List ℕ × X). d.1) (filter_map says items)
+
+-- the lines of the script after a line
+abbrev pub lines_behind : List Item → Item → List Item
+lines_behind lines item = if is_script item then [] else lines ++ item ∷ []
+
+-- they are those of the program
+pub record AreDeclared (declarations : Declarations) (program : List Item) : Type 0 where
+  pub types : declarations.types ≡ type_names program
+  pub words : map (λ words. words.now) declarations.words.items ≡ declared_for declared_words program
+  pub globals : declarations.globals ≡ global_names program
+  pub global_types : referred_names declarations.global_types.items ≡ declared_for declared_type program
+
+-- they are those of a script's lines
+pub record AreRegisters (registers : Registers) (lines : List Item) : Type 0 where
+  pub pointers : registers.pointers ≡ pointer_names lines
+  pub places : map (λ at. at.now) registers.places.items ≡ declared_for declared_place lines
+  pub numbers : registers.numbers ≡ number_names lines

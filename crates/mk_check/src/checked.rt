@@ -1,6 +1,6 @@
 //! Programs that are well typed.
 ghost use Rattle.std.specs.Prelude.{◌≡◌, ◌≤◌, length, IfOk, IfErr, OnOk};
-ghost use Rattle.mk_core.specs.Config.{IsWithinLimits};
+ghost use Rattle.mk_core.specs.Moments.{IsWithinLimits};
 ghost use Rattle.mk_script.specs.{Grammar.IsOfSomeText, Scopes.script_names};
 ghost use Rattle.mk_check.specs.Declarations.{pages_of, resident_of, config_of};
 ghost use Rattle.mk_check.specs.Typing.{IsWellTyped, NamesFirstFault};

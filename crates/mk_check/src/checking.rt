@@ -1,7 +1,7 @@
 //! Checks a program line by line.
 ghost use Rattle.std.specs.Prelude.{◌≡◌, ℕ, List, IfOk, IfErr, OnOk};
 ghost use Rattle.mk_script.specs.declared.items.Item.TheVariants.{Script};
-ghost use Rattle.mk_check.specs.{Lookups.around, Typing.{Around, typing_fault, IsWellTyped, NamesFirstFault}};
+ghost use Rattle.mk_check.specs.Typing.{around, Around, typing_fault, IsWellTyped, NamesFirstFault};
 
 use crate::declarations::Declarations;
 use crate::lengths::script_length;

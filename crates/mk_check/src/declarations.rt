@@ -1,7 +1,7 @@
 //! The types and globals that a program declares.
 ghost use Rattle.std.specs.Prelude.{◌≡◌, List, [], ◌∷◌, ◌++◌, IfOk, OnOk};
 ghost use Rattle.mk_script.specs.declared.items.Item.{Item};
-ghost use Rattle.mk_check.specs.Lookups.{AreDeclared};
+ghost use Rattle.mk_check.specs.Typing.{AreDeclared};
 
 use crate::name_table::NameTable;
 use mk_never::NoMemory;

@@ -44,7 +44,7 @@ impl Feed {
     ghost use Rattle.mk_core.specs.declared.events.Answer.{Answer};
     ghost use Rattle.mk_script.specs.{declared.items.Item.Item, Grammar.IsOfSomeText};
     ghost use Rattle.mk_check.specs.{Feed.{feed, has_ended}, Feeding.{next_op, work_left, FeedStandsFor, IsWaiting}};
-    ghost use Rattle.mk_check.specs.{Feeding.TakesAnswer, Numbering.elements_of_script};
+    ghost use Rattle.mk_check.specs.Feeding.{TakesAnswer, elements_of_script};
 
     /// Script `script` of a program, from 0 on, which has no answer yet.
     pub fn start(alloc: Global, program: &Checked, script: u64) -> Result<Feed, NoMemory>

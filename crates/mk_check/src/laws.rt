@@ -5,11 +5,11 @@ ghost use Rattle.mk_core.specs.declared.events.Answer.{Answer};
 ghost use Rattle.mk_script.specs.{declared.items.Item.Item, Scopes.script_names};
 ghost use Rattle.mk_check.specs.Laws.{IsChecked, IsScript, AreNotedBy, AnswersAreNoted, OthersAreIgnored};
 ghost use Rattle.mk_check.specs.Laws.{AreAdmittedFor, NextIsAdmitted, AreOfScripts, ScriptsAskForFew};
-ghost use Rattle.mk_check.specs.Output.{EndedCallsAreAnswered};
-ghost use Rattle.mk_check.specs.ObservedSteps.{EachCallIsAskedFor};
+ghost use Rattle.mk_check.specs.Feed.{EndedCallsAreAnswered};
+ghost use Rattle.mk_check.specs.ObservedLaws.{EachCallIsAskedFor};
 ghost use Rattle.mk_check.specs.ObservedLaws.{AnswersAreImages, NoneIsLeftOver, ObservedRunsAreAdmitted};
 ghost use Rattle.mk_check.specs.ObservedLaws.{WordsAreNotTold};
-ghost use Rattle.mk_check.specs.WrittenBlocks.{ScriptsAreTheirLines};
+ghost use Rattle.mk_check.specs.Blocks.{ScriptsAreTheirLines};
 
 /// What a script asks for next is admitted: after any admitted calls, whatever their other callers did, if
 /// its own are those that it noted so far.

@@ -1,6 +1,6 @@
 //! How many instructions a script executes at most.
 ghost use Rattle.std.specs.Prelude.{◌≡◌, ℕ, ◌-◌, ◌^◌, [], ◌∷◌, OnOk, IfOk, min};
-ghost use Rattle.mk_check.specs.{Blocks.blocks_from, Lengths.length_of};
+ghost use Rattle.mk_check.specs.Blocks.{blocks_from, length_of};
 
 use mk_never::NoMemory;
 use mk_script::{Item, is_declaration};
@@ -30,8 +30,8 @@ impl Model for OpenParts {
 }
 
 impl OpenParts {
-    ghost use Rattle.mk_check.specs.Counts.{no_count, innermost_count, outer_counts, with_count, with_second};
-    ghost use Rattle.mk_check.specs.Counts.{counts_with};
+    ghost use Rattle.mk_check.specs.Blocks.{no_count, innermost_count, outer_counts, with_count, with_second};
+    ghost use Rattle.mk_check.specs.Blocks.{counts_with};
 
     fn new(alloc: Global) -> OpenParts
         ensures { result ≡ [] }

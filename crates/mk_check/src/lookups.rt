@@ -2,7 +2,7 @@
 ghost use Rattle.std.specs.Prelude.{◌≡◌, ◌+◌, ◌<◌, length, IfOk, OnOk};
 ghost use Rattle.std.specs.{List.list_any, Option.option_copied, Str.bytes_eq};
 ghost use Rattle.mk_script.specs.Scopes.{number_names};
-ghost use Rattle.mk_check.specs.{Typing.{type_words, global_type, pointer_at}, Lookups.{around, AreDeclared}};
+ghost use Rattle.mk_check.specs.Typing.{type_words, global_type, pointer_at, around, AreDeclared};
 
 use crate::declarations::Declarations;
 use crate::registers::Registers;
@@ -23,7 +23,7 @@ pub struct Lookups<'d, 'a> {
 impl<'d, 'a> Model for Lookups<'d, 'a> {
     ghost use Rattle.std.specs.Prelude.{◌≤◌, length, take};
     ghost use Rattle.mk_script.specs.Scopes.{this_script};
-    ghost use Rattle.mk_check.specs.Lookups.{Reading, AreDeclared, AreRegisters};
+    ghost use Rattle.mk_check.specs.Typing.{Reading, AreDeclared, AreRegisters};
 
     ghost Value = { Reading };
 

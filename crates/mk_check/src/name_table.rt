@@ -1,7 +1,7 @@
 //! Names of one sort.
 ghost use Rattle.std.specs.Prelude.{◌≡◌, ◌<◌, ◌≤◌, [], ◌∷◌, ◌++◌, length, IfOk, OnOk, OnErr};
 ghost use Rattle.mk_script.specs.Scopes.{names_of};
-ghost use Rattle.mk_check.specs.{Declarations.number_of_name, NameTables.key_of};
+ghost use Rattle.mk_check.specs.Declarations.{number_of_name, key_of};
 
 use mk_never::NoMemory;
 use mk_script::{Item, Name, Sort, declared_name};
@@ -35,7 +35,7 @@ pub struct NameTable<'a> {
 
 impl<'a> Model for NameTable<'a> {
     ghost use Rattle.std.specs.Prelude.{ℕ, List};
-    ghost use Rattle.mk_check.specs.{NameTables.IsIndex, NamesInScope.referred_names};
+    ghost use Rattle.mk_check.specs.{Declarations.IsIndex, Feed.referred_names};
 
     ghost Value = { List (List ℕ) };
 

@@ -1,7 +1,7 @@
 //! Names of a program and of one of its scripts, with their numbers.
 ghost use Rattle.std.specs.Prelude.{◌≡◌, List, map, IfOk};
 ghost use Rattle.mk_script.specs.declared.items.Item.{Item};
-ghost use Rattle.mk_check.specs.{Declarations.number_of_name, Lookups.AreDeclared};
+ghost use Rattle.mk_check.specs.{Declarations.number_of_name, Typing.AreDeclared};
 ghost use Rattle.mk_check.specs.{Feed.scope_of, Steps.{instruction_of, number_place}};
 
 use crate::declarations::Declarations;
@@ -33,7 +33,7 @@ impl<'d, 'a> Model for Names<'d, 'a> {
 }
 
 impl<'d, 'a> Names<'d, 'a> {
-    ghost use Rattle.mk_check.specs.{NamesInScope.HasFew, Feed.pointer_place, Steps.{on_object, on_registers, load}};
+    ghost use Rattle.mk_check.specs.{Feed.{HasFew, pointer_place}, Steps.{on_object, on_registers, load}};
     ghost use Rattle.mk_check.specs.Steps.{pointer_test, arithmetic, element_of};
 
     /// The names that are declared for a script of a program with these declarations.

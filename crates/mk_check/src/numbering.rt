@@ -1,7 +1,7 @@
 //! A script of a program, with numbers for its names.
 ghost use Rattle.std.specs.Prelude.{◌≡◌, IfOk};
 ghost use Rattle.mk_script.specs.Grammar.{IsOfSomeText};
-ghost use Rattle.mk_check.specs.{Laws.IsScript, Numbering.elements_of_script};
+ghost use Rattle.mk_check.specs.{Laws.IsScript, Feeding.elements_of_script};
 
 use crate::declarations::Declarations;
 use crate::feeding::instructions::Element;

@@ -1,6 +1,6 @@
 //! Words that pointers point to.
 ghost use Rattle.std.specs.{Prelude.{◌≡◌, Some, option_map}, Option.option_copied};
-ghost use Rattle.mk_check.specs.{Rules.at_of, Typing.{base_of, moved_by, same_at, pointed_place}};
+ghost use Rattle.mk_check.specs.Typing.{at_of, base_of, moved_by, same_at, pointed_place};
 
 use mk_script::{At, Name, TypeWord};
 

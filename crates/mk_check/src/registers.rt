@@ -2,7 +2,7 @@
 ghost use Rattle.std.specs.{Prelude.{◌≡◌, List, [], ◌∷◌, ◌++◌, IfOk, OnOk, OnErr}, Option.option_copied};
 ghost use Rattle.mk_check.specs.Typing.{pointer_at};
 ghost use Rattle.mk_script.specs.declared.items.Item.{Item};
-ghost use Rattle.mk_check.specs.Lookups.{lines_behind, AreRegisters};
+ghost use Rattle.mk_check.specs.Typing.{lines_behind, AreRegisters};
 
 use crate::name_table::NameTable;
 use mk_never::NoMemory;

@@ -2,9 +2,9 @@
 ghost use Rattle.std.specs.Prelude.{◌≡◌, ℕ, false, List, Some, is_some, option_map};
 ghost use Rattle.std.specs.Option.{option_copied, option_or};
 ghost use Rattle.mk_script.specs.{declared.items.Item.Item, Scopes.is_script};
-ghost use Rattle.mk_script.specs.Sorts.{is_declaration, is_number_access, is_pointer_access, is_pointer_line};
-ghost use Rattle.mk_script.specs.Sorts.{is_number_line};
-ghost use Rattle.mk_check.specs.{Lookups.around, Rules.{at_of, fault_of_sort}};
+ghost use Rattle.mk_script.specs.Scopes.{is_declaration, is_number_access, is_pointer_access, is_pointer_line};
+ghost use Rattle.mk_script.specs.Scopes.{is_number_line};
+ghost use Rattle.mk_check.specs.Typing.{around, at_of, fault_of_sort};
 ghost use Rattle.mk_check.specs.Typing as rule;
 ghost use Rattle.mk_check.specs.declared.typing_faults.TypeKind.TheVariants as kind;
 

@@ -5,8 +5,8 @@ use Rattle.mk_laws.proofs.Vocabulary.{after_calls, after_free, arith, asked, con
 use Rattle.mk_laws.proofs.Vocabulary.{get_or-set_same, global_at, if◌then◌else◌, length, refl, register_at, sym, true}
 use Rattle.mk_laws.proofs.Vocabulary.{with_register, with_word, word_at, [], ◌<◌, ◌∙◌, ◌∷◌, ◌≡◌}
 use Rattle.mk_never.specs.NeverHeap.{after_op, left_at}
-use Rattle.mk_never.specs.{declared.values.Target.Target, declared.values.Target.TheVariants.Nothing}
-use Rattle.mk_clients.specs.Setters.{is_set_of}
+use Rattle.mk_never.specs.declared.values.Target.{Target, TheVariants.Nothing}
+use Rattle.mk_clients.specs.Clients.{is_set_of}
 
 -- those of the calls that set the global
 abbrev pub set_among : ℕ → List Decided → List Decided

@@ -9,14 +9,14 @@ use Rattle.mk_laws.proofs.{LastEvents.{comes_last, stands}, FramesLongerLists.me
 use Rattle.mk_laws.proofs.OtherCalls.{never_continues}
 use Rattle.mk_never.proofs.Stores.{load_gives_stored, store_is_inside}
 use Rattle.mk_never.specs.{NeverHeap.{after_op, reply_at, reply_of}, Laws.{NoneStoresTo, StoresTo}}
-use Rattle.mk_never.specs.{declared.operations.Reply.Reply, declared.values.Target.Target}
+use Rattle.mk_never.specs.declared.{operations.Reply.Reply, values.Target.Target}
 use Rattle.mk_never.specs.declared.values.Target.TheVariants.{Nothing}
 use Rattle.mk_heap.proofs.Below.Callers.After.{calls_leave_other_registers, still_caller}
 use Rattle.mk_heap.specs.Below.Callers.States.{Admits, caller_of_pass, never_of, value_of}
-use Rattle.mk_heap.specs.{Below.Callers.Called.Called, Below.Callers.declared.refusals.Refusal.Refusal}
+use Rattle.mk_heap.specs.Below.Callers.{Called.Called, declared.refusals.Refusal.Refusal}
 use Rattle.mk_heap.specs.Below.Words.States.{PassState}
 use Rattle.mk_clients.proofs.Between.{at_once, before, between, never_later, never_there, none_between, picked, place}
-use Rattle.mk_clients.{proofs.Between.{same_config, same_number}, specs.Setters.{IsOnlyStore, is_store}}
+use Rattle.mk_clients.{proofs.Between.{same_config, same_number}, specs.Clients.{IsOnlyStore, is_store}}
 
 -- Calls that don't store store to no word.
 stores_nothing : (n : NeverState) (k : ℕ) (o : Op) (number at : ℕ) → is_store o ≡ false → StoresTo n k o number at → ⊥

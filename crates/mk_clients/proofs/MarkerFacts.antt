@@ -5,7 +5,7 @@ use Rattle.mk_laws.proofs.Vocabulary.{eq-eqb, group_of, has_next_word, has_phase
 use Rattle.mk_laws.proofs.Vocabulary.{is_attending, is_in_range, is_none, is_some, lt-ltb, marker_may, refl, subst, sym}
 use Rattle.mk_laws.proofs.Vocabulary.{true, ◌%◌, ◌<◌, ◌==◌, ◌∙◌, ◌≡◌}
 use Rattle.mk_core.proofs.Conditions.{meets_enabled}
-use Rattle.mk_heap.specs.{Below.Words.Markers.{Marks, marker_in}, Below.Words.States.PassState}
+use Rattle.mk_heap.specs.Below.Words.{Steps.{Marks, marker_in}, States.PassState}
 use Rattle.mk_heap.specs.Below.Words.Steps.{IsEnabledTo, Makes}
 use Rattle.mk_clients.specs.Clients.{IsAttending, IsOutside}
 

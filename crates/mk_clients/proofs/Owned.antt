@@ -10,8 +10,8 @@ use Rattle.mk_never.proofs.{Edits.{exists, if_by, left_at_by}, Fresh.new_adds, L
 use Rattle.mk_never.{proofs.Registers.{destination, op_keeps}, specs.NeverHeap.{after_op, left_at, reply_at, reply_of}}
 use Rattle.mk_never.specs.declared.operations.Op.TheVariants.{CasPtr, Clear, Free, GetGlobal, GetNum, GetPtr, IsNull}
 use Rattle.mk_never.specs.declared.operations.Op.TheVariants.{Lea, Move, New, Same, SetGlobal, SetNum, SetPtr}
-use Rattle.mk_never.specs.{Admitted.{IsCaller, OperandsAreInRange}, Laws.AreNotBy, Reach.LeadsTo, Types.zero_of}
-use Rattle.mk_never.specs.{declared.operations.Reply.Reply, declared.values.Target.Target}
+use Rattle.mk_never.specs.{Admitted.{IsCaller, OperandsAreInRange}, Laws.{AreNotBy, LeadsTo}, Types.zero_of}
+use Rattle.mk_never.specs.declared.{operations.Reply.Reply, values.Target.Target}
 use Rattle.mk_clients.specs.Owned.{IsKnownToAlone, IsRegisterOf, OwnsNumberIn, number_behind}
 use Rattle.mk_laws.proofs.Vocabulary.{Meets, NeverAllocation as Allocation, NeverState, Null, Num, Number, Op, Ptr}
 use Rattle.mk_laws.proofs.Vocabulary.{nat_lt, no_allocation, number_of as number_in, refl, register_at, set_by, subst}

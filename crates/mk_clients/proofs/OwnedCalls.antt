@@ -9,10 +9,10 @@ use Rattle.mk_heap.proofs.Below.Objects.Vocabulary.{event_of, others_add_none, o
 use Rattle.mk_heap.proofs.Below.Objects.OneCalls.{OneCall, before_call, one_call, through_call}
 use Rattle.mk_heap.proofs.Below.Objects.Decisions.{none_by, own_more}
 use Rattle.mk_clients.proofs.Owned.{HasStored, KeepsNumber, access_admitted, keeps_by_others, load_replies, new_owns}
-use Rattle.mk_clients.{proofs.Owned.{store_leaves, store_replies}, specs.Laws.{OwnedNumbersStay}}
-use Rattle.mk_clients.specs.{Making.store_then_load, Owned.{HasNumber, OwnsNumber, OwnsNumberIn, number_owned}}
-use Rattle.mk_heap.specs.{Below.Callers.Called.{Called, IsDecidedIn}, Below.Callers.Causes.FindsGateHeld}
-use Rattle.mk_heap.specs.{Below.Callers.States.{Admits, never_of}, Below.Words.declared.call_steps.Held.Held}
+use Rattle.mk_clients.{proofs.Owned.{store_leaves, store_replies}, specs.Owned.{OwnedNumbersStay}}
+use Rattle.mk_clients.specs.Owned.{store_then_load, HasNumber, OwnsNumber, OwnsNumberIn, number_owned}
+use Rattle.mk_heap.specs.Below.Callers.Called.{Called, IsDecidedIn, FindsGateHeld}
+use Rattle.mk_heap.specs.Below.{Callers.States.{Admits, never_of}, Words.declared.call_steps.Held.Held}
 use Rattle.mk_never.specs.{NeverHeap.after_op, declared.operations.Reply.Reply}
 
 -- Events among whose calls the caller has none keep its number.

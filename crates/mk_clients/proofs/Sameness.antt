@@ -7,10 +7,10 @@ use Rattle.mk_never.{proofs.Sameness.{same_from_equal}, specs.Admitted.{IsCaller
 use Rattle.mk_heap.proofs.Below.Callers.After.{caller_there, calls_leave_other_registers, set_same, still_caller}
 use Rattle.mk_heap.{proofs.Below.Callers.After.{value_left}, specs.Below.Words.declared.call_steps.Held.{Held}}
 use Rattle.mk_heap.specs.Below.Callers.States.{Admits, caller_of_pass, never_of, value_of}
-use Rattle.mk_heap.specs.{Below.Callers.Called.{Called, IsAnswered}, Below.Words.States.PassState}
+use Rattle.mk_heap.specs.Below.{Callers.Called.{Called, IsAnswered}, Words.States.PassState}
 use Rattle.mk_clients.proofs.Between.{at_once, before, between, decided, never_later, never_there, none_between, place}
 use Rattle.mk_clients.proofs.{Between.same_config, Globals.{calls_keep, set_gives}}
-use Rattle.mk_clients.specs.Setters.{HasSeenAllOf, IsOnlySetter, TakesOut, is_set_of}
+use Rattle.mk_clients.specs.Clients.{HasSeenAllOf, IsOnlySetter, TakesOut, is_set_of}
 
 pub same_is : (p : PassState) (x y : ℕ) → value_of p x ≡ value_of p y → is_same (value_of p x) (value_of p y) ≡ true
 same_is p x y e = same_from_equal (value_of p x) (value_of p y) e

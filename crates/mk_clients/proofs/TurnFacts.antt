@@ -8,10 +8,10 @@ use Rattle.mk_laws.proofs.Vocabulary.{outside, phase_of, refl, slice_index, slic
 use Rattle.mk_laws.proofs.Vocabulary.{world_behind, [], ◌++◌, ◌+◌, ◌<◌, ◌==◌, ◌∙◌, ◌∷◌, ◌≡◌, ◌≢◌, ◌≤◌, ◌⊎◌}
 use Rattle.mk_laws.proofs.{Actors.none_held, Tallies.counts_tidy_more, TallySteps.CountsNothing}
 use Rattle.mk_core.proofs.Conditions.{meets_enabled}
-use Rattle.mk_core.specs.{Frames.{CountsAreLeft, steady_of}, Moments.none_is_held, Order.comes_next_to_host}
+use Rattle.mk_core.specs.{Frames.{CountsAreLeft, steady_of}, Moments.none_is_held, Conditions.comes_next_to_host}
 use Rattle.mk_heap.proofs.Below.Words.TurnSteps.{all_from}
-use Rattle.mk_heap.specs.{Below.Words.TurnSteps.{Acts, world_at}, Below.Words.States.{PassState, WordsState, now_of}}
-use Rattle.mk_heap.specs.{Below.Words.Opening.OthersMayOpen, Below.Words.Steps.IsEnabledTo}
+use Rattle.mk_heap.specs.Below.Words.{TurnSteps.{Acts, world_at}, States.{PassState, WordsState, now_of}}
+use Rattle.mk_heap.specs.Below.Words.Steps.{OthersMayOpen, IsEnabledTo}
 use Rattle.mk_clients.specs.Clients.{HoldsBelow, MayGiveBack, Settled, StaysTidy}
 
 -- kinds that leave the steady words, the allocations and the freed run alone

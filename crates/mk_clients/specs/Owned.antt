@@ -1,10 +1,14 @@
--- A number that is a caller's own: no other caller can get to its object.
-use Rattle.std.specs.Prelude.{◌≡◌, ℕ, ◌+◌, ◌*◌, ◌<◌, ◌≤◌, false, length, slice_index_or}
-use Rattle.mk_never.specs.{declared.values.Value.Value, declared.values.Value.TheVariants.{Null, Ptr}}
+-- A number that is a caller's own: no other caller can get to its object, whatever other seats do.
+use Rattle.std.specs.Prelude.{◌≡◌, ℕ, ◌+◌, ◌*◌, ◌<◌, ◌≤◌, false, length, slice_index_or, Bool, List, [], ◌∷◌, ◌++◌}
+use Rattle.mk_never.specs.declared.values.Value.{Value, TheVariants.{Null, Ptr}}
 use Rattle.mk_never.specs.{Admitted.{IsCaller, IsNumber}, NeverHeap.{words_of, NeverState, allocation_at, global_at}}
-use Rattle.mk_never.specs.{NeverHeap.{number_of as number_in, register_at, word_at}, Reach.LeadsTo, Types.kinds_of}
-use Rattle.mk_never.specs.declared.types.Kind.TheVariants.{Num as Number}
-use Rattle.mk_heap.specs.{Below.Words.States.PassState, Below.Callers.States.{never_of, caller_of_pass, value_of}}
+use Rattle.mk_never.specs.{NeverHeap.{number_of as number_in, register_at, word_at}, Laws.LeadsTo, Types.kinds_of}
+use Rattle.mk_never.specs.declared.{types.Kind.TheVariants.Num as Number, operations.Op.Op}
+use Rattle.mk_core.specs.{Calls.Decided, declared.events.{Answer.Answer, Event.Event}}
+use Rattle.mk_core.specs.{declared.events.Seat.TheVariants.Caller, History.{AreOfOthers, IsHistory}}
+use Rattle.mk_heap.specs.Below.{Words.States.PassState, Callers.States.{never_of, caller_of_pass, value_of}}
+use Rattle.mk_heap.specs.Below.{Callers.States.IsIdleCaller, Objects.TurnCalls.IsAnsweredFull}
+use Rattle.mk_clients.specs.declared.outcomes.Unfinished.{Unfinished}
 
 -- The register, among those of all callers, is one of this caller's eight.
 abbrev pub IsRegisterOf : ℕ → ℕ → Type 0
@@ -49,3 +53,45 @@ number_owned p d = number_behind (never_of p) (value_of p d)
 pub record HasNumber (p : PassState) (d n : ℕ) : Type 0 where
   pub owns : OwnsNumber p d
   pub is : number_owned p d ≡ n
+
+-- The pass is that of a caller. It has no other seat, and the type is that of one number.
+pub record SuitsNumber (p : PassState) (d ty : ℕ) : Type 0 where
+  pub exists : caller_of_pass p < p.table.config.callers
+  pub alone : p.seats ≡ p.seat ∷ []
+  pub register : d < 8
+  pub number : kinds_of p.table.config.types ty ≡ Number ∷ []
+
+-- Its caller is at rest, and an engine is made for so many pages, as its heap has.
+pub record MayMakeNumber (pages : ℕ) (p : PassState) (d ty : ℕ) : Type 0 where
+  pub idle : IsIdleCaller p
+  pub suits : SuitsNumber p d ty
+  pub made_for : pages ≡ p.table.config.pages
+
+-- Nothing fits after a cycle; or a gate was held after the New, whose number is owned still.
+abbrev pub EndsEarly : Bool → PassState → ℕ → ℕ → Unfinished → PassState → Type 0
+EndsEarly on p d ty (Unfinished.NoRoom full) q = IsAnsweredFull on p (Op.New d ty false) full.census q
+EndsEarly on p d ty Unfinished.Held q = OwnsNumber q d
+
+-- The pass of a caller that made calls and is at rest again: it has seen more.
+pub record ComesBack (p q : PassState) : Type 0 where
+  pub is : q ≡ record p { seen = q.seen }
+  pub idle : IsIdleCaller q
+
+-- the caller's calls, with their answers
+
+-- a number is stored in word 0 of an object, and loaded again
+abbrev pub store_then_load : ℕ → ℕ → ℕ → List Decided
+store_then_load k d n =
+    record { caller = k; op = Op.SetNum d 0 n; answer = Answer.Done }
+    ∷ record { caller = k; op = Op.GetNum d 0; answer = Answer.Num n } ∷ []
+
+-- an object is made first
+abbrev pub new_store_load : ℕ → ℕ → ℕ → ℕ → List Decided
+new_store_load k d ty n = record { caller = k; op = Op.New d ty false; answer = Answer.Done } ∷ store_then_load k d n
+
+-- Events of others: of other callers, of markers, and of the host.
+abbrev pub OwnedNumbersStay : Type 0
+OwnedNumbersStay =
+    (p : PassState) (more : List Event) (d : ℕ) → IsHistory p.table.config (p.seen ++ more)
+    → AreOfOthers (Caller (caller_of_pass p) ∷ []) more → OwnsNumber p d
+    → HasNumber (record p { seen = p.seen ++ more }) d (number_owned p d)

@@ -1,8 +1,8 @@
 //! Clients: who has a turn that is free for a cycle may begin one with an engine that traces, and nothing more is
 //! asked.
 ghost use Rattle.std.specs.Prelude.{◌≡◌, OnOk};
-ghost use Rattle.mk_heap.specs.{Below.Cycles.BeginCycle.BeginsCycle, Below.Cycles.Begun.{EachIsBegunYet, IsBegun}};
-ghost use Rattle.mk_heap.specs.{Below.Cycles.EngineLaw.{IsFreeForCycle, IsAtPhase}, Below.Cycles.Roots.MarksRoots};
+ghost use Rattle.mk_heap.specs.Below.Cycles.BeginCycle.{BeginsCycle, EachIsBegunYet, IsBegun};
+ghost use Rattle.mk_heap.specs.Below.Cycles.{EngineLaw.{IsFreeForCycle, IsAtPhase}, Beside.MarksRoots};
 
 use mk_heap::lower::cycles::{Engine, MostlyEngine, StopEngine, begin_cycle};
 use mk_heap::lower::words::{Stopped, Turn, Words};

@@ -1,8 +1,8 @@
 //! Clients: heaps from first to last, of which nothing is asked but their configuration.
 ghost use Rattle.std.specs.Prelude.{◌≡◌, ◌<◌, ◌≤◌, IfOk, true};
-ghost use Rattle.mk_core.specs.Config.{IsWithinLimits};
-ghost use Rattle.mk_heap.specs.Below.Words.Seats.{has_over};
-ghost use Rattle.mk_heap.specs.{Clients.IsPassOf, Reports.{history_of, config_of, IsWhole, HasCounts}};
+ghost use Rattle.mk_core.specs.Moments.{IsWithinLimits};
+ghost use Rattle.mk_heap.specs.Below.Words.States.{has_over};
+ghost use Rattle.mk_heap.specs.Hosts.{IsPassOf, history_of, config_of, IsWhole, HasCounts};
 
 use mk_core::Config;
 use mk_heap::lower::callers::Caller;

@@ -1,7 +1,7 @@
 //! The life of a table, from its first word to its tallies.
 ghost use Rattle.std.specs.Prelude.{◌≡◌, IfOk};
-ghost use Rattle.mk_core.specs.Config.{IsWithinLimits};
-ghost use Rattle.mk_heap.specs.Below.Words.Finals.{config_of};
+ghost use Rattle.mk_core.specs.Moments.{IsWithinLimits};
+ghost use Rattle.mk_heap.specs.Below.Words.States.{config_of};
 
 use mk_core::{Config, Seat};
 use mk_heap::lower::words::{Final, Words};

@@ -1,7 +1,7 @@
 //! An object of one number, made in a turn of its own.
 ghost use Rattle.std.specs.Prelude.{◌≡◌, OnOk, IfErr, true, false};
 ghost use Rattle.mk_heap.specs.Below.Objects.TurnCalls.{CalledInTurn, IsAnsweredFull};
-ghost use Rattle.mk_clients.specs.{Making.SuitsNumber, Owned.HasNumber};
+ghost use Rattle.mk_clients.specs.Owned.{SuitsNumber, HasNumber};
 ghost use Rattle.mk_never.specs.declared.operations.Op.TheVariants as op;
 ghost use Rattle.mk_core.specs.declared.events.Answer.TheVariants as answer;
 

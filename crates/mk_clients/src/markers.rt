@@ -1,8 +1,8 @@
 //! A marker that scans one cell.
 ghost use Rattle.std.specs.Prelude.{◌≡◌, ◌<◌, ◌≤◌, ◌+◌, ◌*◌, true, false, Some, None, IfSome, IfNone};
-ghost use Rattle.mk_core.specs.{Effects.scan_onward, MarkerConditions.has_next_word};
-ghost use Rattle.mk_geom.specs.Classes.{class_words_of};
-ghost use Rattle.mk_heap.specs.Below.Words.Markers.{marker_in};
+ghost use Rattle.mk_core.specs.{Effects.scan_onward, MarkingConditions.has_next_word};
+ghost use Rattle.mk_geom.specs.Addresses.{class_words_of};
+ghost use Rattle.mk_heap.specs.Below.Words.Steps.{marker_in};
 ghost use Rattle.mk_clients.specs.Clients.{IsOutside, IsAttending, IsAt};
 
 use mk_core::{Phase, Word};

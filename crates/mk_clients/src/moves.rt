@@ -2,8 +2,8 @@
 ghost use Rattle.std.specs.Prelude.{◌≡◌, ◌≢◌, ◌<◌, IfOk, true, []};
 ghost use Rattle.mk_never.specs.declared.operations.Op.TheVariants as op;
 ghost use Rattle.mk_core.specs.declared.events.Seat.TheVariants.{Caller as OfCaller, Host};
-ghost use Rattle.mk_heap.specs.{Below.Words.Seats.Has, Below.Callers.States.Admits};
-ghost use Rattle.mk_clients.specs.Setters.{IsOnlySetter, IsOnlyStore, TakesOut};
+ghost use Rattle.mk_heap.specs.Below.{Words.States.Has, Callers.States.Admits};
+ghost use Rattle.mk_clients.specs.Clients.{IsOnlySetter, IsOnlyStore, TakesOut};
 
 use mk_core::Seat;
 use mk_heap::lower::callers::{Caller, Refusal};

@@ -1,8 +1,8 @@
 //! A number that a caller owns: storing and loading it, whatever other threads do.
 ghost use Rattle.std.specs.Prelude.{◌≡◌, ◌<◌, ◌++◌, IfOk, OnOk, OnErr, IfErr, true};
-ghost use Rattle.mk_heap.specs.{Below.Callers.States.caller_of_pass, Below.Callers.Called.{Called, own_calls}};
-ghost use Rattle.mk_heap.specs.Below.Callers.Causes.{FindsGateHeld};
-ghost use Rattle.mk_clients.specs.Making.{EndsEarly, SuitsNumber, new_store_load, store_then_load};
+ghost use Rattle.mk_heap.specs.Below.Callers.{States.caller_of_pass, Called.{Called, own_calls}};
+ghost use Rattle.mk_heap.specs.Below.Callers.Called.{FindsGateHeld};
+ghost use Rattle.mk_clients.specs.Owned.{EndsEarly, SuitsNumber, new_store_load, store_then_load};
 ghost use Rattle.mk_clients.specs.Owned.{HasNumber, OwnsNumber, number_owned};
 ghost use Rattle.mk_never.specs.declared.operations.Op.TheVariants as op;
 ghost use Rattle.mk_core.specs.declared.events.Answer.TheVariants as answer;

@@ -2,8 +2,8 @@
 ghost use Rattle.std.specs.Prelude.{◌≡◌, ◌≤◌, ◌∷◌, [], IfOk, true};
 ghost use Rattle.mk_never.specs.Types.{kinds_of};
 ghost use Rattle.mk_never.specs.declared.types.Kind.TheVariants.{Num as Number};
-ghost use Rattle.mk_core.specs.Config.{IsWithinLimits};
-ghost use Rattle.mk_heap.specs.{Below.Words.Seats.has_over, Reports.{HasCounts, IsWhole, config_of, history_of}};
+ghost use Rattle.mk_core.specs.Moments.{IsWithinLimits};
+ghost use Rattle.mk_heap.specs.{Below.Words.States.has_over, Hosts.{HasCounts, IsWhole, config_of, history_of}};
 
 use crate::outcomes::{Loaded, Unfinished};
 use crate::side_by_side::numbers_at_once;

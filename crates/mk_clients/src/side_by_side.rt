@@ -1,6 +1,6 @@
 //! Two callers at once, each of which creates an object of its own.
 ghost use Rattle.std.specs.{Prelude.{◌≡◌, IfOk}, Thread.IsSync};
-ghost use Rattle.mk_clients.specs.Making.{ComesBack, MayMakeNumber};
+ghost use Rattle.mk_clients.specs.Owned.{ComesBack, MayMakeNumber};
 ghost use denote.Param.Send.{IsSend};
 
 use crate::numbers::number_in_new_object;

@@ -2,7 +2,7 @@
 //! more is asked.
 ghost use Rattle.std.specs.Prelude.{◌≡◌, IfErr, IfOk};
 ghost use Rattle.mk_heap.specs.Below.Cycles.EngineLaw.{IsFreeForCycle, IsAtPhase};
-ghost use Rattle.mk_sweep.specs.SweepCycle.{HasMarkers, MakesWholeCycle, ReleasesUnswept};
+ghost use Rattle.mk_sweep.specs.Sweeps.{HasMarkers, MakesWholeCycle, ReleasesUnswept};
 
 use mk_heap::lower::cycles::{Engine, Released};
 use mk_heap::lower::words::{Turn, Words};

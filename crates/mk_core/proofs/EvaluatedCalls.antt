@@ -4,7 +4,7 @@ use Rattle.mk_core.proofs.Vocabulary.{AreOfOthers, Event, List, None, Op, Step, 
 use Rattle.mk_core.proofs.Vocabulary.{left_from, may_turn_black, pointed_cell, refl, subst, sym, take, true, [], ◌++◌}
 use Rattle.mk_core.proofs.{Vocabulary.{◌∷◌, ◌≡◌}, Schedules.{blackened_before_the_move, by, c0, fault, first_fault}}
 use Rattle.mk_core.proofs.{Schedules.{freed_after_begin, host, m0, one_page, pointer_page}, EventsAt.events_from}
-use Rattle.mk_core.specs.{Growing.{Grows, in_this_call, own_from}, HeldGates.{is_gate_held, is_gate_held_from}}
+use Rattle.mk_core.specs.History.{Grows, in_this_call, own_from, is_gate_held, is_gate_held_from}
 
 -- In a call of its own a caller's gate isn't held. It is after the host's `hold`, and no longer after its `open`.
 pub gate_along : (is_gate_held one_page 0 (take 23 freed_after_begin) ≡ false)

@@ -4,7 +4,7 @@ use Rattle.mk_core.proofs.Vocabulary.{ap, arith, calls_from, false, false≢true
 use Rattle.mk_core.proofs.Vocabulary.{never_behind, pointed_cell, refl, subst, sym, take, true, [], ◌↔◌, ◌∙◌, ◌≡◌}
 use Rattle.mk_core.proofs.{EventsAt.{Also, AtEach, at_each}, MoreSchedules.exchanged, Schedules.{by, c0, pointer_page}}
 use Rattle.mk_never.specs.{NeverHeap.{register_at, target_of, word_at}, declared.values.Target.TheVariants.WordOf}
-use Rattle.mk_core.specs.{Calls.{i_of, p_of, q_of}, Exchanges.{ComparesValues, ExchangesCompareValues}}
+use Rattle.mk_core.specs.{Calls.{i_of, p_of, q_of}, HistoryLaws.{ComparesValues, ExchangesCompareValues}}
 use Rattle.mk_core.specs.{Accesses.caller_number, Effects.answer_decided, declared.events.Seat.TheVariants.Caller}
 
 abbrev pub is_cas : Step → Bool

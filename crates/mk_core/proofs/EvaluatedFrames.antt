@@ -4,7 +4,7 @@ use Rattle.mk_core.proofs.Vocabulary.{AreOfOthers, Event, List, None, Op, Seat, 
 use Rattle.mk_core.proofs.Vocabulary.{eqb-false, false≢true, left, left_from, ltb-true, pointed_cell, refl, [], ◌++◌}
 use Rattle.mk_core.proofs.{Vocabulary.◌∷◌, SmallCycles.{begun_in_stop, by_caller, by_host, by_marker, small}}
 use Rattle.mk_core.proofs.SmallCycles.{three_objects}
-use Rattle.mk_core.specs.{Frames.{CallIsLeft, IsLeft, OwnIsLeft, Steady, TurnIsLeft}, LongerLists.IsStillTheSame}
+use Rattle.mk_core.specs.{Frames.{CallIsLeft, IsLeft, OwnIsLeft, Steady, TurnIsLeft}, HistoryLaws.IsStillTheSame}
 
 -- The caller has loaded the registers of a SetPtr. The host takes the turn, and finds the caller's gate taken.
 

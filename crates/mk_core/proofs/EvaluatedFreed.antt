@@ -1,12 +1,12 @@
 -- What headers and freed bits tell after a small history: the one freed bit is that of the third object.
-use Rattle.std.proofs.{Common.ap₂, lemmas.Nat.Bits.bit_at-pow_other, lemmas.Nat.Bits.bit_at-zero}
+use Rattle.std.proofs.{Common.ap₂, lemmas.Nat.Bits.{bit_at-pow_other, bit_at-zero}}
 use Rattle.mk_core.proofs.Vocabulary.{Bool, Cell, Later, Some, World, ℕ, all_below, ap, arith, cases_eq, cells_under}
 use Rattle.mk_core.proofs.Vocabulary.{eqb-false, eqb-true, false, false≢true, first_moment, header_at, header_in, inl}
 use Rattle.mk_core.proofs.Vocabulary.{inr, left, left_from, ltb-true, placed_at, pointed_cell, refl, stands_in, subst}
 use Rattle.mk_core.proofs.Vocabulary.{suc, sym, true, zero, zero_words_of, [], ◌<◌, ◌==◌, ◌∙◌, ◌∷◌, ◌≡◌}
-use Rattle.mk_geom.specs.Headers.{IsHeaderWord}
+use Rattle.mk_geom.specs.Addresses.{IsHeaderWord}
 use Rattle.mk_core.proofs.SmallCycles.{small, three_objects}
-use Rattle.mk_core.specs.{Cells.is_freed, Readings.IsTaken, Readings.WordsTellWhatStands}
+use Rattle.mk_core.specs.{Cells.is_freed, Readings.{IsTaken, WordsTellWhatStands}}
 
 abbrev pub second_cell : Cell
 second_cell = record { page = 0; index = 1 }

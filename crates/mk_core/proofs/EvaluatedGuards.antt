@@ -6,7 +6,7 @@ use Rattle.mk_core.proofs.Vocabulary.{word_points_well, zero, zero_words_of, [],
 use Rattle.mk_geom.specs.Addresses.{address_of}
 use Rattle.mk_core.proofs.SmallCycles.{marked_beside, page_dirtied, small, three_objects, written_beside}
 use Rattle.mk_core.proofs.ListTests.{list_all-at}
-use Rattle.mk_core.specs.ClosedMarks.{DirtyIsOwed, IsGuarded, MarkingIsGuarded, OwesDirty, PageIsDirty, PointsWell}
+use Rattle.mk_core.specs.Cycles.{DirtyIsOwed, IsGuarded, MarkingIsGuarded, OwesDirty, PageIsDirty, PointsWell}
 
 -- After the `write` heap word 0, of a black object, points to an unmarked one, and its page isn't dirty yet.
 

@@ -12,8 +12,8 @@ use Rattle.mk_core.proofs.Schedules.{blackened_before_the_move, by, c0, fault, f
 use Rattle.mk_core.proofs.Schedules.{host, m0, no_fault_blackened, no_fault_freed, one_page, pointer_page}
 use Rattle.mk_core.proofs.{EventsAt.◌and◌, HistoryParts.earlier_part_is_history}
 use Rattle.mk_never.specs.Admitted.{AccessIsAdmitted, IsAdmitted, IsCaller, OperandsAreInRange, StoreIsAdmitted}
-use Rattle.mk_never.specs.{declared.types.Kind.Kind, declared.types.Kind.TheVariants.Num}
-use Rattle.mk_core.specs.{Config.{IsAmong, IsBetween, IsTypeAmong}, History.{AreEnabled, CallsAreAdmitted}}
+use Rattle.mk_never.specs.declared.types.Kind.{Kind, TheVariants.Num}
+use Rattle.mk_core.specs.{Moments.{IsAmong, IsBetween, IsTypeAmong}, History.{AreEnabled, CallsAreAdmitted}}
 
 -- If no fault is found, each event is enabled.
 

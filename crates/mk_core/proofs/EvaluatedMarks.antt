@@ -3,7 +3,7 @@
 use Rattle.mk_core.proofs.Vocabulary.{Step, all_below, false≢true, leb-true, left, left_from, ltb-true, pointed_cell}
 use Rattle.mk_core.proofs.{Vocabulary.{refl, [], ◌++◌, ◌∷◌}, SmallCycles.{begun_in_stop, by_host, marked_beside}}
 use Rattle.mk_core.proofs.{SmallCycles.{marked_in_stop, small, three_objects, written_beside}, ListTests.numbered_all}
-use Rattle.mk_core.{proofs.MarkTests.{marks_closed_by_test}, specs.ClosedMarks.{MarksAreClosed}}
+use Rattle.mk_core.{proofs.MarkTests.{marks_closed_by_test}, specs.Cycles.{MarksAreClosed}}
 
 -- closed marks
 

@@ -5,7 +5,7 @@ use Rattle.mk_core.proofs.Vocabulary.{replicate, subst, suc, sym, true, zero, []
 use Rattle.mk_core.proofs.ListTests.{implied, list_all-at, numbered_all, numbered_all-at}
 use Rattle.mk_core.proofs.SmallCycles.{begun_in_stop, small, three_objects}
 use Rattle.mk_never.{proofs.Reached.{reached_is_in}, specs.NeverHeap.{Allocation, is_unmapped, no_allocation}}
-use Rattle.mk_never.specs.Reach.{IsClosedUnderPointers, IsReachable, LeadsTo, by_register, by_word}
+use Rattle.mk_never.specs.Laws.{IsClosedUnderPointers, IsReachable, LeadsTo, by_register, by_word}
 use Rattle.mk_never.specs.declared.values.Value.TheVariants.{Num}
 
 -- A set is closed under pointers, as a test.

@@ -8,7 +8,8 @@ use Rattle.mk_core.proofs.SmallCycles.{by_host, first_marked, marked_in_stop, ma
 use Rattle.mk_core.proofs.{SmallCycles.written_beside, ListTests.list_all-at}
 use Rattle.mk_core.specs.Readings.{Holds, NoneAttends}
 use Rattle.mk_core.proofs.WhoHoldsWhat.{GateTells, PhaseTells, TurnTells, WordsTellWhoHoldsWhat}
-use Rattle.mk_core.specs.{Readings.is_in_turn, StopConditions.{is_attending, none_attends}, HeldGates.is_gate_held_from}
+use Rattle.mk_core.specs.{Readings.is_in_turn, MarkingConditions.{is_attending, none_attends}}
+use Rattle.mk_core.specs.History.{is_gate_held_from}
 use Rattle.mk_core.specs.{Moments.outside, declared.seats.Marker.Marker}
 
 -- with one caller

@@ -7,7 +7,7 @@ use Rattle.mk_core.{proofs.Vocabulary.{true, zero, [], ◌*◌, ◌++◌, ◌+�
 use Rattle.mk_core.proofs.{EvaluatedReach.{below_two, leads_into, led_into}, SmallCycles.{by_marker, first_marked}}
 use Rattle.mk_core.proofs.SmallCycles.{pointer_written, small, three_objects}
 use Rattle.mk_core.proofs.{EvaluatedFrames.{before_probe, turn_taken}, ListTests.list_all-at}
-use Rattle.mk_never.specs.{NeverHeap.register_at, Reach.LeadsTo}
+use Rattle.mk_never.specs.{NeverHeap.register_at, Laws.LeadsTo}
 use Rattle.mk_core.specs.{Frames.{HeapIsLeft, IsLeft, IsLeftByAdmitted, TargetsAreLeft}, Allocations.is_mapped}
 
 -- A caller in a call, while the host takes the turn: its registers point to the first two objects.

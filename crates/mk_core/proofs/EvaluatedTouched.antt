@@ -6,7 +6,7 @@ use Rattle.mk_core.proofs.Vocabulary.{pointed_cell, refl, sym, true, [], ◌++�
 use Rattle.mk_core.proofs.{ListTests.{all_fronts, numbered_all}, SmallCycles.{begun_in_stop, by_host, marked_in_stop}}
 use Rattle.mk_core.proofs.{SmallCycles.{small, stopped_cycle, third_released, three_objects}, EvaluatedReach.below_two}
 use Rattle.mk_core.proofs.{Touched.touched_is_least, TouchedTests.closed_along_by_test}
-use Rattle.mk_core.specs.{Touched.{IsTouched, LeadsToMoment, by_register, by_word}, Cycles.{IsInSnapshot, through}}
+use Rattle.mk_core.specs.Cycles.{IsTouched, LeadsToMoment, by_register, by_word, IsInSnapshot, through}
 
 pub none_closes : list_any (λ (e : Event). is_close e.step) marked_in_stop ≡ false
 unfolding marked_in_stop

@@ -5,7 +5,7 @@ use Rattle.mk_core.proofs.Vocabulary.{StandsAtItsPlace, Step, ℕ, append-nil, b
 use Rattle.mk_core.proofs.Vocabulary.{is_begin, is_close, is_end, is_give, is_release, left, list_any, slice_index_or}
 use Rattle.mk_core.proofs.Vocabulary.{subst, sym, take, true, [], ◌&&◌, ◌++◌, ◌+◌, ◌∷◌, ◌≡◌}
 use Rattle.mk_core.specs.{Cycles.{At, Cycle, Next, TurnOf}, Placement.{FirstServed, before_served, event_serves}}
-use Rattle.mk_core.specs.{Placement.{object_at, place_after}, Accesses.granted_base, Growing.is_same_seat}
+use Rattle.mk_core.specs.{Placement.{object_at, place_after}, Accesses.granted_base, History.is_same_seat}
 
 -- a proof of the first, and one of the others
 infixr 10 ◌and◌

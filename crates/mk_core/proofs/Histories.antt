@@ -2,7 +2,7 @@
 use Rattle.std.proofs.Common.{append_assoc}
 use Rattle.mk_core.proofs.Vocabulary.{AreEnabledFrom, Config, Event, IsEnabled, List, World, ap, append-nil, calls_from}
 use Rattle.mk_core.proofs.Vocabulary.{left_from, refl, sym, world_behind, [], ◌++◌, ◌∙◌, ◌∷◌, ◌≡◌}
-use Rattle.mk_core.specs.{Decided.Decided, History.call_decided}
+use Rattle.mk_core.specs.{Calls.Decided, History.call_decided}
 
 pub left_append : (c : Config) (w : World) (xs ys : List Event)
     → left_from c w (xs ++ ys) ≡ left_from c (left_from c w xs) ys

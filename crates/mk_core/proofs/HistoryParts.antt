@@ -5,7 +5,7 @@ use Rattle.mk_core.proofs.Vocabulary.{first_world, left, left_from, never_behind
 use Rattle.mk_core.proofs.{Vocabulary.{◌∙◌, ◌≡◌}, Histories.{calls_append, enabled_append, enabled_parts, left_append}}
 use Rattle.mk_never.proofs.Parts.{admitted_append, after_append, replies_append}
 use Rattle.mk_never.specs.{Admitted.AreAdmitted, NeverHeap.{Call, after_calls, replies_of}}
-use Rattle.mk_core.specs.{HistoryLaws.IsOfTwoParts, Decided.Decided, History.{AreEnabled, CallsAreAdmitted}}
+use Rattle.mk_core.specs.{HistoryLaws.IsOfTwoParts, Calls.Decided, History.{AreEnabled, CallsAreAdmitted}}
 
 pub left_in_parts : (c : Config) (es more : List Event)
     → left c (es ++ more) ≡ left_from c (left c es) more

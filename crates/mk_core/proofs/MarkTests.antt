@@ -4,7 +4,7 @@ use Rattle.mk_core.proofs.Vocabulary.{Bool, Config, IsWordOf, PlacedAllocation, 
 use Rattle.mk_core.proofs.Vocabulary.{and_parts, ap, le-leb, list_all, nat_le, nat_lt, never_granted, not, placed_at}
 use Rattle.mk_core.proofs.Vocabulary.{pointed_cell, points_well, refl, storage_of, true, ◌&&◌, ◌+◌, ◌||◌, ◌∙◌, ◌≡◌}
 use Rattle.mk_core.proofs.ListTests.{implied, list_all-at, numbered_all, numbered_all-at}
-use Rattle.mk_core.specs.ClosedMarks.{MarksAreClosed, is_marked_allocation, is_scanned_allocation}
+use Rattle.mk_core.specs.Cycles.{MarksAreClosed, is_marked_allocation, is_scanned_allocation}
 
 abbrev pub is_word_of : Storage → ℕ → Bool
 is_word_of s n = nat_le s.first n && nat_lt n (s.first + s.words)

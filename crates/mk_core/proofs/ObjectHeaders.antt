@@ -6,8 +6,9 @@ use Rattle.mk_core.proofs.Vocabulary.{true, unmapped_header, words_made, words_u
 use Rattle.mk_core.proofs.{Vocabulary.{◌≡◌, ◌≢◌, ◌≤◌}, Sizes.{class_known, large_cells, large_count, large_pages}}
 use Rattle.mk_core.proofs.Sizes.{large_words, small_cells, small_pages, small_words}
 use Rattle.mk_geom.proofs.HeaderLemmas.{header_of-word_of}
-use Rattle.mk_geom.specs.{Addresses.head_page_under, Headers.{header_of, word_of}, Storages.{block_header, run_header}}
-use Rattle.mk_core.specs.ObjectHeaders.{FirstPartsHaveCells, OfBlock, OfLater, OfLeafBlock, OfLeafRun, OfRun, ShowsPart}
+use Rattle.mk_geom.specs.Addresses.{head_page_under, header_of, word_of}
+use Rattle.mk_geom.specs.Storages.{block_header, run_header}
+use Rattle.mk_core.specs.Allocations.{FirstPartsHaveCells, OfBlock, OfLater, OfLeafBlock, OfLeafRun, OfRun, ShowsPart}
 use Rattle.mk_core.specs.Cells.{has_no_pointers, heads_run, is_unmapped_header}
 
 pub small_header : (o : Object) (distance : ℕ) → is_small_object o ≡ true

@@ -8,7 +8,7 @@ use Rattle.mk_core.proofs.{ServingSteps.{four_hold, next_header, takes_is}, Word
 use Rattle.mk_core.proofs.{WordBits.without_none, AllBelow.all_below-at, BitsWithout.has_bit_without}
 use Rattle.mk_core.specs.{Cells.{are_left_unmarked, head_page, left_unmarked}, TurnConditions.{are_wiped, carves}}
 use Rattle.mk_core.specs.TurnConditions.{empties, frees, gives_back, is_used_once, may_head, may_quarantine, may_use}
-use Rattle.mk_core.specs.{TurnConditions.{takes_snapshot, unmaps}, Bits.without, NewPlaces.target, Words.used_at}
+use Rattle.mk_core.specs.{TurnConditions.{takes_snapshot, unmaps}, Words.{without, used_at}, NewPlaces.target}
 use Rattle.mk_core.specs.declared.seats.RunPages.{RunPages}
 
 -- one of two tests holds

@@ -11,9 +11,9 @@ use Rattle.mk_geom.proofs.PointedCells.{address_points_into, cell_index, class_h
 use Rattle.mk_geom.proofs.Standing.{cell_stands_at, has_words, large_is_run, small_is_cell, stands_parts}
 use Rattle.mk_geom.{proofs.CellsOnPages.{is_address}, specs.Storages.{IsStorage, class_of_storage, is_small, stands_on}}
 use Rattle.mk_geom.specs.Addresses.{address_of, cell_at, cell_of_block, word_at_address}
-use Rattle.mk_geom.specs.StorageWords.{PointsInto, ShowsStorage}
+use Rattle.mk_geom.specs.Storages.{PointsInto, ShowsStorage}
 use Rattle.mk_core.specs.{Cells.{is_left_unmarked, is_marked}, Allocations.with_released}
-use Rattle.mk_core.specs.{ClosedMarks.is_marked_allocation, Readings.IsTaken}
+use Rattle.mk_core.specs.{Cycles.is_marked_allocation, Readings.IsTaken}
 
 -- a word of a block is in the cell that it points into
 block_index : (class page word : ℕ) (cell : Cell) → cell_of_block class page word ≡ Some cell

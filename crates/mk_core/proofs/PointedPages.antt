@@ -4,7 +4,7 @@ use Rattle.mk_core.proofs.Vocabulary.{Block, Bool, Cell, Free, Header, Later, Le
 use Rattle.mk_core.proofs.Vocabulary.{Some, Words, ℕ, ap, arith, cells_of, cells_under, false, header_at, header_in}
 use Rattle.mk_core.proofs.Vocabulary.{if◌then◌else◌, inr, ltb-true, page_at_address, pointed_cell, refl, sym, true, ◌<◌}
 use Rattle.mk_core.{proofs.Vocabulary.{◌∙◌, ◌≡◌, ◌≤◌, ◌⊎◌}, specs.Cells.{head_page}}
-use Rattle.mk_geom.{proofs.CellsOnPages.{is_address}, specs.{Addresses.word_at_address, Headers.header_of}}
+use Rattle.mk_geom.{proofs.CellsOnPages.{is_address}, specs.{Addresses.word_at_address, Addresses.header_of}}
 use Rattle.mk_geom.specs.Addresses.{cell_at, cell_of_block, cell_under, head_page_under, is_heap_address, run_of_page}
 
 -- It lies on the head page of the value's page, and is one of the 64 that a page has at most, and of those that the

@@ -2,7 +2,7 @@
 use Rattle.mk_core.proofs.Vocabulary.{Bool, None, Object, Option, Place, Some, Words, ℕ, and_parts, eqb-false, eqb-true}
 use Rattle.mk_core.proofs.Vocabulary.{false, has_bit, header_at, header_made, is_phase, leb-true, ltb-true, not-true}
 use Rattle.mk_core.proofs.Vocabulary.{pages_made, refl, stands, true, ◌&&◌, ◌+◌, ◌-◌, ◌<◌, ◌^◌, ◌≡◌, ◌≢◌, ◌≤◌}
-use Rattle.mk_core.{proofs.AllBelow.{all_below-at}, specs.{StopConditions.marks_place, Words.used_at}}
+use Rattle.mk_core.{proofs.AllBelow.{all_below-at}, specs.{MarkingConditions.marks_place, Words.used_at}}
 use Rattle.mk_core.specs.{TurnConditions.{carves, is_marked_first, takes_cell}, NewPlaces.{bits_made, is_next_header}}
 
 -- four tests, each of which holds

@@ -7,7 +7,7 @@ use Rattle.mk_core.proofs.Vocabulary.{is_small_object, le-leb, leb-true, length,
 use Rattle.mk_core.proofs.Vocabulary.{pages_made, subst, sym, true, words_made, [], ◌*◌, ◌+◌, ◌<◌, ◌||◌, ◌∙◌, ◌∷◌, ◌≡◌}
 use Rattle.mk_core.{proofs.Vocabulary.{◌≤◌}, specs.HistoryLaws.{LargeIsNotSmall}}
 use Rattle.mk_geom.proofs.ClassTable.{class_for-some, class_words_within, some_cells}
-use Rattle.mk_geom.specs.Classes.{class_for, run_pages_of}
+use Rattle.mk_geom.specs.Addresses.{class_for, run_pages_of}
 
 pub large_is_not_small : LargeIsNotSmall
 large_is_not_small kinds = grind (arith, leb_tells, le-ltb, lt-ltb)

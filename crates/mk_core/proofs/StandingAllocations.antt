@@ -13,10 +13,10 @@ use Rattle.mk_core.proofs.ObjectHeaders.{header_shows, large_header, part_cells,
 use Rattle.mk_geom.proofs.PointedCells.{cell_first, cell_from_first, large_cell_of, points_into_cell, shows_cell}
 use Rattle.mk_geom.proofs.{PointedCells.{shows_run, stands_at_address}, ClassTable.class_words_within}
 use Rattle.mk_geom.proofs.Standing.{stands_parts}
-use Rattle.mk_geom.specs.{Storages.{IsRun, IsStorage, run_header}, Headers.word_of, StorageWords.ShowsStorage}
-use Rattle.mk_core.specs.StandingAllocations.{CellsBeginAtBases, HeadersShowStorage, PointersHitAllocations}
-use Rattle.mk_core.specs.StandingAllocations.{StandingHasStorage, StorageHoldsObjects}
-use Rattle.mk_core.specs.{Allocations.{is_mapped, storage_words}, ObjectHeaders.ShowsPart}
+use Rattle.mk_geom.specs.{Storages.{IsRun, IsStorage, run_header, ShowsStorage}, Addresses.word_of}
+use Rattle.mk_core.specs.Allocations.{CellsBeginAtBases, HeadersShowStorage, PointersHitAllocations}
+use Rattle.mk_core.specs.Allocations.{StandingHasStorage, StorageHoldsObjects}
+use Rattle.mk_core.specs.Allocations.{is_mapped, storage_words, ShowsPart}
 
 -- a type that there is has 1 to 4,096 words
 pub typed_size : (c : Config) (a : PlacedAllocation) → IsWithinLimits c → a.ty < length c.types

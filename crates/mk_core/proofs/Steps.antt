@@ -5,8 +5,8 @@ use Rattle.mk_core.proofs.Vocabulary.{arith, calls, failing, first_moment, first
 use Rattle.mk_core.proofs.Vocabulary.{refl, subst, sym, [], ◌++◌, ◌↔◌, ◌∙◌, ◌∷◌, ◌≡◌, ◌≤◌}
 use Rattle.mk_never.specs.declared.never_heap.NoMemory.{NoMemory}
 use Rattle.mk_core.proofs.Histories.{calls_more, enabled_more, last_enabled, left_more}
-use Rattle.mk_core.specs.{Accesses.caller_number, Decided.entry_of, Effects.answer_decided, Effects.moment_behind}
-use Rattle.mk_core.specs.{History.AreEnabled, Standing.CoreStandsFor, declared.events.NotEnabled.NotEnabled}
+use Rattle.mk_core.specs.{Accesses.caller_number, Calls.entry_of, Effects.{answer_decided, moment_behind}}
+use Rattle.mk_core.specs.{History.{AreEnabled, CoreStandsFor}, declared.events.NotEnabled.NotEnabled}
 
 abbrev Tells : CoreState → Event → Result (Option Answer) NotEnabled → Type 0
 Tells core e r = MatchResult r (λ _. IsEnabled core.config core.now e)

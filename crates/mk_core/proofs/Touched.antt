@@ -1,6 +1,6 @@
 -- What is touched is the least set that is closed under pointers along the cycle.
 use Rattle.mk_core.proofs.Vocabulary.{Bool, Config, Event, IsClosedAlong, List, Marking, ℕ, true, ◌≡◌}
-use Rattle.mk_core.specs.Touched.{IsTouched, TouchedIsClosed, TouchedIsLeast, by_global, by_register, by_word}
+use Rattle.mk_core.specs.Cycles.{IsTouched, TouchedIsClosed, TouchedIsLeast, by_global, by_register, by_word}
 
 pub touched_is_closed : (c : Config) {es : List Event} (k : Marking es) → TouchedIsClosed c k
 touched_is_closed c k = record { registers = by_register; globals = by_global; words = by_word }

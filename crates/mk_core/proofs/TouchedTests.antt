@@ -4,10 +4,10 @@ use Rattle.mk_core.proofs.Vocabulary.{Bool, Config, Event, IsClosedAlong, List, 
 use Rattle.mk_core.proofs.Vocabulary.{Value, World, ℕ, and_from, and_parts, arith, le-leb, left, list_all, nat_le}
 use Rattle.mk_core.proofs.Vocabulary.{never_behind, never_granted, not, placed_at, refl, slice_index, storage_of, true}
 use Rattle.mk_core.proofs.{Vocabulary.{◌&&◌, ◌++◌, ◌||◌, ◌≡◌}, ListTests.{all_fronts, all_fronts-at, implied}}
-use Rattle.mk_core.{proofs.ListTests.{list_all-at, numbered_all, numbered_all-at}, specs.Image.{image_of}}
+use Rattle.mk_core.{proofs.ListTests.{list_all-at, numbered_all, numbered_all-at}, specs.History.{image_of}}
 use Rattle.mk_core.proofs.MarkTests.{is_word_of, is_word_of_by}
 use Rattle.mk_geom.specs.Addresses.{heap_word_at}
-use Rattle.mk_core.specs.{Touched.{IsWordOfAllocation, PointsIntoAllocation}, Cycles.through, History.bases_of}
+use Rattle.mk_core.specs.{Cycles.{IsWordOfAllocation, PointsIntoAllocation, through}, History.bases_of}
 
 -- an address that points into the allocation points into a member
 abbrev pub points_into_member : Config → (ℕ → Bool) → ℕ → ℕ → PlacedAllocation → Bool

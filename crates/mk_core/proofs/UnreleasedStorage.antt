@@ -3,7 +3,7 @@ use Rattle.std.proofs.Common.{Contains}
 use Rattle.mk_core.proofs.Vocabulary.{Config, List, PlacedAllocation, Storage, ℕ, ap, arith, cases_Bool, cond-false}
 use Rattle.mk_core.proofs.Vocabulary.{cond-true, false, inl, inr, map, placed_at, refl, storage_of, subst, suc, sym}
 use Rattle.mk_core.proofs.Vocabulary.{true, true≢false, unreleased_storage, zero, [], ◌++◌, ◌∙◌, ◌∷◌, ◌≡◌}
-use Rattle.mk_core.specs.StandingAllocations.{HasStorage, UnreleasedStorageInParts, UnreleasedStorageIsOfAllocations}
+use Rattle.mk_core.specs.Allocations.{HasStorage, UnreleasedStorageInParts, UnreleasedStorageIsOfAllocations}
 
 -- one allocation more at the front
 pub unreleased_front : (c : Config) (a : PlacedAllocation) (xs : List PlacedAllocation) → a.released ≡ false

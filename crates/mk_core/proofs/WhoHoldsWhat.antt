@@ -1,7 +1,7 @@
 -- What turn, gates and phase say of who holds what.
 use Rattle.std.specs.Prelude.{◌≡◌, ◌≢◌, ◌↔◌, ℕ, ◌+◌, ◌/◌, ◌<◌, ◌≤◌, true, List, slice_index, count_by}
-use Rattle.mk_core.specs.{declared.config.Config.Config, declared.events.Seat.Seat, HeldGates.is_gate_held}
-use Rattle.mk_core.specs.{declared.events.Seat.TheVariants.Caller, declared.events.Event.Event, Words.phase_of}
+use Rattle.mk_core.specs.{declared.{config.Config.Config, events.Seat.Seat}, History.is_gate_held}
+use Rattle.mk_core.specs.{declared.events.{Seat.TheVariants.Caller, Event.Event}, Words.phase_of}
 use Rattle.mk_core.specs.{History.left, Moments.{Moment, flight_of}}
 use Rattle.mk_core.specs.Readings.{Holds, NoneAttends, is_in, is_in_call, is_in_turn}
 

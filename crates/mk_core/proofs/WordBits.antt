@@ -1,13 +1,13 @@
 -- Words that get a bit, or lose some.
 use Rattle.std.proofs.Common.{bit_or, bit_xor, eq-eqb, get_or-set_other, get_or-set_same, max, min, pow-add}
-use Rattle.std.proofs.{lemmas.Nat.{and_le_l, or_disjoint}, lemmas.Nat.Bits.{and_pow, bit_at-lt, bit_at-pow_other}}
+use Rattle.std.proofs.lemmas.Nat.{and_le_l, or_disjoint, Bits.{and_pow, bit_at-lt, bit_at-pow_other}}
 use Rattle.std.proofs.lemmas.Nat.Bits.{bit_at-pow_same, bit_at-zero, bit_at_and, bit_at_or, bit_at_xor, same_from_bits}
-use Rattle.std.proofs.{Math.Nat.mul-mod_left, Math.Pow.pow_mono, lemmas.Bool.cases_lt, lemmas.List.set_past}
+use Rattle.std.proofs.{Math.{Nat.mul-mod_left, Pow.pow_mono}, lemmas.{Bool.cases_lt, List.set_past}}
 use Rattle.std.specs.Int.{bit_at}
 use Rattle.mk_core.proofs.Vocabulary.{List, ℕ, ap, arith, bit_and, cases_eq, eqb-false, eqb-true, false, has_bit, inl}
 use Rattle.mk_core.proofs.Vocabulary.{inr, length, ne_eqb, slice_index, slice_set, subst, sym, true, true≢false, ◌%◌}
 use Rattle.mk_core.proofs.Vocabulary.{◌*◌, ◌+◌, ◌-◌, ◌<◌, ◌==◌, ◌^◌, ◌∙◌, ◌≡◌, ◌≢◌, ◌≤◌, ◌⊎◌}
-use Rattle.mk_core.specs.Bits.{bit_for, without}
+use Rattle.mk_core.specs.Words.{bit_for, without}
 
 pub bit_is_one : (n k : ℕ) → has_bit n k ≡ true → bit_at n k ≡ 1
 bit_is_one n k h = eqb-true (bit_at n k) 1 h

@@ -1,16 +1,16 @@
 -- Which word each event reaches, and how.
 use Rattle.std.specs.Prelude.{ℕ, ◌+◌, ◌^◌, Option, Some, None, ◌%◌}
 use Rattle.mk_geom.specs.{declared.addresses.Cell.Cell, Addresses.address_of}
-use Rattle.mk_core.specs.{Bits.bit_for, Calls.{q_of, p_of, r_of, d_of, g_of, word_met, page_met, value_for}}
-use Rattle.mk_core.specs.{Calls.value_written, MarkerConditions.cell_seen, Moments.{Moment, flight_of, marker_at}}
+use Rattle.mk_core.specs.{Words.bit_for, Calls.{q_of, p_of, r_of, d_of, g_of, word_met, page_met, value_for}}
+use Rattle.mk_core.specs.{Calls.value_written, MarkingConditions.cell_seen, Moments.{Moment, flight_of, marker_at}}
 use Rattle.mk_core.specs.{Moments.holder_number, NewPlaces.{object_made, base_made}, Words.word_in}
-use Rattle.mk_core.specs.{declared.accesses.Access.Access, declared.accesses.Access.TheVariants.{Load, Store, Exchange}}
-use Rattle.mk_core.specs.{declared.accesses.Access.TheVariants.{Or, Add, Sub}, declared.accesses.TableWord.TableWord}
-use Rattle.mk_core.specs.{declared.accesses.TableWord.TheVariants.{Turn, Named}, declared.config.Config.Config}
-use Rattle.mk_core.specs.{declared.events.Event.Event, declared.events.Seat.Seat, declared.events.Step.Step}
-use Rattle.mk_core.specs.{declared.events.Tally.Tally, declared.events.Word.Word, declared.seats.Flight.Flight}
-use Rattle.mk_core.specs.{declared.seats.Marker.Marker, declared.seats.Placing.Placing}
-use Rattle.mk_core.specs.{declared.seats.Placing.TheVariants.Used, declared.seats.Scan.Scan, declared.seats.Stage.Stage}
+use Rattle.mk_core.specs.declared.accesses.Access.{Access, TheVariants.{Load, Store, Exchange}}
+use Rattle.mk_core.specs.declared.accesses.{Access.TheVariants.{Or, Add, Sub}, TableWord.TableWord}
+use Rattle.mk_core.specs.declared.{accesses.TableWord.TheVariants.{Turn, Named}, config.Config.Config}
+use Rattle.mk_core.specs.declared.events.{Event.Event, Seat.Seat, Step.Step}
+use Rattle.mk_core.specs.declared.{events.{Tally.Tally, Word.Word}, seats.Flight.Flight}
+use Rattle.mk_core.specs.declared.seats.{Marker.Marker, Placing.Placing}
+use Rattle.mk_core.specs.declared.seats.{Placing.TheVariants.Used, Scan.Scan, Stage.Stage}
 
 -- the number of a caller's seat
 abbrev pub caller_number : Seat → ℕ

@@ -1,12 +1,12 @@
--- The calls of callers: the operands and the steps of each operation, and what a step makes of the call in flight.
+-- The calls of callers: the operands and steps of each operation, what a step makes of the call in flight, and its end.
 use Rattle.std.specs.Prelude.{ℕ, ◌+◌, ◌*◌, ◌/◌, ◌%◌, ◌^◌, Bool, true, false, ◌&&◌, nat_lt, ◌==◌, List, [], ◌∷◌, length}
-use Rattle.std.specs.Prelude.{Option, Some, None, if◌then◌else◌}
-use Rattle.mk_never.specs.declared.operations.Op.{Op}
+use Rattle.std.specs.Prelude.{Option, Some, None, if◌then◌else◌, map}
+use Rattle.mk_never.specs.{declared.operations.Op.Op, NeverHeap.Call}
 use Rattle.mk_geom.specs.Addresses.{heap_word_at}
-use Rattle.mk_core.specs.{declared.config.Config.Config, declared.events.Answer.Answer, declared.seats.Stage.Stage}
+use Rattle.mk_core.specs.declared.{config.Config.Config, events.Answer.Answer, seats.Stage.Stage}
 use Rattle.mk_core.specs.declared.seats.Stage.TheVariants.{Idle, LoadQ, LoadP, LoadR, Probe, Read, Write, Cas, Getg}
 use Rattle.mk_core.specs.declared.seats.Stage.TheVariants.{Setg, Store, Put, Dirty, Leave, Turn, Give}
-use Rattle.mk_core.specs.{declared.seats.Flight.Flight, declared.seats.Progress.Progress}
+use Rattle.mk_core.specs.declared.seats.{Flight.Flight, Progress.Progress}
 
 -- the register q of an operation, as its instruction names it; 0 if it has none, as with all of these
 abbrev pub q_of : Op → ℕ
@@ -212,3 +212,28 @@ progress_cas f found = onward f (Some (Answer.Num (one_if (found == f.p))))
 -- what `getg` makes of the call
 abbrev pub progress_getg : Flight → ℕ → Progress
 progress_getg f found = onward (record f { loaded = found }) (Some (Answer.Word found))
+
+-- A decided call: its caller, its operation and its answer.
+pub record Decided : Type 0 where
+  pub caller : ℕ
+  pub op : Op
+  pub answer : Answer
+
+-- Whether a New is full says its answer.
+abbrev pub flagged : Op → Answer → Op
+flagged (Op.New d ty full) Answer.Full = Op.New d ty true
+flagged (Op.New d ty full) _ = Op.New d ty false
+flagged o _ = o
+
+-- the entry of a call that is decided with this answer, or none
+abbrev pub entry_of : ℕ → Op → Option Answer → List Decided
+entry_of caller o (Some a) = record { caller = caller; op = flagged o a; answer = a } ∷ []
+entry_of caller o None = []
+
+-- the calls that were asked
+abbrev pub asked : List Decided → List Call
+asked cs = map (λ (x : Decided). record { caller = x.caller; op = x.op }) cs
+
+-- their answers
+abbrev pub answered : List Decided → List Answer
+answered cs = map (λ (x : Decided). x.answer) cs

@@ -1,13 +1,13 @@
 -- Cells and runs as the words show them.
 use Rattle.std.specs.Prelude.{ℕ, ◌+◌, ◌-◌, ◌*◌, ◌/◌, ◌^◌, Bool, true, false, ◌&&◌, ◌||◌, ◌==◌, nat_le, nat_lt, List}
 use Rattle.std.specs.Prelude.{Option, Some, None, if◌then◌else◌, slice_index, slice_index_or}
-use Rattle.mk_geom.specs.{declared.addresses.Cell.Cell, declared.headers.Header.Header}
+use Rattle.mk_geom.specs.declared.{addresses.Cell.Cell, headers.Header.Header}
 use Rattle.mk_geom.specs.declared.headers.Header.TheVariants.{Block, Run, LeafBlock, LeafRun}
-use Rattle.mk_geom.specs.{declared.pages.Page.Page, Storages.free_page, Classes.{cells_of, class_words_of}}
-use Rattle.mk_geom.specs.{Headers.header_of, Addresses.{cell_at, page_at_address, head_page_under}}
-pub use Rattle.mk_geom.specs.Headers.{is_unmapped_header}
-use Rattle.mk_core.specs.{declared.seats.RunPages.RunPages, Words.{Words, header_at, used_at}, Bits.{has_bit, without}}
-use Rattle.mk_core.specs.{Bounded.{all_below, is_none_or}, Moments.is_phase}
+use Rattle.mk_geom.specs.{declared.pages.Page.Page, Storages.free_page, Addresses.{cells_of, class_words_of}}
+use Rattle.mk_geom.specs.Addresses.{header_of, cell_at, page_at_address, head_page_under}
+pub use Rattle.mk_geom.specs.Addresses.{is_unmapped_header}
+use Rattle.mk_core.specs.{declared.seats.RunPages.RunPages, Words.{Words, header_at, used_at, has_bit, without}}
+use Rattle.mk_core.specs.{Words.{all_below, is_none_or}, Moments.is_phase}
 
 -- how many cells there are under a header; a run is one, at its head page
 abbrev pub cells_under : Option Header → ℕ

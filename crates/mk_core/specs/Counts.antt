@@ -1,10 +1,10 @@
 -- What the tallies count, and when a free is due.
 use Rattle.std.specs.Prelude.{◌≡◌, ℕ, ◌-◌, ◌*◌, ◌^◌, ◌<◌, Bool, true, false, min, List, [], ◌∷◌, ◌++◌, count_by}
 use Rattle.std.specs.Prelude.{is_some}
-use Rattle.mk_core.specs.{declared.config.Config.Config, declared.events.Answer.Answer, declared.events.Step.Step}
-use Rattle.mk_core.specs.{declared.events.Event.Event, declared.seats.Flight.Flight, Moments.{Moment, flight_of}}
+use Rattle.mk_core.specs.declared.{config.Config.Config, events.{Answer.Answer, Step.Step}}
+use Rattle.mk_core.specs.{declared.{events.Event.Event, seats.Flight.Flight}, Moments.{Moment, flight_of}}
 use Rattle.mk_core.specs.{TurnConditions.cell_freed, Allocations.{PlacedAllocation, held_by_allocations}}
-use Rattle.mk_core.specs.{Allocations.fresh_words_of, Decided.answered, History.{left, calls}, Cycles.is_end}
+use Rattle.mk_core.specs.{Allocations.fresh_words_of, Calls.answered, History.{left, calls}, Cycles.is_end}
 
 -- how many cycles ended
 abbrev pub ends : List Event → ℕ

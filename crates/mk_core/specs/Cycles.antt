@@ -1,13 +1,19 @@
 -- Cycles and turns as parts of a list of events (Ainsworth and Jones, "MarkUs", 2020: a marking pass over a snapshot of
 -- the quarantine).
-use Rattle.std.specs.{Prelude.{◌≡◌, ℕ, Bool, true, false, ◌&&◌, not, List, [], ◌∷◌, ◌++◌, Option, ⊤}, List.list_any}
-use Rattle.mk_never.specs.declared.operations.Op.{Op}
-use Rattle.mk_core.specs.{declared.config.Config.Config, declared.events.Seat.Seat, declared.events.Step.Step}
-use Rattle.mk_core.specs.{declared.events.Event.Event, declared.seats.Flight.Flight, declared.seats.Source.Source}
-use Rattle.mk_core.specs.{declared.seats.Source.TheVariants.Unmarked, declared.seats.Hand.Hand, Bounded.is_some_and}
-use Rattle.mk_core.specs.{Moments.{Moment, flight_of}, NewPlaces.object_made, TurnConditions.place_now}
-use Rattle.mk_core.specs.{StopConditions.marks_place, Allocations.{PlacedAllocation, placed_at}}
-use Rattle.mk_core.specs.{History.{World, world_behind, left}, Growing.is_same_seat}
+use Rattle.std.specs.Prelude.{◌≡◌, ℕ, Bool, true, false, ◌&&◌, not, List, [], ◌∷◌, ◌++◌, Option, ⊤, IsTrue, slice_index}
+use Rattle.std.specs.{Prelude.{slice_index_or, ◌⊎◌, ◌+◌, ◌*◌, ◌/◌, ◌<◌}, List.list_any}
+use Rattle.mk_never.specs.declared.{operations.Op.Op, values.Value.TheVariants.Null}
+use Rattle.mk_geom.specs.{Storages.{IsWordOf, PointsInto}, Addresses.address_of}
+use Rattle.mk_core.specs.declared.{config.Config.Config, events.{Seat.Seat, Step.Step}}
+use Rattle.mk_core.specs.declared.{events.Event.Event, seats.{Flight.Flight, Source.Source}}
+use Rattle.mk_core.specs.declared.seats.{Source.TheVariants.Unmarked, Hand.Hand}
+use Rattle.mk_core.specs.{Words.{is_some_and, has_bit, Words}, Moments.{Moment, flight_of, is_phase}}
+use Rattle.mk_core.specs.{NewPlaces.object_made, TurnConditions.place_now, MarkingConditions.marks_place}
+use Rattle.mk_core.specs.Allocations.{PlacedAllocation, placed_at, storage_of, is_mapped}
+use Rattle.mk_core.specs.History.{World, world_behind, left, is_same_seat, image_of, never_behind, bases_of}
+use Rattle.mk_core.specs.{declared.events.Seat.TheVariants.Caller, Calls.page_met, Cells.{header_in, cells_under}}
+use Rattle.mk_core.specs.Cells.{words_under, has_no_pointers, pointed_cell, is_marked, points_well, word_points_well}
+use Rattle.mk_core.specs.declared.seats.Stage.{Stage}
 
 -- it is a `begin`
 abbrev pub is_begin : Step → Bool
@@ -128,3 +134,104 @@ NoneSweepsFrom c w (e ∷ es) = (sweeps c w.now (flight_of w.now e.seat) e.step 
 -- The cycle has no sweeping mark.
 abbrev pub NoneSweeps : Config → {es : List Event} → Marking es → Type 0
 NoneSweeps c k = NoneSweepsFrom c (left c (through k.begin)) k.close.at.before
+
+-- The list leads to a moment of the cycle, from after its `begin` up to before its `close`.
+pub record LeadsToMoment {es : List Event} (k : Marking es) (front : List Event) : Type 0 where
+  pub done : List Event
+  pub to_come : List Event
+  pub of_the_cycle : k.close.at.before ≡ done ++ to_come
+  pub is : front ≡ through k.begin ++ done
+
+-- The value points into the storage of this allocation, which is unreleased there.
+abbrev pub PointsIntoAllocation : Config → World → ℕ → ℕ → Type 0
+PointsIntoAllocation c w value b =
+    ((placed_at w.allocations b).released ≡ false) × PointsInto value (storage_of c (placed_at w.allocations b))
+
+-- The heap word is in the storage of this unreleased allocation, which isn't leaf.
+abbrev pub IsWordOfAllocation : Config → World → ℕ → ℕ → Type 0
+IsWordOfAllocation c w n a =
+    ((placed_at w.allocations a).released ≡ false) × ((storage_of c (placed_at w.allocations a)).leaf ≡ false)
+    × IsWordOf (storage_of c (placed_at w.allocations a)) n
+
+-- Register i of the heap that never reuses storage points into allocation b after these events.
+abbrev pub RegisterPointsInto : Config → List Event → ℕ → ℕ → Type 0
+RegisterPointsInto c front i b =
+    PointsIntoAllocation c (left c front)
+    (image_of (bases_of (left c front).allocations) (slice_index_or (never_behind c front).registers i Null)) b
+
+-- Global g points into allocation b.
+abbrev pub GlobalPointsInto : Config → List Event → ℕ → ℕ → Type 0
+GlobalPointsInto c front g b = PointsIntoAllocation c (left c front) (slice_index (left c front).now.words.globals g) b
+
+-- Heap word n points into allocation b.
+abbrev pub WordPointsInto : Config → List Event → ℕ → ℕ → Type 0
+WordPointsInto c front n b = PointsIntoAllocation c (left c front) (slice_index (left c front).now.words.heap n) b
+
+-- The least set of allocations into which, at some moment of the cycle, a register of the never-reusing heap points, or
+-- a global, or a word of an allocation of the set, whether that was touched before or later.
+pub data IsTouched (c : Config) {es : List Event} (k : Marking es) : ℕ → Type 0 where
+  by_register : (front : List Event) (i b : ℕ) → LeadsToMoment k front
+      → RegisterPointsInto c front i b
+      → IsTouched c k b
+  by_global : (front : List Event) (g b : ℕ) → LeadsToMoment k front → GlobalPointsInto c front g b → IsTouched c k b
+  by_word : (front : List Event) (a n b : ℕ) → LeadsToMoment k front → IsTouched c k a
+      → IsWordOfAllocation c (left c front) n a
+      → WordPointsInto c front n b → IsTouched c k b
+
+-- The set has what a register or a global points into at a moment of the cycle, and what a word of a member does.
+pub record IsClosedAlong (c : Config) {es : List Event} (k : Marking es) (S : ℕ → Type 0) : Type 0 where
+  pub registers : (front : List Event) (i b : ℕ) → LeadsToMoment k front → RegisterPointsInto c front i b → S b
+  pub globals : (front : List Event) (g b : ℕ) → LeadsToMoment k front → GlobalPointsInto c front g b → S b
+  pub words : (front : List Event) (a n b : ℕ) → LeadsToMoment k front → S a
+      → IsWordOfAllocation c (left c front) n a
+      → WordPointsInto c front n b → S b
+
+-- What is touched is closed so.
+abbrev pub TouchedIsClosed : Config → {es : List Event} → Marking es → Type 0
+TouchedIsClosed c k = IsClosedAlong c k (IsTouched c k)
+
+-- A set that is closed so has all that is touched.
+abbrev pub TouchedIsLeast : Config → {es : List Event} → Marking es → (ℕ → Bool) → Type 0
+TouchedIsLeast c k S = IsClosedAlong c k (λ b. IsTrue (S b)) → (b : ℕ) → IsTouched c k b → IsTrue (S b)
+
+-- Closed marks, and what guards them while callers write: the mostly parallel marking of Boehm, Demers and Shenker
+-- (1991).
+
+-- the cell at the allocation's first word is marked
+abbrev pub is_marked_allocation : Config → Words → PlacedAllocation → Bool
+is_marked_allocation c w a = is_some_and (is_marked w) (pointed_cell c.pages w.pages (address_of a.base))
+
+-- The words of a mapped allocation that isn't leaf are scanned.
+abbrev pub is_scanned_allocation : Config → PlacedAllocation → Bool
+is_scanned_allocation c a = is_mapped c a && not (storage_of c a).leaf
+
+-- Every word in a register, a global or the storage of a marked mapped allocation that isn't leaf points into nothing
+-- or into a marked cell.
+pub record MarksAreClosed (c : Config) (w : World) : Type 0 where
+  pub registers : (i : ℕ) → points_well c.pages w.now.words (slice_index w.now.words.registers i) ≡ true
+  pub globals : (g : ℕ) → points_well c.pages w.now.words (slice_index w.now.words.globals g) ≡ true
+  pub words : (i n : ℕ) → is_scanned_allocation c (placed_at w.allocations i) ≡ true
+      → is_marked_allocation c w.now.words (placed_at w.allocations i) ≡ true
+      → IsWordOf (storage_of c (placed_at w.allocations i)) n
+      → word_points_well c.pages w.now.words n ≡ true
+
+-- A caller has written to the page, or exchanged, and has still to mark it dirty.
+abbrev pub OwesDirty : Moment → ℕ → ℕ → Type 0
+OwesDirty m k page = ((flight_of m (Caller k)).stage ≡ Stage.Dirty) × (page_met (flight_of m (Caller k)) ≡ page)
+
+-- The heap word points well, or its page is dirty, or a call in flight owes the page its dirty mark.
+pub data IsGuarded (c : Config) (m : Moment) (n : ℕ) : Type 0 where
+  PointsWell : word_points_well c.pages m.words n ≡ true → IsGuarded c m n
+  PageIsDirty : slice_index m.words.dirty (n / 64) ≡ 1 → IsGuarded c m n
+  DirtyIsOwed : (k : ℕ) → OwesDirty m k (n / 64) → IsGuarded c m n
+
+-- Each word of a black cell is guarded, whatever it holds, unless the words of the cell aren't scanned.
+abbrev pub BlackIsGuarded : Config → Moment → Type 0
+BlackIsGuarded c m =
+    (p k i : ℕ) → k < cells_under (header_in m.words p) → has_bit (slice_index m.words.blacks p) k ≡ true
+    → has_no_pointers (header_in m.words p) ≡ false → i < words_under (header_in m.words p)
+    → IsGuarded c m (64 * p + k * words_under (header_in m.words p) + i)
+
+-- From a `begin` to its `close` the phase is marking, or wanted for closing.
+abbrev pub MarkingIsGuarded : Config → Moment → Type 0
+MarkingIsGuarded c m = (is_phase m.words 1 ≡ true) ⊎ (is_phase m.words 2 ≡ true) → BlackIsGuarded c m

@@ -2,7 +2,8 @@
 use Rattle.std.specs.Prelude.{ℕ, ◌+◌, ◌-◌, ◌*◌, ◌%◌, ◌^◌, Bool, false, ◌&&◌, not, min, ◌==◌, List, slice_set, Option}
 use Rattle.std.specs.Prelude.{Some, None, is_none, option_map, option_and_then, unwrap_or, if◌then◌else◌}
 use Rattle.mk_never.specs.declared.operations.Op.{Op}
-use Rattle.mk_geom.specs.{declared.addresses.Cell.Cell, declared.pages.Place.Place, Headers.header_of, PageUses.or_else}
+use Rattle.mk_geom.specs.{declared.{addresses.Cell.Cell, pages.Place.Place}, Addresses.header_of}
+use Rattle.mk_geom.specs.PageUses.{or_else}
 use Rattle.mk_geom.specs.Addresses.{is_heap_address, cell_at, page_at_address, address_of}
 use Rattle.mk_core.specs.Cells.{header_in, run_headed, heads_run, has_no_pointers, is_unmapped_header, pointed_cell}
 use Rattle.mk_core.specs.{Cells.{is_used, is_freed, is_marked, words_scanned, words_under}, Calls.{at_rest, begun}}
@@ -13,13 +14,13 @@ use Rattle.mk_core.specs.{declared.seats.Source.TheVariants.{Root, Marked, Unmar
 use Rattle.mk_core.specs.{Accesses.found, declared.seats.OwnCycle.TheVariants.{Begun, Ended}}
 use Rattle.mk_core.specs.{declared.seats.Presence.TheVariants.{Visiting, Attending}, Words.{Words, accessed}}
 use Rattle.mk_core.specs.{NewPlaces.{object_made, target}, TurnConditions.{place_now, cell_freed}}
-use Rattle.mk_core.specs.{declared.config.Config.Config, declared.events.Seat.Seat, declared.events.Word.Word}
-use Rattle.mk_core.specs.{declared.events.Step.Step, declared.events.Event.Event, declared.events.Answer.Answer}
-use Rattle.mk_core.specs.{declared.seats.Flight.Flight, declared.seats.Progress.Progress, declared.seats.Hand.Hand}
-use Rattle.mk_core.specs.{declared.seats.Placing.Placing, declared.seats.OwnCycle.OwnCycle}
-use Rattle.mk_core.specs.{declared.seats.Holding.Holding, declared.seats.RunPages.RunPages, declared.seats.Scan.Scan}
-use Rattle.mk_core.specs.{declared.seats.SeenHeader.SeenHeader, declared.seats.Marker.Marker, Bits.has_bit}
-use Rattle.mk_core.specs.{Bounded.is_some_and, StopConditions.marks_place, declared.seats.Stage.Stage}
+use Rattle.mk_core.specs.declared.{config.Config.Config, events.{Seat.Seat, Word.Word}}
+use Rattle.mk_core.specs.declared.events.{Step.Step, Event.Event, Answer.Answer}
+use Rattle.mk_core.specs.declared.seats.{Flight.Flight, Progress.Progress, Hand.Hand}
+use Rattle.mk_core.specs.declared.seats.{Placing.Placing, OwnCycle.OwnCycle}
+use Rattle.mk_core.specs.declared.seats.{Holding.Holding, RunPages.RunPages, Scan.Scan}
+use Rattle.mk_core.specs.{declared.seats.{SeenHeader.SeenHeader, Marker.Marker}, Words.has_bit}
+use Rattle.mk_core.specs.{Words.is_some_and, MarkingConditions.marks_place, declared.seats.Stage.Stage}
 
 -- a decided answer, and then `give`
 abbrev pub decided : Flight → Answer → Progress

@@ -1,13 +1,29 @@
 -- Which event may come next: the first of the seven conditions that fails, or 0.
-use Rattle.std.specs.Prelude.{◌≡◌, ◌↔◌, ℕ, Bool, true, ◌&&◌, not, if◌then◌else◌}
-use Rattle.mk_core.specs.{declared.config.Config.Config, declared.events.Seat.Seat, declared.events.Step.Step}
-use Rattle.mk_core.specs.{declared.events.Event.Event, declared.seats.Flight.Flight, Words.phase_of}
-use Rattle.mk_core.specs.{declared.seats.Marker.Marker as MarkerState, NewPlaces.{object_made, is_run_gone}}
-use Rattle.mk_core.specs.{Moments.{Moment, flight_of, marker_at}, Ranges.{is_in_range, has_gates, has_phase}}
-use Rattle.mk_core.specs.{Order.{seat_exists, group_of, is_open_to, is_in_order}, TurnConditions.{may_head, may_use}}
-use Rattle.mk_core.specs.TurnConditions.{may_quarantine, may_give, may_wipe, may_answer_full, is_used_once}
-use Rattle.mk_core.specs.StopConditions.{may_mark, may_begin, may_close, may_end, may_undirty, may_black, may_unblack}
-use Rattle.mk_core.specs.MarkerConditions.{is_out, may_mlook, may_claim, may_mload, may_mmark, may_mblack, may_end_all}
+use Rattle.std.specs.Prelude.{ℕ, Option, Some, None, ◌≡◌, ◌↔◌, Bool, true, ◌&&◌, not, if◌then◌else◌}
+use Rattle.mk_core.specs.declared.{failing.Condition.Condition, config.Config.Config}
+use Rattle.mk_core.specs.declared.events.{Seat.Seat, Step.Step, Event.Event}
+use Rattle.mk_core.specs.{declared.seats.{Flight.Flight, Marker.Marker as MarkerState}, Words.phase_of}
+use Rattle.mk_core.specs.{NewPlaces.{object_made, is_run_gone}, Moments.{Moment, flight_of, marker_at}}
+use Rattle.mk_core.specs.Conditions.{is_in_range, has_gates, has_phase, seat_exists, group_of, is_open_to, is_in_order}
+use Rattle.mk_core.specs.TurnConditions.{may_head, may_use, may_quarantine, may_give, may_wipe, may_answer_full}
+use Rattle.mk_core.specs.{TurnConditions.is_used_once, MarkingConditions.{may_mark, may_begin, may_close, may_end}}
+use Rattle.mk_core.specs.MarkingConditions.{may_undirty, may_black, may_unblack, is_out, may_mlook, may_claim}
+use Rattle.mk_core.specs.MarkingConditions.{may_mload, may_mmark, may_mblack, may_end_all}
+
+-- the number of a condition, as a schedule's refusal prints it
+abbrev pub condition_number : Condition → ℕ
+condition_number Condition.Seat = 1
+condition_number Condition.Kind = 2
+condition_number Condition.Order = 3
+condition_number Condition.Range = 4
+condition_number Condition.Gates = 5
+condition_number Condition.Phase = 6
+condition_number Condition.Own = 7
+
+-- That of one that fails, or 0 if none does.
+abbrev pub number_failing : Option Condition → ℕ
+number_failing None = 0
+number_failing (Some x) = condition_number x
 
 -- condition 7 for the kinds of a marker
 abbrev pub marker_may : Config → MarkerState → Step → Bool

@@ -1,10 +1,11 @@
 -- The frame law: what the events of other seats leave to a seat, by what it is in the middle of.
 use Rattle.std.specs.Prelude.{◌≡◌, ◌≢◌, ◌⊎◌, ℕ, ◌/◌, ◌<◌, ◌≤◌, true, false, List, [], ◌∷◌, ◌++◌, slice_index, Some}
-use Rattle.mk_never.specs.{Reach.LeadsTo, NeverHeap.register_at}
-use Rattle.mk_geom.specs.{declared.pages.Page.Page, declared.addresses.Cell.Cell, Addresses.cell_at}
-use Rattle.mk_geom.specs.StorageWords.{IsWordOf}
-use Rattle.mk_core.specs.{declared.config.Config.Config, declared.events.Seat.Seat, declared.events.Event.Event}
-use Rattle.mk_core.specs.{declared.seats.Flight.Flight, Bits.has_bit, StopConditions.is_attending, Growing.AreOfOthers}
+use Rattle.mk_never.specs.{Laws.LeadsTo, NeverHeap.register_at}
+use Rattle.mk_geom.specs.{declared.{pages.Page.Page, addresses.Cell.Cell}, Addresses.cell_at}
+use Rattle.mk_geom.specs.Storages.{IsWordOf}
+use Rattle.mk_core.specs.declared.{config.Config.Config, events.{Seat.Seat, Event.Event}}
+use Rattle.mk_core.specs.{declared.seats.Flight.Flight, Words.has_bit, MarkingConditions.is_attending}
+use Rattle.mk_core.specs.History.{AreOfOthers}
 use Rattle.mk_core.specs.{declared.events.Seat.TheVariants.{Caller, Marker}, Counts.{ends, full_answers}}
 use Rattle.mk_core.specs.{Words.{register_word, header_at, phase_of}, Cells.{header_in, is_unmapped_header}}
 use Rattle.mk_core.specs.{Cells.points_well, Allocations.{PlacedAllocation, placed_at, is_mapped, storage_of}}

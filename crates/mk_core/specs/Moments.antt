@@ -1,10 +1,38 @@
--- A moment: the words of the table, and what each seat is in the middle of. It decides which event may come next.
-use Rattle.std.specs.Prelude.{ℕ, Bool, false, ◌||◌, not, ◌==◌, List, replicate, slice_index, slice_index_or, None}
-use Rattle.mk_core.specs.{Words.{Words, zero_words_of, phase_of}, declared.events.Seat.TheVariants.{Caller, Marker}}
-use Rattle.mk_core.specs.{declared.config.Config.Config, declared.events.Seat.Seat, declared.seats.Flight.Flight}
-use Rattle.mk_core.specs.{declared.seats.Holding.Holding, declared.seats.Placing.TheVariants.Unplaced}
-use Rattle.mk_core.specs.{declared.seats.OwnCycle.TheVariants.NotBegun, declared.seats.Presence.TheVariants.Out}
-use Rattle.mk_core.specs.{Calls.at_rest, Bounded.all_below, declared.seats.Marker.Marker as MarkerState}
+-- A configuration, and a moment: the words of the table, and what each seat is in the middle of. It decides which event
+-- may come next.
+use Rattle.std.specs.Prelude.{ℕ, ◌≤◌, ◌<◌, List, length, All, ⊤, Bool, false, ◌||◌, not, ◌==◌, replicate, slice_index}
+use Rattle.std.specs.Prelude.{slice_index_or, None}
+use Rattle.mk_never.specs.{declared.types.Kind.{Kind, TheVariants.{Num, To}}, Types.kinds_of}
+use Rattle.mk_core.specs.{declared.config.Config.Config, Words.{Words, zero_words_of, phase_of, all_below}}
+use Rattle.mk_core.specs.declared.events.Seat.{TheVariants.{Caller, Marker}, Seat}
+use Rattle.mk_core.specs.declared.seats.{Flight.Flight, Holding.Holding}
+use Rattle.mk_core.specs.declared.seats.{Placing.TheVariants.Unplaced, OwnCycle.TheVariants.NotBegun}
+use Rattle.mk_core.specs.{declared.seats.Presence.TheVariants.Out, Calls.at_rest}
+use Rattle.mk_core.specs.declared.seats.Marker.{Marker as MarkerState}
+
+-- n is within these bounds
+abbrev pub IsBetween : ℕ → ℕ → ℕ → Type 0
+IsBetween least greatest n = (least ≤ n) × (n ≤ greatest)
+
+-- the type that a word points to is one of these, and has that word
+abbrev pub IsAmong : List (List Kind) → Kind → Type 0
+IsAmong types Num = ⊤
+IsAmong types (To ty offset) = (ty < length types) × (offset < length (kinds_of types ty))
+
+-- a type of 1 to 4,096 words, whose pointers point to words of these types
+abbrev pub IsTypeAmong : List (List Kind) → List Kind → Type 0
+IsTypeAmong types kinds = IsBetween 1 4096 (length kinds) × All (IsAmong types) kinds
+
+-- each number is within its limits, and each type and word that is named exists
+pub record IsWithinLimits (config : Config) : Type 0 where
+  pub pages : IsBetween 1 4096 config.pages
+  pub resident : IsBetween 1 config.pages config.resident
+  pub callers : IsBetween 1 16 config.callers
+  pub markers : config.markers ≤ 8
+  pub type_count : length config.types ≤ 64
+  pub global_count : length config.globals ≤ 64
+  pub types : All (IsTypeAmong config.types) config.types
+  pub globals : All (λ ty. ty < length config.types) config.globals
 
 -- each caller's call, what the turn's holder has done, and the markers
 pub record Seats : Type 0 where

@@ -1,15 +1,17 @@
 -- The place of a New and what its pages become, and the object of a Free, over the words as they are.
 use Rattle.std.specs.Prelude.{ℕ, ◌+◌, ◌-◌, ◌*◌, ◌^◌, Bool, true, false, ◌&&◌, ◌==◌, nat_le, nat_lt, not, List, []}
 use Rattle.std.specs.Prelude.{length, Option, Some, None, unwrap_or, if◌then◌else◌}
-use Rattle.mk_never.specs.{declared.types.Kind.Kind, declared.operations.Op.Op, Types.{kinds_of, is_leaf}}
-use Rattle.mk_geom.specs.{declared.addresses.Cell.Cell, declared.pages.Page.Page, declared.pages.Place.Place}
-use Rattle.mk_geom.specs.{Classes.{class_for, class_words_of, cells_of, is_small_size, run_pages_of}, Headers.word_of}
-use Rattle.mk_geom.specs.{PageUses.place_on_uses, PageWords.uses_of_pages, Storages.{block_header, run_header}}
-use Rattle.mk_core.specs.{declared.config.Config.Config, declared.seats.Flight.Flight, declared.seats.Stage.Stage}
-use Rattle.mk_core.specs.{declared.seats.Stage.TheVariants.Turn, declared.seats.Placing.Placing}
+use Rattle.mk_never.specs.{declared.{types.Kind.Kind, operations.Op.Op}, Types.{kinds_of, is_leaf}}
+use Rattle.mk_geom.specs.declared.{addresses.Cell.Cell, pages.{Page.Page, Place.Place}}
+use Rattle.mk_geom.specs.Addresses.{class_for, class_words_of, cells_of, is_small_size, run_pages_of, word_of}
+use Rattle.mk_geom.specs.{PageUses.{place_on_uses, uses_of_pages}, Storages.{block_header, run_header}}
+use Rattle.mk_core.specs.declared.{config.Config.Config, seats.{Flight.Flight, Stage.Stage}}
+use Rattle.mk_core.specs.declared.seats.{Stage.TheVariants.Turn, Placing.Placing}
 use Rattle.mk_core.specs.declared.seats.Placing.TheVariants.{Unplaced, Chosen, Used, Granted}
-use Rattle.mk_core.specs.{declared.seats.RunPages.RunPages, declared.seats.Object.Object, Words.{Words, header_at}}
-use Rattle.mk_core.specs.{Bounded.{all_below, is_none_or}, Cells.{pointed_cell, words_are_zero}}
+use Rattle.mk_core.specs.{declared.seats.{RunPages.RunPages, Object.Object}, Words.{Words, header_at}}
+use Rattle.mk_core.specs.{Words.{all_below, is_none_or}, Cells.{pointed_cell, words_are_zero}}
+use Rattle.mk_core.specs.declared.placing.PageHeaders.{PageHeaders}
+use Rattle.mk_core.specs.declared.placing.PageHeaders.TheVariants.{Made, Unmapped}
 
 -- an object of these words
 abbrev pub object_of : List Kind → Object
@@ -107,3 +109,8 @@ is_undecided_free f = is_free_at f.stage f.op
 -- the cell that a Free frees: what its register points into
 abbrev pub target : ℕ → Words → Flight → Option Cell
 target pages w f = if is_undecided_free f then pointed_cell pages w.pages f.p else None
+
+-- that of the page so far after the first
+abbrev pub header_wanted : PageHeaders → ℕ → ℕ
+header_wanted (Made object) distance = header_made object distance
+header_wanted (Unmapped count) distance = unmapped_header count distance

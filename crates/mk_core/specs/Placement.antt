@@ -1,10 +1,10 @@
 -- Where the objects of a history are granted: the place of a New is the first fit before the first step that serves it.
 use Rattle.std.specs.Prelude.{◌≡◌, Bool, true, false, ◌&&◌, not, List, [], ◌∷◌, ◌++◌, ⊤, Option, Some}
 use Rattle.mk_geom.specs.declared.pages.Place.{Place}
-use Rattle.mk_core.specs.{declared.config.Config.Config, declared.events.Seat.Seat, declared.events.Step.Step}
-use Rattle.mk_core.specs.{declared.events.Event.Event, declared.seats.Flight.Flight, declared.seats.Object.Object}
+use Rattle.mk_core.specs.declared.{config.Config.Config, events.{Seat.Seat, Step.Step}}
+use Rattle.mk_core.specs.declared.{events.Event.Event, seats.{Flight.Flight, Object.Object}}
 use Rattle.mk_core.specs.{Moments.{Moment, flight_of, is_phase}, NewPlaces.{object_made, base_made}}
-use Rattle.mk_core.specs.{TurnConditions.{place_now, carves, takes_cell}, StopConditions.marks_place}
+use Rattle.mk_core.specs.{TurnConditions.{place_now, carves, takes_cell}, MarkingConditions.marks_place}
 use Rattle.mk_core.specs.{Accesses.granted_base, Allocations.{place_among_allocations, FitsAmongAllocations}}
 use Rattle.mk_core.specs.{History.{World, world_behind, left}, Cycles.{TurnOf, BeginsAndEndsIn}}
 

@@ -1,13 +1,15 @@
 -- What a look at a word of the table says: the reading laws.
 use Rattle.std.specs.Prelude.{◌≡◌, ◌≢◌, ℕ, ◌+◌, ◌-◌, ◌<◌, ◌≤◌, Bool, true, false, not, ◌&&◌, ◌||◌, List, Some}
 use Rattle.std.specs.List.{list_any}
-use Rattle.mk_geom.specs.{declared.headers.Header.TheVariants.Later, Headers.IsHeaderWord, declared.addresses.Cell.Cell}
-use Rattle.mk_core.specs.{declared.config.Config.Config, declared.events.Seat.Seat, Counts.{IsTidy, TalliesAreExact}}
+use Rattle.mk_geom.specs.{declared.headers.Header.TheVariants.Later, Addresses.IsHeaderWord}
+use Rattle.mk_geom.specs.declared.addresses.Cell.{Cell}
+use Rattle.mk_core.specs.{declared.{config.Config.Config, events.Seat.Seat}, Counts.{IsTidy, TalliesAreExact}}
 use Rattle.mk_core.specs.{Counts.TalliesAreTidy, declared.events.Seat.TheVariants.{Caller, Marker, Host}}
-use Rattle.mk_core.specs.{declared.events.Event.Event, declared.seats.Stage.Stage, declared.seats.Flight.Flight}
+use Rattle.mk_core.specs.declared.{events.Event.Event, seats.{Stage.Stage, Flight.Flight}}
 use Rattle.mk_core.specs.{declared.seats.RunPages.RunPages, Words.{header_at, phase_of}, Calls.is_under_turn}
 use Rattle.mk_core.specs.Cells.{header_in, cells_under, run_headed, is_freed, is_in_snapshot}
-use Rattle.mk_core.specs.{Moments.{Moment, flight_of, marker_of}, StopConditions.is_attending, MarkerConditions.is_out}
+use Rattle.mk_core.specs.{Moments.{Moment, flight_of, marker_of}, MarkingConditions.is_attending}
+use Rattle.mk_core.specs.MarkingConditions.{is_out}
 use Rattle.mk_core.specs.{Allocations.{placed_at, stands_in, cell_of_allocation}, History.{World, left}}
 use Rattle.mk_core.specs.Cycles.{is_begin, is_release, At, is_quarantined}
 use Rattle.mk_core.specs.declared.seats.Marker.{Marker as MarkerState}

@@ -1,17 +1,17 @@
 -- Condition 7 for the kinds of the turn's holder that change objects: each kind's own condition.
 use Rattle.std.specs.Prelude.{ℕ, ◌+◌, ◌-◌, ◌/◌, ◌%◌, ◌^◌, Bool, true, false, ◌&&◌, ◌||◌, not, ◌==◌, List, Option, None}
 use Rattle.std.specs.Prelude.{if◌then◌else◌, slice_index, bit_and, is_none}
-use Rattle.mk_geom.specs.{declared.addresses.Cell.Cell, declared.pages.Page.Page, declared.pages.Place.Place}
-use Rattle.mk_geom.specs.{PageUses.held_by_uses, PageWords.uses_of_pages, Addresses.address_of}
+use Rattle.mk_geom.specs.declared.{addresses.Cell.Cell, pages.{Page.Page, Place.Place}}
+use Rattle.mk_geom.specs.{PageUses.{held_by_uses, uses_of_pages}, Addresses.address_of}
 use Rattle.mk_core.specs.NewPlaces.{object_made, place_on_pages, place_by_placing, pages_made, header_made, bits_made}
 use Rattle.mk_core.specs.NewPlaces.{is_next_header, place_stands, unmapped_header, is_run_unmapped, is_run_gone}
 use Rattle.mk_core.specs.{NewPlaces.{is_undecided_new, target}, Cells.{head_page, pointed_cell, is_freed}}
 use Rattle.mk_core.specs.Cells.{are_left_unmarked, is_released_cell, words_are_zero, first_word, cell_words, is_in_run}
 use Rattle.mk_core.specs.{Words.{Words, used_at, quarantine_word}, declared.seats.Placing.TheVariants.{Unplaced, Used}}
-use Rattle.mk_core.specs.{Bits.{has_bit, without}, Bounded.{all_below, is_some_and}, Moments.{Moment, is_phase}}
-use Rattle.mk_core.specs.{declared.seats.Object.Object, declared.config.Config.Config, declared.seats.Flight.Flight}
-use Rattle.mk_core.specs.{declared.seats.Stage.Stage, declared.seats.Placing.Placing, declared.seats.OwnCycle.OwnCycle}
-use Rattle.mk_core.specs.{declared.seats.OwnCycle.TheVariants.Ended, declared.seats.RunPages.RunPages}
+use Rattle.mk_core.specs.{Words.{has_bit, without, all_below, is_some_and}, Moments.{Moment, is_phase}}
+use Rattle.mk_core.specs.declared.{seats.{Object.Object, Flight.Flight}, config.Config.Config}
+use Rattle.mk_core.specs.declared.seats.{Stage.Stage, Placing.Placing, OwnCycle.OwnCycle}
+use Rattle.mk_core.specs.declared.seats.{OwnCycle.TheVariants.Ended, RunPages.RunPages}
 
 -- the place of an undecided New
 abbrev pub place_now : Config → Moment → Flight → Option Place

@@ -1,12 +1,55 @@
--- The words of the shared table: their contents, by region, and what each name names.
-use Rattle.std.specs.Prelude.{ℕ, ◌+◌, ◌-◌, ◌*◌, ◌/◌, ◌%◌, ◌^◌, ◌==◌, List, replicate, slice_index, slice_index_or}
-use Rattle.std.specs.Prelude.{slice_set, bit_or}
-use prog.Atomic.{either}
+-- The words of the shared table: their contents, by region, their bits, and what each name names.
+use Rattle.std.specs.Prelude.{ℕ, ◌-◌, ◌%◌, ◌^◌, Bool, ◌==◌, bit_and, zero, suc, true, false, ◌&&◌, Option, Some, None}
+use Rattle.std.specs.Prelude.{◌+◌, ◌*◌, ◌/◌, List, replicate, slice_index, slice_index_or, slice_set, bit_or}
+use Rattle.std.specs.Int.{bit_at}
 use Rattle.mk_geom.specs.{declared.pages.Page.Page, Storages.free_page}
-use Rattle.mk_core.specs.{declared.events.Word.Word, declared.accesses.TableWord.TableWord}
-use Rattle.mk_core.specs.{declared.accesses.TableWord.TheVariants.{Turn, Named}, declared.accesses.Access.Access}
-use Rattle.mk_core.specs.declared.accesses.Access.TheVariants.{Load, Store, Exchange, Or, Add, Sub}
-use Rattle.mk_core.specs.declared.events.Word.TheVariants as word
+use Rattle.mk_core.specs.declared.{phases.Phase.Phase, gates.Gate.Gate, events.Word.Word}
+use Rattle.mk_core.specs.declared.accesses.TableWord.{TableWord, TheVariants.{Turn, Named}}
+use Rattle.mk_core.specs.declared.accesses.Access.{Access, TheVariants.{Load, Store, Exchange}}
+use Rattle.mk_core.specs.declared.accesses.Access.TheVariants.{Or, Add, Sub}
+use prog.Atomic.{either}
+
+-- bit k of the word is 1
+abbrev pub has_bit : ℕ → ℕ → Bool
+has_bit word k = bit_at word k == 1
+
+-- the bit that stands for a cell; a word has none for an index of 64 or more
+abbrev pub bit_for : ℕ → ℕ
+bit_for k = 2 ^ k % 2 ^ 64
+
+-- the bits of a word that another hasn't
+abbrev pub without : ℕ → ℕ → ℕ
+without word other = word - bit_and word other
+
+-- the test holds of each number below n
+unfoldable pub all_below : ℕ → (ℕ → Bool) → Bool
+all_below zero test = true
+all_below (suc n) test = all_below n test && test n
+
+-- It is there, and the test holds of it.
+abbrev pub is_some_and : {A : Type 0} → (A → Bool) → Option A → Bool
+is_some_and test (Some x) = test x
+is_some_and test None = false
+
+-- If there is a value, the test holds of it.
+abbrev pub is_none_or : {A : Type 0} → (A → Bool) → Option A → Bool
+is_none_or test (Some x) = test x
+is_none_or test None = true
+
+-- the number that the phase word has, without the markers that are in
+abbrev pub phase_number : Phase → ℕ
+phase_number Phase.None = 0
+phase_number Phase.Marking = 1
+phase_number Phase.Wanted = 2
+phase_number Phase.Closed = 3
+phase_number Phase.Releasing = 4
+phase_number Phase.Over = 5
+
+-- the number that a gate's word has
+abbrev pub gate_number : Gate → ℕ
+gate_number Gate.Open = 0
+gate_number Gate.InCall = 1
+gate_number Gate.Held = 2
 
 -- The headers and used words stand page by page. A page's quarantine word has its freed cells in the low half and the
 -- snapshot in the high half.
@@ -74,22 +117,22 @@ register_word w caller r = slice_index w.registers (8 * caller + r)
 
 -- the word of this name
 abbrev pub named_word : Words → Word → ℕ
-named_word w word.Phase = w.phase
-named_word w (word.Gate caller) = slice_index w.gates caller
-named_word w (word.Reg caller r) = register_word w caller r
-named_word w (word.Global g) = slice_index w.globals g
-named_word w (word.Head p) = header_at w p
-named_word w (word.Used p) = used_at w p
-named_word w (word.Quar p) = quarantine_word (slice_index w.freed p) (slice_index w.snapshot p)
-named_word w (word.Mark p) = slice_index w.marks p
-named_word w (word.Black p) = slice_index w.blacks p
-named_word w (word.Dirty p) = slice_index w.dirty p
-named_word w (word.Heap n) = slice_index w.heap n
-named_word w word.Held = w.held
-named_word w word.Fresh = w.fresh
-named_word w word.Cycles = w.cycles
-named_word w word.Released = w.released
-named_word w word.Full = w.full
+named_word w Word.Phase = w.phase
+named_word w (Word.Gate caller) = slice_index w.gates caller
+named_word w (Word.Reg caller r) = register_word w caller r
+named_word w (Word.Global g) = slice_index w.globals g
+named_word w (Word.Head p) = header_at w p
+named_word w (Word.Used p) = used_at w p
+named_word w (Word.Quar p) = quarantine_word (slice_index w.freed p) (slice_index w.snapshot p)
+named_word w (Word.Mark p) = slice_index w.marks p
+named_word w (Word.Black p) = slice_index w.blacks p
+named_word w (Word.Dirty p) = slice_index w.dirty p
+named_word w (Word.Heap n) = slice_index w.heap n
+named_word w Word.Held = w.held
+named_word w Word.Fresh = w.fresh
+named_word w Word.Cycles = w.cycles
+named_word w Word.Released = w.released
+named_word w Word.Full = w.full
 
 -- the word of the table
 abbrev pub word_in : Words → TableWord → ℕ
@@ -98,25 +141,25 @@ word_in w (Named name) = named_word w name
 
 -- the words, with this word changed
 abbrev pub with_named : Words → Word → ℕ → Words
-with_named w word.Phase value = record w { phase = value }
-with_named w (word.Gate caller) value = record w { gates = slice_set w.gates caller value }
-with_named w (word.Reg caller r) value = record w { registers = slice_set w.registers (8 * caller + r) value }
-with_named w (word.Global g) value = record w { globals = slice_set w.globals g value }
-with_named w (word.Head p) value =
+with_named w Word.Phase value = record w { phase = value }
+with_named w (Word.Gate caller) value = record w { gates = slice_set w.gates caller value }
+with_named w (Word.Reg caller r) value = record w { registers = slice_set w.registers (8 * caller + r) value }
+with_named w (Word.Global g) value = record w { globals = slice_set w.globals g value }
+with_named w (Word.Head p) value =
     record w { pages = slice_set w.pages p (record { header = value; used = used_at w p }) }
-with_named w (word.Used p) value =
+with_named w (Word.Used p) value =
     record w { pages = slice_set w.pages p (record { header = header_at w p; used = value }) }
-with_named w (word.Quar p) value =
+with_named w (Word.Quar p) value =
     record w { freed = slice_set w.freed p (value % 2 ^ 32); snapshot = slice_set w.snapshot p (value / 2 ^ 32) }
-with_named w (word.Mark p) value = record w { marks = slice_set w.marks p value }
-with_named w (word.Black p) value = record w { blacks = slice_set w.blacks p value }
-with_named w (word.Dirty p) value = record w { dirty = slice_set w.dirty p value }
-with_named w (word.Heap n) value = record w { heap = slice_set w.heap n value }
-with_named w word.Held value = record w { held = value }
-with_named w word.Fresh value = record w { fresh = value }
-with_named w word.Cycles value = record w { cycles = value }
-with_named w word.Released value = record w { released = value }
-with_named w word.Full value = record w { full = value }
+with_named w (Word.Mark p) value = record w { marks = slice_set w.marks p value }
+with_named w (Word.Black p) value = record w { blacks = slice_set w.blacks p value }
+with_named w (Word.Dirty p) value = record w { dirty = slice_set w.dirty p value }
+with_named w (Word.Heap n) value = record w { heap = slice_set w.heap n value }
+with_named w Word.Held value = record w { held = value }
+with_named w Word.Fresh value = record w { fresh = value }
+with_named w Word.Cycles value = record w { cycles = value }
+with_named w Word.Released value = record w { released = value }
+with_named w Word.Full value = record w { full = value }
 
 -- the same of each word of the table
 abbrev pub with_word_in : Words → TableWord → ℕ → Words

@@ -1,6 +1,6 @@
 //! A question that is asked of each number below one.
 ghost use Rattle.std.specs.Prelude.{◌≡◌, ℕ, Bool, ◌<◌};
-ghost use Rattle.mk_core.specs.Bounded.{all_below};
+ghost use Rattle.mk_core.specs.Words.{all_below};
 
 /// Whether the test holds of each number below `count`.
 #[tactic(auto, using(crate::proofs::AllBelow::all_below_facts))]

@@ -1,13 +1,13 @@
 //! Cells and runs as the words show them.
 ghost use Rattle.std.specs.Prelude.{◌≡◌, ◌≢◌, ℕ, ◌+◌, ◌-◌, ◌*◌, ◌^◌, ◌<◌, ◌≤◌, ◌==◌, true, IfSome, IfNone};
 ghost use Rattle.std.specs.Prelude.{slice_index};
-ghost use Rattle.mk_core.specs.{Words.{header_at, used_at}, Bits.{bit_for, has_bit, without}, Bounded.all_below};
+ghost use Rattle.mk_core.specs.Words.{header_at, used_at, bit_for, has_bit, without, all_below};
 ghost use Rattle.mk_core.specs.Cells.{cells_under, words_under, run_headed, heads_run, is_leaf_header, has_no_pointers};
 ghost use Rattle.mk_core.specs.Cells.{head_page, cell_bits, first_word, cell_words, pointed_cell, is_used, is_freed};
 ghost use Rattle.mk_core.specs.Cells.{is_marked, points_well, word_points_well, words_point_well, words_are_zero};
 ghost use Rattle.mk_core.specs.Cells.{left_unmarked, is_left_unmarked, are_left_unmarked, none_is_left_unmarked};
 ghost use Rattle.mk_core.specs.Cells.{is_released_cell, is_in_run, words_scanned};
-ghost use Rattle.mk_geom.specs.{Headers.header_of, Addresses.address_of};
+ghost use Rattle.mk_geom.specs.Addresses.{header_of, address_of};
 
 use crate::bounded::all_below;
 use crate::table::Table;

@@ -1,8 +1,8 @@
 //! What a step makes of the call in flight, of what the turn's holder has done, and of the count of fresh
 //! words.
 ghost use Rattle.std.specs.Prelude.{◌≡◌, if◌then◌else◌, IsTrue};
-ghost use Rattle.mk_core.specs.{Calls.at_rest, Ranges.is_in_range, NewPlaces.{object_made, target}};
-ghost use Rattle.mk_core.specs.{TurnConditions.{place_now, cell_freed}, StopConditions.marks_place};
+ghost use Rattle.mk_core.specs.{Calls.at_rest, Conditions.is_in_range, NewPlaces.{object_made, target}};
+ghost use Rattle.mk_core.specs.{TurnConditions.{place_now, cell_freed}, MarkingConditions.marks_place};
 ghost use Rattle.mk_core.specs.{Moments.{marker_of, is_phase}, Enabled.marker_may};
 ghost use Rattle.mk_core.specs.Effects.{decided, begins_where_free, progress_probe, sees_double, progress_look};
 ghost use Rattle.mk_core.specs.Effects.{progress_freed, progress, is_ungranted, is_mapped_cell, hand_of_cell};

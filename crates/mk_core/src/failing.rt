@@ -1,6 +1,6 @@
 //! The seven conditions of an event, by name.
 ghost use Rattle.std.specs.Prelude.{◌≡◌, ◌≤◌};
-ghost use Rattle.mk_core.specs.Failing.{condition_number};
+ghost use Rattle.mk_core.specs.Enabled.{condition_number};
 
 /// What an event can fail, in the order in which it is asked.
 #[derive(Clone, Copy)]

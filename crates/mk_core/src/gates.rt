@@ -1,6 +1,6 @@
 //! What a gate word says.
 ghost use Rattle.std.specs.Prelude.{◌≡◌, ◌==◌};
-ghost use Rattle.mk_core.specs.Gates.{gate_number};
+ghost use Rattle.mk_core.specs.Words.{gate_number};
 
 /// A caller's gate. A caller enters a call through it, and who holds it keeps the caller out.
 #[derive(Clone, Copy)]

@@ -2,7 +2,7 @@
 ghost use Rattle.std.specs.Prelude.{ℕ, Bool, List};
 ghost use Rattle.mk_core.specs.{declared.config.Config.Config, Enabled.EnabledEventsMeetAll};
 ghost use Rattle.mk_core.specs.{HistoryLaws.{IsOfTwoParts, BitsWithout, LargeIsNotSmall}, Cycles.Marking};
-ghost use Rattle.mk_core.specs.Touched.{TouchedIsClosed, TouchedIsLeast};
+ghost use Rattle.mk_core.specs.Cycles.{TouchedIsClosed, TouchedIsLeast};
 
 use crate::Event;
 

@@ -1,6 +1,6 @@
 //! The core: one moment of a heap's history, and its step.
 ghost use Rattle.std.specs.Prelude.{◌≡◌, ◌<◌, slice_index_or};
-ghost use Rattle.mk_core.specs.{Config.IsWithinLimits, Moments.{flight_of, marker_of}};
+ghost use Rattle.mk_core.specs.Moments.{IsWithinLimits, flight_of, marker_of};
 
 use crate::table::Table;
 use crate::{Config, Flight, Holding, Marker, OwnCycle, Placing, Presence, Seat, Stage};
@@ -19,7 +19,7 @@ pub struct Core {
 }
 
 impl Model for Core {
-    ghost use Rattle.mk_core.specs.Standing.{CoreState};
+    ghost use Rattle.mk_core.specs.History.{CoreState};
 
     ghost Value = { CoreState };
 
@@ -32,7 +32,7 @@ impl Model for Core {
       };
     } };
 
-    ghost use Rattle.mk_core.specs.Config.{IsWithinLimits};
+    ghost use Rattle.mk_core.specs.Moments.{IsWithinLimits};
 
     ghost invariant = { λ c. IsWithinLimits c.config };
 }

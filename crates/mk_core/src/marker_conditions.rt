@@ -1,8 +1,8 @@
 //! What a marker may do, and when the host may end all: the own conditions of the markers' kinds of step
 //! and of `over`.
 ghost use Rattle.std.specs.Prelude.{◌≡◌};
-ghost use Rattle.mk_core.specs.MarkerConditions.{is_out, is_markers_word, has_seen_cell, has_next_word, is_scanned};
-ghost use Rattle.mk_core.specs.MarkerConditions.{may_mlook, may_claim, may_mload, may_mmark, may_mblack, may_end_all};
+ghost use Rattle.mk_core.specs.MarkingConditions.{is_out, is_markers_word, has_seen_cell, has_next_word, is_scanned};
+ghost use Rattle.mk_core.specs.MarkingConditions.{may_mlook, may_claim, may_mload, may_mmark, may_mblack, may_end_all};
 ghost use Rattle.mk_core.specs.Enabled.{marker_may};
 
 use crate::cells::cells_under;

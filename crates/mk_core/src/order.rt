@@ -1,8 +1,9 @@
 //! Conditions 1, 2 and 3 of an event: its seat exists, its kind is open to the seat, and it comes next in
 //! the seat's order.
 ghost use Rattle.std.specs.Prelude.{◌≡◌};
-ghost use Rattle.mk_core.specs.Order.{seat_exists, group_of, is_open_to, is_of_any_holder, may_decide_new, comes_next};
-ghost use Rattle.mk_core.specs.Order.{comes_next_to_host, host_has_turn, is_in_order};
+ghost use Rattle.mk_core.specs.Conditions.{seat_exists, group_of, is_open_to, is_of_any_holder, may_decide_new};
+ghost use Rattle.mk_core.specs.Conditions.{comes_next};
+ghost use Rattle.mk_core.specs.Conditions.{comes_next_to_host, host_has_turn, is_in_order};
 
 use crate::calls::is_under_turn;
 use crate::events::Group;

@@ -1,7 +1,7 @@
 //! The phases of a heap, and what a phase word says. It has the phase in its low three bits, and above them the count
 //! of the markers that are in.
 ghost use Rattle.std.specs.Prelude.{◌≡◌, ◌==◌, ◌%◌, ◌/◌};
-ghost use Rattle.mk_core.specs.Phases.{phase_number};
+ghost use Rattle.mk_core.specs.Words.{phase_number};
 
 /// How many phase words there are for each count of markers.
 const PHASES: u64 = 8;

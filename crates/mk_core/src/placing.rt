@@ -1,11 +1,11 @@
 //! The place of a `New` and what its pages become, and what a `Free` frees.
 ghost use Rattle.std.specs.Prelude.{◌≡◌, ◌+◌, ◌*◌, ◌^◌, ◌<◌, ◌==◌};
-ghost use Rattle.mk_geom.specs.{Headers.word_of, Storages.{block_header, run_header}};
-ghost use Rattle.mk_core.specs.{Bounded.all_below, Cells.words_are_zero, NewPlaces.{object_made, place_on_pages}};
+ghost use Rattle.mk_geom.specs.{Addresses.word_of, Storages.{block_header, run_header}};
+ghost use Rattle.mk_core.specs.{Words.all_below, Cells.words_are_zero, NewPlaces.{object_made, place_on_pages}};
 ghost use Rattle.mk_core.specs.NewPlaces.{class_made, is_small_object, pages_made, header_made, bits_made, base_made};
 ghost use Rattle.mk_core.specs.NewPlaces.{stands, is_next_header, place_stands, unmapped_header, is_run_unmapped};
 ghost use Rattle.mk_core.specs.NewPlaces.{is_run_gone, is_undecided_new, is_undecided_free, target};
-ghost use Rattle.mk_core.specs.{PageHeaders.header_wanted, TurnConditions.{place_now, frees, cell_freed}};
+ghost use Rattle.mk_core.specs.{NewPlaces.header_wanted, TurnConditions.{place_now, frees, cell_freed}};
 
 use crate::bounded::all_below;
 use crate::cells::word_bit;

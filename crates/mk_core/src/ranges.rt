@@ -2,8 +2,8 @@
 //! in the definitions, `_` stands for the kinds of which a condition asks nothing.
 ghost use Rattle.std.specs.Prelude.{◌≡◌, ◌*◌, ◌==◌, nat_lt};
 ghost use Rattle.mk_core.specs.{Moments.{is_number_of, is_held, others_are_held, none_is_held}, NewPlaces.target};
-ghost use Rattle.mk_core.specs.Ranges.{is_word, is_other_caller, is_word_met, is_in_range, is_run_cell, has_gates};
-ghost use Rattle.mk_core.specs.{Phases.phase_number, Ranges.{has_phase, may_look_at}};
+ghost use Rattle.mk_core.specs.Conditions.{is_word, is_other_caller, is_word_met, is_in_range, is_run_cell, has_gates};
+ghost use Rattle.mk_core.specs.{Words.phase_number, Conditions.{has_phase, may_look_at}};
 
 use crate::bounded::all_below;
 use crate::calls::word_met;

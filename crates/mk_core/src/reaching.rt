@@ -1,8 +1,9 @@
 //! Which word each event reaches, and how.
 ghost use Rattle.std.specs.Prelude.{◌≡◌, ◌+◌, ◌%◌, ◌^◌, IsTrue};
 ghost use Rattle.mk_geom.specs.Addresses.{address_of};
-ghost use Rattle.mk_core.specs.{Bits.bit_for, Calls.word_met, Order.seat_exists, Ranges.{is_in_range, is_word_met}};
-ghost use Rattle.mk_core.specs.{NewPlaces.{object_made, base_made}, MarkerConditions.cell_seen};
+ghost use Rattle.mk_core.specs.{Words.bit_for, Calls.word_met, Conditions.seat_exists};
+ghost use Rattle.mk_core.specs.Conditions.{is_in_range, is_word_met};
+ghost use Rattle.mk_core.specs.{NewPlaces.{object_made, base_made}, MarkingConditions.cell_seen};
 ghost use Rattle.mk_core.specs.{Moments.{flight_of, marker_at, holder_number}, Accesses.{caller_number, register_met}};
 ghost use Rattle.mk_core.specs.Accesses.{reg_access, tally_word, granted_base, next_word, scan_page, scan_bit};
 ghost use Rattle.mk_core.specs.Accesses.{seen_page, seen_bit, word_accessed, access};

@@ -3,7 +3,7 @@ ghost use Rattle.std.specs.Prelude.{◌≡◌, ◌<◌, ◌≤◌, ◌==◌, ◌
 ghost use Rattle.mk_geom.specs.Addresses.{page_at_address};
 ghost use Rattle.mk_core.specs.{Calls.at_rest, Effects.{scan_begun, scan_claimed, scan_onward, open_hand}};
 ghost use Rattle.mk_core.specs.{Effects.{hand_behind_look, behind_mlook, marker_behind}, Enabled.marker_may};
-ghost use Rattle.mk_core.specs.{MarkerConditions.{cell_seen, has_next_word}, Ranges.is_in_range};
+ghost use Rattle.mk_core.specs.{MarkingConditions.{cell_seen, has_next_word}, Conditions.is_in_range};
 ghost use Rattle.mk_core.specs.declared.events.Seat.TheVariants.{Marker as MarkerSeat};
 
 use crate::cells::{has_bit, words_scanned, words_under};

@@ -1,12 +1,12 @@
 //! The core's step: the first condition that fails, and what an enabled event does.
 ghost use Rattle.std.specs.Prelude.{◌≡◌, ◌≢◌, ◌↔◌, ℕ, ◌<◌, ◌≤◌, List, [], ◌∷◌, ◌++◌, IsTrue, MatchResult, IsOk, IfOk};
 ghost use Rattle.std.specs.Prelude.{IfErr, OnOk, OnErr, replicate};
-ghost use Rattle.mk_core.specs.{Config.IsWithinLimits, Calls.at_rest, Moments.{first_moment, flight_of, marker_at}};
-ghost use Rattle.mk_core.specs.{Moments.outside, Order.seat_exists, Ranges.is_in_range};
+ghost use Rattle.mk_core.specs.{Moments.{IsWithinLimits, first_moment, flight_of, marker_at}, Calls.at_rest};
+ghost use Rattle.mk_core.specs.{Moments.outside, Conditions.{seat_exists, is_in_range}};
 ghost use Rattle.mk_core.specs.Enabled.{marker_may, holder_may, meets_own, failing_in_order, failing, IsEnabled};
 ghost use Rattle.mk_core.specs.{Accesses.caller_number, Effects.{seats_behind, moment_behind, answer_by}};
-ghost use Rattle.mk_core.specs.{Effects.answer_decided, History.{left, AreEnabled, calls}, Decided.entry_of};
-ghost use Rattle.mk_core.specs.{Failing.number_failing, Standing.{CoreState, CoreStandsFor}};
+ghost use Rattle.mk_core.specs.{Effects.answer_decided, History.{left, AreEnabled, calls}, Calls.entry_of};
+ghost use Rattle.mk_core.specs.{Enabled.number_failing, History.{CoreState, CoreStandsFor}};
 ghost use Rattle.mk_core.specs.declared.events.Event.{Event};
 
 use crate::failing::Condition;

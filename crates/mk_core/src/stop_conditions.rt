@@ -1,11 +1,12 @@
 //! What the turn's holder may do to marks and phases: the own condition of each kind of step that marks,
 //! begins, closes or ends a cycle.
 ghost use Rattle.std.specs.{Prelude.{◌≡◌, ◌<◌, not}, List.list_all};
-ghost use Rattle.mk_core.specs.{Bounded.all_below, Cells.points_well, StopConditions.{is_attending, none_attends}};
-ghost use Rattle.mk_core.specs.StopConditions.{is_bit_of, marks_by_hand, marks_place, may_mark, has_clean_page};
-ghost use Rattle.mk_core.specs.StopConditions.{may_begin, has_closed_page, roots_point_well, may_close};
-ghost use Rattle.mk_core.specs.StopConditions.{has_settled_page, may_end, may_undirty, may_unblack, may_turn_black};
-ghost use Rattle.mk_core.specs.{StopConditions.{blackens, may_black}, TurnConditions.place_now, NewPlaces.object_made};
+ghost use Rattle.mk_core.specs.{Words.all_below, Cells.points_well, MarkingConditions.{is_attending, none_attends}};
+ghost use Rattle.mk_core.specs.MarkingConditions.{is_bit_of, marks_by_hand, marks_place, may_mark, has_clean_page};
+ghost use Rattle.mk_core.specs.MarkingConditions.{may_begin, has_closed_page, roots_point_well, may_close};
+ghost use Rattle.mk_core.specs.MarkingConditions.{has_settled_page, may_end, may_undirty, may_unblack, may_turn_black};
+ghost use Rattle.mk_core.specs.{MarkingConditions.{blackens, may_black}, TurnConditions.place_now};
+ghost use Rattle.mk_core.specs.NewPlaces.{object_made};
 
 use crate::bounded::all_below;
 use crate::cells::{cells_under, has_no_pointers, is_bit, without};

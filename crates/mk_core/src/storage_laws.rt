@@ -1,9 +1,9 @@
 //! Laws of the storage of allocations: facts only, with no code.
-ghost use Rattle.mk_core.specs.ObjectHeaders.{HeadersShowParts, PartsNameTheirHeads, FirstPartsHaveCells};
-ghost use Rattle.mk_core.specs.ObjectHeaders.{LaterPartsHaveNone};
-ghost use Rattle.mk_core.specs.StandingAllocations.{StorageHoldsObjects, StandingHasStorage, HeadersShowStorage};
-ghost use Rattle.mk_core.specs.StandingAllocations.{PointersHitAllocations, CellsBeginAtBases};
-ghost use Rattle.mk_core.specs.StandingAllocations.{UnreleasedStorageIsOfAllocations, UnreleasedStorageInParts};
+ghost use Rattle.mk_core.specs.Allocations.{HeadersShowParts, PartsNameTheirHeads, FirstPartsHaveCells};
+ghost use Rattle.mk_core.specs.Allocations.{LaterPartsHaveNone};
+ghost use Rattle.mk_core.specs.Allocations.{StorageHoldsObjects, StandingHasStorage, HeadersShowStorage};
+ghost use Rattle.mk_core.specs.Allocations.{PointersHitAllocations, CellsBeginAtBases};
+ghost use Rattle.mk_core.specs.Allocations.{UnreleasedStorageIsOfAllocations, UnreleasedStorageInParts};
 
 /// The header words that the pages of an object get, mapped or not, show where it begins, its cells and
 /// their words, and whether they are scanned.

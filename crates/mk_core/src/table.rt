@@ -3,7 +3,7 @@ ghost use Rattle.std.specs.Prelude.{◌≡◌, ℕ, ◌+◌, ◌*◌, ◌^◌, �
 ghost use Rattle.mk_geom.specs.Storages.{free_page};
 ghost use Rattle.mk_core.specs.Words.{Words, zero_words_of, page_of, header_at, used_at, quarantine_word};
 ghost use Rattle.mk_core.specs.Words.{register_word, named_word, word_in, with_named, with_word_in, becomes, accessed};
-ghost use Rattle.mk_core.specs.{Words.phase_of, Phases.phase_number};
+ghost use Rattle.mk_core.specs.Words.{phase_of, phase_number};
 ghost use Rattle.mk_core.specs.declared.events.Word.TheVariants as word;
 
 use crate::phases::phase_bits;

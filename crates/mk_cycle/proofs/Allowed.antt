@@ -7,7 +7,7 @@ use Rattle.mk_words.proofs.Below.Laws.Vocabulary.{sym, target, true, ◌%◌, �
 use Rattle.mk_words.proofs.Below.Laws.Protocols.{lists_keep_the_protocol}
 use Rattle.mk_cycle.proofs.Vocabulary.{Acts, IsEnabledTo, IsFreeForCycle, IsTurn, IsTurnAt, PassState, WordsState}
 use Rattle.mk_cycle.proofs.{Vocabulary.{call_of, drops, now_of}, Calm.no_target, MayAct.may_act}
-use Rattle.mk_core.specs.{Ranges.is_word, TurnConditions.takes_snapshot}
+use Rattle.mk_core.specs.{Conditions.is_word, TurnConditions.takes_snapshot}
 use Rattle.mk_cycle.specs.EngineLaw.{is_register}
 use Rattle.mk_words.{proofs.{Made.{own_before, pass_before}, TurnSteps.holds_after}, specs.TurnSteps.{turn_stays}}
 

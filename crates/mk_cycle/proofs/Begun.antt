@@ -1,19 +1,20 @@
 -- What an engine does after each `begin`, in parts, by kinds of step, and at the `begin` itself.
-use Rattle.std.proofs.{Common.⊎_elim, lemmas.List.append_cancel_left, lemmas.List.Folds.list_all-append}
+use Rattle.std.proofs.{Common.⊎_elim, lemmas.List.{append_cancel_left, Folds.list_all-append}}
 use Rattle.mk_words.proofs.Below.Laws.Vocabulary.{At, Bool, Config, Event, List, Seat, Step, World, and_parts}
 use Rattle.mk_words.proofs.Below.Laws.Vocabulary.{ap, append-nil, append_assoc, arith, false}
 use Rattle.mk_words.proofs.Below.Laws.Vocabulary.{is_begin, left, not, not-true, refl, subst, sym, through, true}
 use Rattle.mk_words.proofs.Below.Laws.Vocabulary.{true≢false, [], ◌++◌, ◌∙◌, ◌∷◌, ◌≡◌}
 use Rattle.mk_words.proofs.{Doing.{not_own, own_in_parts}, Sweeping.only_seen}
-use Rattle.mk_words.specs.Doing.{Does, are_of}
+use Rattle.mk_words.specs.Steps.{Does, are_of}
 use Rattle.mk_cycle.proofs.Vocabulary.{Has, Makes, PassState, does_step, event_of, holds_gates, is_giving_back}
 use Rattle.mk_cycle.proofs.{Vocabulary.{only_seen_by, sets_tallies}, InParts.{InFirst, InSecond, in_parts}}
-use Rattle.mk_core.specs.Growing.{AreOfOthers, is_same_seat, own_from}
-use Rattle.mk_cycle.specs.Begun.{AreBegunFirst, AreBegunUpTo, DoesNothing, EachIsBegun, EachIsBegunUpTo, EachIsBegunYet}
-use Rattle.mk_cycle.specs.Begun.{HoldsFirst, IsBegun, IsBegunUpTo, are_own_of, only_holds}
+use Rattle.mk_core.specs.History.{AreOfOthers, is_same_seat, own_from}
+use Rattle.mk_cycle.specs.BeginCycle.{AreBegunFirst, AreBegunUpTo, DoesNothing, EachIsBegun, EachIsBegunUpTo}
+use Rattle.mk_cycle.specs.BeginCycle.{EachIsBegunYet}
+use Rattle.mk_cycle.specs.BeginCycle.{HoldsFirst, IsBegun, IsBegunUpTo, are_own_of, only_holds}
 use Rattle.mk_cycle.proofs.HeldFirst.{holds_longer, holds_on, own_kinds}
-use Rattle.mk_cycle.specs.{FinishCycle.FinishesCycle, Kinds.{begins_marking, closes_marks}}
-use Rattle.mk_words.{proofs.Seats.{same_self}, specs.Opening.{is_open}}
+use Rattle.mk_cycle.specs.{FinishCycle.FinishesCycle, TurnKeeps.{begins_marking, closes_marks}}
+use Rattle.mk_words.{proofs.Seats.{same_self}, specs.Steps.{is_open}}
 
 -- These kinds of step have no `begin` among them.
 abbrev pub HaveNoBegin : (Step → Bool) → Type 0

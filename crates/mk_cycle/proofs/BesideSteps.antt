@@ -10,22 +10,23 @@ use Rattle.mk_words.proofs.Below.Laws.Vocabulary.{is_marked, is_number_of, lengt
 use Rattle.mk_words.proofs.Below.Laws.Vocabulary.{object_made, or_else, phase_of, place_now, pointed_cell, points_well}
 use Rattle.mk_words.proofs.Below.Laws.Vocabulary.{refl, set_past, slice_index, slice_set, subst, sym, true}
 use Rattle.mk_words.proofs.Below.Laws.Vocabulary.{world_behind, ◌++◌, ◌<◌, ◌==◌, ◌^◌, ◌||◌, ◌∙◌, ◌≡◌, ◌≢◌}
-use Rattle.mk_words.proofs.{Below.Laws.Changes.{headers_kind, is_head, marks_kind}, Below.Laws.LastEvents.stands}
-use Rattle.mk_words.proofs.{Below.Laws.Wells.{is_well, well_is, wells_from}, Below.Laws.PointedCells.pointed_is_cell}
+use Rattle.mk_words.proofs.Below.Laws.{Changes.{headers_kind, is_head, marks_kind}, LastEvents.stands}
+use Rattle.mk_words.proofs.Below.Laws.{Wells.{is_well, well_is, wells_from}, PointedCells.pointed_is_cell}
 use Rattle.mk_words.proofs.{Doing.does_step, PointedCells.{found_there, looked_for}}
 use Rattle.mk_cycle.proofs.{MarksBeside.{gates_at_once, goes_nowhere, still_beside}, Since.{done_step, keeps_step}}
 use Rattle.mk_cycle.proofs.{MaySteps.marks_by, MoreMarks.marked_now}
 use Rattle.mk_cycle.specs.Beside.{FindsInRoot, GoesBeside, IsBeside, IsOpenToLook, KeepsOtherGates, StaysWell}
 use Rattle.mk_cycle.specs.{Beside.{found_well, gives_no_hand, looks_at_root}, Grays.{HandPointsInto, IsInHand}}
 use Rattle.mk_cycle.specs.{Grays.TracesReached, Stops.{hand_of, is_root}}
-use Rattle.mk_words.specs.Pointing.{LooksForCell, MayLookAtHeaders}
+use Rattle.mk_words.specs.TurnSteps.{LooksForCell, MayLookAtHeaders}
 use Rattle.mk_core.proofs.PointedPages.{pointed_within}
-use Rattle.mk_core.specs.{Effects.hand_given, Frames.steady_of, Growing.Finding, Ranges.is_word}
-use Rattle.mk_core.specs.{StopConditions.marks_by_hand, Words.named_word, declared.seats.Source.TheVariants.Root}
+use Rattle.mk_core.specs.{Effects.hand_given, Frames.steady_of, History.Finding, Conditions.is_word}
+use Rattle.mk_core.specs.{MarkingConditions.marks_by_hand, Words.named_word, declared.seats.Source.TheVariants.Root}
 use Rattle.mk_cycle.proofs.{Allowed.{in_turn_before, look_allowed, protocol}, OwnSteps.{done_in, keeps_call}}
 use Rattle.mk_cycle.proofs.{OwnSteps.keeps_counts, CleaningSteps.calm_keeps, KeptInParts.{gates_behind, held_so}}
 use Rattle.mk_cycle.proofs.MayAct.{may_act}
-use Rattle.mk_cycle.specs.{TurnKeeps.{KeepsGates, LeavesTurn, unchanged}, EngineLaw.is_register, Kinds.begins_marking}
+use Rattle.mk_cycle.specs.{TurnKeeps.{KeepsGates, LeavesTurn, unchanged}, EngineLaw.is_register}
+use Rattle.mk_cycle.specs.TurnKeeps.{begins_marking}
 use Rattle.mk_words.{proofs.Made.{own_before, stands_behind_others}, specs.{Steps.found_by, TurnSteps.{Acts, world_at}}}
 use Rattle.mk_words.specs.{States.{IsTurn, PassState, TurnState, call_of, event_of, now_of}, Steps.{Finds, IsEnabledTo}}
 

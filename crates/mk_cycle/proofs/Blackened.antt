@@ -4,10 +4,10 @@ use Rattle.mk_words.proofs.Below.Laws.Vocabulary.{bit_or, cases_lt, cell_words, 
 use Rattle.mk_words.proofs.Below.Laws.Vocabulary.{first_word, has_bit, has_no_pointers, header_in, if◌then◌else◌, inl}
 use Rattle.mk_words.proofs.Below.Laws.Vocabulary.{inr, is_marked, length, lt-ltb, nat_lt, points_well, refl}
 use Rattle.mk_words.proofs.Below.Laws.Vocabulary.{slice_index, slice_set, subst, suc, sym, true, zero, ◌&&◌, ◌+◌, ◌<◌}
-use Rattle.mk_words.proofs.{Below.Laws.Vocabulary.{◌^◌, ◌||◌, ◌∙◌, ◌≡◌, ◌≤◌, ◌⊎◌}, Below.Laws.Tests.all_below_from}
+use Rattle.mk_words.proofs.Below.Laws.{Vocabulary.{◌^◌, ◌||◌, ◌∙◌, ◌≡◌, ◌≤◌, ◌⊎◌}, Tests.all_below_from}
 use Rattle.mk_cycle.specs.Grays.{BlackensOne, ColoursMore, IsGray, MarksMore, is_black, with_blacks}
 use Rattle.mk_core.proofs.WordBits.{bit_for_has, bit_for_small, bits_added, bits_stay}
-use Rattle.mk_core.specs.{Cells.words_point_well, StopConditions.may_turn_black}
+use Rattle.mk_core.specs.{Cells.words_point_well, MarkingConditions.may_turn_black}
 
 -- how many numbers below one a test doesn't hold of, and the sum of these counts over pages
 

@@ -1,6 +1,6 @@
 -- Bits of the pages' cells are as many as the allocations in these cells, and weigh as much.
 use Rattle.std.proofs.Common.{count_ones, nat_eq}
-use Rattle.std.proofs.{lemmas.List.FromFn.get_or-map-range_with_len, lemmas.Nat.and_mask, lemmas.Nat.Bits.bit_at_above}
+use Rattle.std.proofs.lemmas.{List.FromFn.get_or-map-range_with_len, Nat.{and_mask, Bits.bit_at_above}}
 use Rattle.mk_words.proofs.Below.Laws.Vocabulary.{Bool, Cell, Config, Event, IsHistory, List, PlacedAllocation, ℕ}
 use Rattle.mk_words.proofs.Below.Laws.Vocabulary.{and_from, and_parts, ap, arith, bit_at, cases_lt, cell_of_allocation}
 use Rattle.mk_words.proofs.Below.Laws.Vocabulary.{cond, eq-eqb, eqb-true, false, get_or, get_or_past, has_bit}
@@ -8,10 +8,10 @@ use Rattle.mk_words.proofs.Below.Laws.Vocabulary.{histories_keep_lengths, inl, i
 use Rattle.mk_words.proofs.Below.Laws.Vocabulary.{phase_of, placed_at, slice_index, subst, sym, true, ◌%◌, ◌&&◌, ◌*◌}
 use Rattle.mk_words.proofs.Below.Laws.Vocabulary.{◌<◌, ◌==◌, ◌^◌, ◌∙◌, ◌≡◌, ◌≢◌, ◌≤◌, ◌⊎◌}
 use Rattle.mk_words.proofs.Below.Laws.InvariantHistories.{histories_keep_the_invariant}
-use Rattle.mk_words.proofs.{Below.Laws.KnownWorlds.known_world, Below.Laws.ReadingsStands.freed_cell}
+use Rattle.mk_words.proofs.Below.Laws.{KnownWorlds.known_world, ReadingsStands.freed_cell}
 use Rattle.mk_words.proofs.Below.Laws.Settled.{unreleased_are_apart}
 use Rattle.mk_cycle.proofs.Vocabulary.{count_by, sum_below, sum_by}
-use Rattle.mk_geom.specs.PageWords.{bits_of}
+use Rattle.mk_geom.specs.PageUses.{bits_of}
 use Rattle.mk_books.proofs.UsedBitLemmas.{count_ones-masked, length-bits_of}
 use Rattle.mk_cycle.proofs.SumsBelow.{counted_by_key, counted_by_place, one_if_any, sum_same, weighed_by_key}
 

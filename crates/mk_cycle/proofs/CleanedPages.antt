@@ -1,11 +1,11 @@
 -- Pages are cleaned one by one, and others are passed over: what is known of those before goes on.
 use Rattle.mk_words.proofs.Below.Laws.Vocabulary.{Steady, ℕ, ap, arith, cases_lt, false, header_at, sym, ◌+◌, ◌<◌, ◌∙◌}
-use Rattle.mk_words.proofs.{Below.Laws.Vocabulary.{◌≡◌, ◌≤◌}, Below.Laws.FreePages.free_pages_have_nothing}
-use Rattle.mk_books.specs.Members.{is_in_use, page_at}
+use Rattle.mk_words.proofs.Below.Laws.{Vocabulary.{◌≡◌, ◌≤◌}, FreePages.free_pages_have_nothing}
+use Rattle.mk_books.specs.KnownPages.{is_in_use, page_at}
 use Rattle.mk_cycle.proofs.Vocabulary.{Cleans, IsClean, IsTurn, PassState, WordsState, below_more, now_of}
 use Rattle.mk_cycle.proofs.CleaningSteps.{clean_stays, cleaned_table, cleans_nothing, cleans_then, halves}
-use Rattle.mk_cycle.proofs.{PageByPage.no_header, Undirty.undirty_earlier, Undirty.undirty_later, Undirty.undirty_now}
-use Rattle.mk_cycle.specs.{Cleaning.HasTakenSnapshot, Cleaning.IsReadyPage, Freeing.IsQuarantineWord}
+use Rattle.mk_cycle.proofs.{PageByPage.no_header, Undirty.{undirty_earlier, undirty_later, undirty_now}}
+use Rattle.mk_cycle.specs.{BeginCycle.{HasTakenSnapshot, IsReadyPage}, Freeing.IsQuarantineWord}
 use Rattle.mk_words.specs.{PageMaps.HasNoMarks, States.TurnState}
 
 -- The pages below one are looked through, before a cycle begins.

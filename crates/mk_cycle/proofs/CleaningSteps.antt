@@ -12,7 +12,7 @@ use Rattle.mk_words.proofs.Below.Laws.Vocabulary.{get_or-set_same, inl, inr, len
 use Rattle.mk_words.proofs.Below.Laws.Vocabulary.{refl, set-get_or, set_past, slice_index, slice_set, still, subst, sym}
 use Rattle.mk_words.proofs.Below.Laws.Vocabulary.{true, world_behind, [], ◌%◌, ◌++◌, ◌/◌, ◌<◌, ◌^◌, ◌∙◌, ◌∷◌, ◌≡◌}
 use Rattle.mk_words.proofs.Below.Laws.LastEvents.{Stands}
-use Rattle.mk_cycle.specs.{Cleaning.HasTakenSnapshot, TurnKeeps.but_cleaned}
+use Rattle.mk_cycle.specs.{BeginCycle.HasTakenSnapshot, TurnKeeps.but_cleaned}
 
 pub cleans_nothing : (p : PassState) → Cleans p p
 cleans_nothing p = grind (arith, does_nothing, keeps_at_once)

@@ -1,11 +1,11 @@
 -- What an engine did up to a `close`, from wider parts of a turn.
 use Rattle.mk_words.proofs.Below.Laws.Vocabulary.{Bool, Config, Event, List, Step, World, ℕ, ap, append-nil}
 use Rattle.mk_words.proofs.Below.Laws.Vocabulary.{append_assoc, false, refl, sym, [], ◌++◌, ◌∙◌, ◌≡◌}
-use Rattle.mk_words.specs.Doing.{Does}
+use Rattle.mk_words.specs.Steps.{Does}
 use Rattle.mk_cycle.proofs.Vocabulary.{HoldsGates, PassState, does_sweep, holds_gates, sweeps_then}
 use Rattle.mk_cycle.proofs.HoldingSteps.{holds_nothing, holds_then}
-use Rattle.mk_cycle.proofs.{Sweepless.marks_nothing, Told.told_earlier, Told.told_later}
-use Rattle.mk_cycle.specs.{Closing.ClosesAsPromised, Closing.IsClosedBy, Releasing.MakesRelease}
+use Rattle.mk_cycle.proofs.{Sweepless.marks_nothing, Told.{told_earlier, told_later}}
+use Rattle.mk_cycle.specs.{Stops.{ClosesAsPromised, IsClosedBy}, FinishCycle.MakesRelease}
 
 module _ (closes : PassState → PassState → Type 0) where
   -- in the stop itself

@@ -6,7 +6,7 @@ use Rattle.mk_words.proofs.Below.Laws.Vocabulary.{words_under, zero, ◌*◌, �
 use Rattle.mk_cycle.proofs.Vocabulary.{GivesNothingBack, IsTurn, PassState, Released, SamePage, bit_and, held_below}
 use Rattle.mk_cycle.proofs.Vocabulary.{held_unmarked, now_of, released_below, released_on, words_unmarked}
 use Rattle.mk_cycle.proofs.{CleaningSteps.halves, GivingSteps.none_then, PageSteps.same_header, SumsBelow.sum_same}
-use Rattle.mk_cycle.specs.ReleasedPages.{WasReleasedOn}
+use Rattle.mk_cycle.specs.Freeing.{WasReleasedOn}
 
 pub same_released : (a b : Released) → a.count ≡ b.count → a.words ≡ b.words → a.kept ≡ b.kept → a ≡ b
 same_released a b count words kept = grind arith

@@ -9,9 +9,9 @@ use Rattle.mk_cycle.proofs.{Allowed.{in_turn_after, in_turn_before}, EndSteps.{a
 use Rattle.mk_cycle.proofs.EndSteps.{ended_gates, ended_gone, one_more_end, steady_ended}
 use Rattle.mk_cycle.proofs.KeptInParts.{calls_then, free_then, gates_then, same_config}
 use Rattle.mk_cycle.proofs.{BeginSteps.{all_from, counts_then}, HeldReleased.held_alike, NewlyReleased.newly_added}
-use Rattle.mk_cycle.{proofs.{OwnSteps.same_pass, ReleasedCounts.told_to}, specs.Releasing.{words_released}}
+use Rattle.mk_cycle.{proofs.{OwnSteps.same_pass, ReleasedCounts.told_to}, specs.FinishCycle.{words_released}}
 use Rattle.mk_core.specs.{Counts.TalliesAreExact, Effects.cycle_ended, Moments.none_is_held}
-use Rattle.mk_cycle.specs.{Tallying.{Sets, with_cycle_counted}, FinishCycle.FinishesCycle, GivingAll.GivesAllBack}
+use Rattle.mk_cycle.specs.{FinishCycle.{Sets, with_cycle_counted, FinishesCycle}, Freeing.GivesAllBack}
 
 pub gives_call : {p g : PassState} → GivesAllBack p g → KeepsCall p g
 gives_call x = grind (arith, calls_then)

@@ -5,16 +5,16 @@ use Rattle.mk_words.proofs.Below.Laws.Vocabulary.{cases_eq, cases_lt, earlier_pa
 use Rattle.mk_words.proofs.Below.Laws.Vocabulary.{flight_of, get_or-set_other, get_or-set_same, inl, inr, is_held}
 use Rattle.mk_words.proofs.Below.Laws.Vocabulary.{is_phase, is_run_gone, length, ne_eqb, progress, refl, set_past}
 use Rattle.mk_words.proofs.Below.Laws.Vocabulary.{slice_index, slice_set, still, subst, sym, true, world_behind, ◌++◌}
-use Rattle.mk_words.proofs.{Below.Laws.Vocabulary.{◌∙◌, ◌≡◌, ◌≢◌}, Below.Laws.ProtocolFrames.others_leave}
+use Rattle.mk_words.proofs.Below.Laws.{Vocabulary.{◌∙◌, ◌≡◌, ◌≢◌}, ProtocolFrames.others_leave}
 use Rattle.mk_words.proofs.{Below.Laws.RunsStill.HolderFinds, Doing.{none_own, others_are_so}}
-use Rattle.mk_words.specs.Doing.{Does, are_of}
+use Rattle.mk_words.specs.Steps.{Does, are_of}
 use Rattle.mk_cycle.proofs.Vocabulary.{Acts, Frees, IsAtPhase, IsFreeForCycle, IsTurn, IsTurnAt, LeavesTurn, PassState}
 use Rattle.mk_cycle.proofs.Vocabulary.{WordsState, does_nothing, does_step, does_then, event_of, holder_finds}
 use Rattle.mk_cycle.proofs.Vocabulary.{holding_behind, is_giving_back, is_pending_free, made, now_of, steady_of}
 use Rattle.mk_cycle.proofs.{Vocabulary.{world_at, world_of}, Calm.{calm_done, calm_still, ends_none, is_calm}}
 use Rattle.mk_cycle.proofs.{Calm.stores_none, KeptInParts.{free_then, keeps_at_once, keeps_then, same_config}}
 use Rattle.mk_cycle.proofs.{OwnSteps.{done_in, keeps_call, keeps_counts}, CleaningSteps.{quar_frees_none, zero_stays}}
-use Rattle.mk_core.specs.Growing.{Finding}
+use Rattle.mk_core.specs.History.{Finding}
 use Rattle.mk_cycle.specs.Freeing.{IsUnmapped, but_pages}
 use Rattle.mk_words.proofs.Seats.{others_own}
 

@@ -1,15 +1,15 @@
 -- The stop and the giving back, joined.
 use Rattle.mk_words.proofs.Below.Laws.Vocabulary.{Config, Steady, ℕ, all_below-at, ap, arith, is_held, not, not-true}
 use Rattle.mk_words.proofs.Below.Laws.Vocabulary.{subst, true, ◌<◌, ◌∙◌, ◌≡◌}
-use Rattle.mk_words.specs.Doing.{Does}
+use Rattle.mk_words.specs.Steps.{Does}
 use Rattle.mk_cycle.proofs.Vocabulary.{Frees, GivesNothingBack, HasReleased, HoldsFewer, HoldsGates, IsAtPhase}
 use Rattle.mk_cycle.proofs.Vocabulary.{IsSettledPage, PassState, Released, held_below, now_of, released_below}
 use Rattle.mk_core.specs.Moments.{none_is_held}
 use Rattle.mk_cycle.proofs.CountedPages.{held_alike_below, told_alike_below}
-use Rattle.mk_cycle.proofs.{BeginSteps.all_from, FreeingSteps.freed_phase, FreeingSteps.frees_then}
-use Rattle.mk_cycle.proofs.{HeldReleased.held_alike, ReleasedCounts.told_from, ReleasedCounts.told_to}
-use Rattle.mk_cycle.specs.{GivingAll.GivesAllBack, Releasing.ReleasesUnmarked}
-use Rattle.mk_words.specs.Opening.{is_open}
+use Rattle.mk_cycle.proofs.{BeginSteps.all_from, FreeingSteps.{freed_phase, frees_then}}
+use Rattle.mk_cycle.proofs.{HeldReleased.held_alike, ReleasedCounts.{told_from, told_to}}
+use Rattle.mk_cycle.specs.{Freeing.GivesAllBack, FinishCycle.ReleasesUnmarked}
+use Rattle.mk_words.specs.Steps.{is_open}
 
 pub held_phase : (p q : PassState) (n : ℕ) → HoldsGates p q → IsAtPhase p n → IsAtPhase q n
 held_phase p q n k at = ap (λ (s : Steady). s.phase) k.keeps.steady ∙ at

@@ -3,10 +3,10 @@ use Rattle.mk_words.proofs.Below.Laws.Vocabulary.{Bool, Config, Event, List, Sea
 use Rattle.mk_words.proofs.Below.Laws.Vocabulary.{append_assoc, arith, false, found, if◌then◌else◌, left, not, refl}
 use Rattle.mk_words.proofs.Below.Laws.Vocabulary.{subst, sym, true, true≢false, world_behind, [], ◌&&◌, ◌++◌, ◌||◌}
 use Rattle.mk_words.proofs.{Below.Laws.Vocabulary.{◌∙◌, ◌∷◌, ◌≡◌}, Doing.not_own, Seats.same_self}
-use Rattle.mk_words.specs.Doing.{Does, are_of}
+use Rattle.mk_words.specs.Steps.{Does, are_of}
 use Rattle.mk_cycle.proofs.Vocabulary.{Has, Makes, PassState, event_of, holds_gates}
-use Rattle.mk_core.specs.Growing.{AreOfOthers, Finding, is_same_seat, own_from}
-use Rattle.mk_cycle.specs.{Begun.{HoldsFirst, are_own_of, leaves_begun, only_holds}, FinishCycle.FinishesCycle}
+use Rattle.mk_core.specs.History.{AreOfOthers, Finding, is_same_seat, own_from}
+use Rattle.mk_cycle.specs.{BeginCycle.{HoldsFirst, are_own_of, leaves_begun, only_holds}, FinishCycle.FinishesCycle}
 
 -- What the own events of a list are of is said of the list itself.
 

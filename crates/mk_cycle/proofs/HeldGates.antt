@@ -11,7 +11,7 @@ use Rattle.mk_cycle.proofs.{HoldingSteps.{holds_nothing, holds_then}, KeptInPart
 use Rattle.mk_cycle.proofs.{MarksBeside.{goes_nowhere, goes_then, others_on}, OwnSteps.{keeps_call, keeps_counts}}
 use Rattle.mk_cycle.proofs.{Steps.may_step, TracedMarks.ready_of}
 use Rattle.mk_cycle.specs.Beside.{GoesBeside, IsBeside, KeepsOtherGates, MaySetGate, SetsGate}
-use Rattle.mk_cycle.specs.{Holding.{HoldsSuch, MayHoldGate, all_others, only_gate}, Stops.HolderIsLoaded}
+use Rattle.mk_cycle.specs.Stops.{HoldsSuch, MayHoldGate, all_others, only_gate, HolderIsLoaded}
 use Rattle.mk_cycle.specs.TurnKeeps.{unchanged}
 
 -- one step

@@ -11,15 +11,15 @@ use Rattle.mk_words.proofs.Below.Laws.Vocabulary.{object_placed, pages_some, pha
 use Rattle.mk_words.proofs.Below.Laws.Vocabulary.{run_begins, storage_of, storage_words, subst, suc, sym, true}
 use Rattle.mk_words.proofs.Below.Laws.Vocabulary.{true≢false, typed_size, use_under, used_at, with_released}
 use Rattle.mk_words.proofs.Below.Laws.Vocabulary.{words_under, words_within, zero, [], ◌&&◌, ◌*◌, ◌+◌, ◌/◌, ◌||◌, ◌∙◌}
-use Rattle.mk_words.proofs.{Below.Laws.Vocabulary.{◌∷◌, ◌≡◌}, Below.Laws.Settled.{gone_is_unmapped, unmapped_run}}
-use Rattle.mk_words.proofs.{Below.Laws.ForImages.gone_is, Below.Laws.UnmappedRuns.unmapped_runs_take_no_memory}
+use Rattle.mk_words.proofs.Below.Laws.{Vocabulary.{◌∷◌, ◌≡◌}, Settled.{gone_is_unmapped, unmapped_run}}
+use Rattle.mk_words.proofs.Below.Laws.{ForImages.gone_is, UnmappedRuns.unmapped_runs_take_no_memory}
 use Rattle.mk_cycle.proofs.Vocabulary.{Acts, HoldsFewer, IsAtPhase, IsGone, IsTurn, PassState, allocations_stand}
 use Rattle.mk_cycle.proofs.Vocabulary.{cells_unmarked, held_below, held_by_allocations, left_unmarked, made, now_of}
 use Rattle.mk_cycle.proofs.Vocabulary.{sum_below, sum_by, sum_by-cons, world_of}
 use Rattle.mk_cycle.proofs.ReleasedCells.{gone_there, plus_zero, unmapped_is_large}
 use Rattle.mk_cycle.proofs.ReleasedCounts.{phase_there, quiet, same_before, unmarked_are}
 use Rattle.mk_cycle.proofs.{CellCounts.cells_weigh_as_much, NewlyReleased.is_new, SumsBelow.sum_same}
-use Rattle.mk_geom.specs.StorageWords.{held_by_storages}
+use Rattle.mk_geom.specs.Storages.{held_by_storages}
 use Rattle.mk_core.{proofs.StandingAllocations.{placed_cell}, specs.Allocations.{unreleased_storage}}
 
 -- what one allocation holds

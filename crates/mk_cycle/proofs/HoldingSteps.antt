@@ -7,8 +7,8 @@ use Rattle.mk_words.proofs.Below.Laws.Vocabulary.{sym, true, ◌<◌, ◌==◌, 
 use Rattle.mk_cycle.proofs.Vocabulary.{Acts, HoldsGates, IsEnabledTo, IsFreeForCycle, IsTurn, PassState, WordsState}
 use Rattle.mk_cycle.proofs.Vocabulary.{does_nothing, does_step, does_then, holds_gates, now_of, world_at}
 use Rattle.mk_cycle.proofs.{Allowed.protocol, BeginSteps.all_from, CleaningSteps.calm_keeps}
-use Rattle.mk_cycle.proofs.{KeptInParts.free_then, KeptInParts.keeps_at_once, KeptInParts.keeps_then, MayAct.may_act}
-use Rattle.mk_cycle.specs.{Holding.IsHeldOrOwn, TurnKeeps.unchanged}
+use Rattle.mk_cycle.proofs.{KeptInParts.{free_then, keeps_at_once, keeps_then}, MayAct.may_act}
+use Rattle.mk_cycle.specs.{Stops.IsHeldOrOwn, TurnKeeps.unchanged}
 
 pub holds_nothing : (p : PassState) → HoldsGates p p
 holds_nothing p = record { does = does_nothing holds_gates p; keeps = keeps_at_once unchanged p; held = λ j h. h }

@@ -9,10 +9,10 @@ use Rattle.mk_cycle.proofs.Since.{done_then, nothing_done, nothing_keeps, rule_t
 use Rattle.mk_cycle.specs.Beside.{FindsInRoot, GoesBeside, IsBeside, KeepsOtherGates, LooksAt, MarksBeside}
 use Rattle.mk_cycle.specs.Beside.{MarksReachedAlone, MaySetGate, SetsGate, StaysWell, done_since, found_well}
 use Rattle.mk_cycle.specs.{Beside.{is_same_root, looks_at}, Grays.TracesReached, Stops.is_root}
-use Rattle.mk_words.specs.Doing.{Does}
-use Rattle.mk_core.specs.{Growing.Finding, Ranges.is_word}
+use Rattle.mk_words.specs.Steps.{Does}
+use Rattle.mk_core.specs.{History.Finding, Conditions.is_word}
 use Rattle.mk_cycle.proofs.KeptInParts.{free_then, gates_then, keeps_at_once, keeps_then, same_config}
-use Rattle.mk_cycle.specs.{TurnKeeps.{KeepsGates, LeavesTurn, unchanged}, Holding.IsHeldOrOwn, Kinds.begins_marking}
+use Rattle.mk_cycle.specs.{TurnKeeps.{KeepsGates, LeavesTurn, unchanged, begins_marking}, Stops.IsHeldOrOwn}
 use Rattle.mk_words.specs.States.{PassState, TurnState, WordsState, event_of, now_of}
 
 -- The turn goes on being free, and the cycle marking.

@@ -9,7 +9,7 @@ use Rattle.mk_words.proofs.Below.Laws.Protocol.{has_stage}
 use Rattle.mk_cycle.proofs.Vocabulary.{IsEnabledTo, PassState, call_of, event_of, is_pending_free, now_of}
 use Rattle.mk_cycle.proofs.{Calm.{calm_still, is_calm}, OwnSteps.{no_more_calls, undecided}}
 use Rattle.mk_core.{proofs.Conditions.meets_enabled, specs.{History.never_first, Readings.is_idle}}
-use Rattle.mk_core.specs.Order.{comes_next_to_host, is_in_order, is_of_any_holder, may_decide_new}
+use Rattle.mk_core.specs.Conditions.{comes_next_to_host, is_in_order, is_of_any_holder, may_decide_new}
 use Rattle.mk_cycle.specs.EngineLaw.{is_pending_free_at}
 use Rattle.mk_words.specs.Steps.{IsAdmittedTo}
 

@@ -4,11 +4,11 @@ use Rattle.mk_words.proofs.Below.Laws.Vocabulary.{Word, Words, ℕ, all_below-at
 use Rattle.mk_words.proofs.Below.Laws.Vocabulary.{has_gates, head_page, is_held, is_number_of, is_phase, lt-ltb}
 use Rattle.mk_words.proofs.Below.Laws.Vocabulary.{ltb-true, nat_lt, none_attends, not, others_are_held, phase_of}
 use Rattle.mk_words.proofs.Below.Laws.Vocabulary.{pointed_cell, refl, slice_index, true, ◌&&◌, ◌<◌, ◌==◌, ◌^◌, ◌||◌}
-use Rattle.mk_words.proofs.{Below.Laws.Vocabulary.{◌∙◌, ◌≡◌}, Below.Laws.Tests.none_from}
+use Rattle.mk_words.proofs.Below.Laws.{Vocabulary.{◌∙◌, ◌≡◌}, Tests.none_from}
 use Rattle.mk_cycle.proofs.Steps.{may_step}
 use Rattle.mk_cycle.specs.{Grays.HandPointsInto, Stops.{IsWanted, hand_of, still_words}}
 use Rattle.mk_core.{proofs.AllBelow.{all_below_not_is}, specs.Readings.{NoneAttends}}
-use Rattle.mk_core.specs.{StopConditions.{blackens, is_bit_of, marks_by_hand, may_turn_black}, Ranges.is_word}
+use Rattle.mk_core.specs.{MarkingConditions.{blackens, is_bit_of, marks_by_hand, may_turn_black}, Conditions.is_word}
 use Rattle.mk_words.specs.{States.{PassState, TurnState, call_of, now_of}, Steps.IsEnabledTo}
 
 look_gates : (c : Config) (w : Words) (seat : Seat) (f : Flight) (x : Word) → others_are_held c.callers w seat ≡ true

@@ -3,7 +3,7 @@ use Rattle.std.{proofs.Common.IfSome, specs.List.All}
 use Rattle.mk_words.proofs.Below.Laws.Vocabulary.{Cell, List, None, OnlyGrow, Option, Some, Words, ℕ, arith}
 use Rattle.mk_words.proofs.Below.Laws.Vocabulary.{cells_under, false, has_bit, header_at, header_of, is_marked}
 use Rattle.mk_words.proofs.Below.Laws.Vocabulary.{slice_index, subst, sym, true, ◌+◌, ◌-◌, ◌<◌, ◌≡◌}
-use Rattle.mk_cycle.specs.{Grays.{IsGray, MarksMore, with_blacks}, Noted.{IsGrayNoted, IsNoted}}
+use Rattle.mk_cycle.specs.Grays.{IsGray, MarksMore, with_blacks, IsGrayNoted, IsNoted}
 use Rattle.mk_cycle.specs.declared.noted.Noted.{Noted}
 use Rattle.mk_core.{proofs.WordBits.bits_stay, specs.Cells.words_scanned}
 

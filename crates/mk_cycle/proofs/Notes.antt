@@ -9,9 +9,9 @@ use Rattle.mk_words.proofs.Below.Laws.Vocabulary.{◌⊎◌}
 use Rattle.mk_cycle.proofs.{MoreMarks.{more_same, more_then}, NotedCells.{all_black, all_more, gray_before, one_more}}
 use Rattle.mk_cycle.proofs.{NoGrays.no_gray, StopSteps.{looks_from, on_then}}
 use Rattle.mk_cycle.specs.Grays.{GraysOne, HasNoGray, IsGray, IsUnmarked, LooksOn, MarksMore, MarksOn, is_black}
-use Rattle.mk_cycle.specs.{Grays.with_blacks, Noted.{Adds, AreNoted, IsAmong, IsNoted, Notes, NotesGrays, listed}}
-use Rattle.mk_cycle.specs.{Noted.with_last, Stops.{IsWanted, still_words}, Scans.MarksAndNotes}
-use Rattle.mk_cycle.specs.{declared.noted.Noted.Noted, declared.worklist.Worklist.Worklist}
+use Rattle.mk_cycle.specs.Grays.{with_blacks, Adds, AreNoted, IsAmong, IsNoted, Notes, NotesGrays, listed}
+use Rattle.mk_cycle.specs.{Grays.{with_last, MarksAndNotes}, Stops.{IsWanted, still_words}}
+use Rattle.mk_cycle.specs.declared.{noted.Noted.Noted, worklist.Worklist.Worklist}
 use Rattle.mk_geom.proofs.ListSearch.{Contains-nil}
 use Rattle.mk_words.specs.States.{TurnState}
 

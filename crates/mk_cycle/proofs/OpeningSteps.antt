@@ -4,18 +4,18 @@ use Rattle.mk_words.proofs.Below.Laws.Vocabulary.{all_below-at, and_from, ap, ap
 use Rattle.mk_words.proofs.Below.Laws.Vocabulary.{earlier_part_is_history, false, inl, inr, is_held, is_number_of}
 use Rattle.mk_words.proofs.Below.Laws.Vocabulary.{is_one_of, lt-ltb, not, others_are_held, refl, slice_index, subst}
 use Rattle.mk_words.proofs.Below.Laws.Vocabulary.{sym, true, [], ◌++◌, ◌==◌, ◌||◌, ◌∙◌, ◌∷◌, ◌≡◌}
-use Rattle.mk_words.proofs.{Below.Laws.Actors.is_holders, Below.Laws.FramesHolders.acts_as_holder}
-use Rattle.mk_words.proofs.{Below.Laws.Known.holds_turn, Below.Laws.LastEvents.comes_last}
-use Rattle.mk_words.proofs.{Below.Laws.Orderly.same_holder, Below.Laws.OrderlyLists.actor_of}
-use Rattle.mk_words.proofs.{Below.Laws.ProtocolFrames.others_leave, Below.Laws.Views.view_of}
-use Rattle.mk_words.specs.Doing.{Does}
+use Rattle.mk_words.proofs.Below.Laws.{Actors.is_holders, FramesHolders.acts_as_holder}
+use Rattle.mk_words.proofs.Below.Laws.{Known.holds_turn, LastEvents.comes_last}
+use Rattle.mk_words.proofs.Below.Laws.{Orderly.same_holder, OrderlyLists.actor_of}
+use Rattle.mk_words.proofs.Below.Laws.{ProtocolFrames.others_leave, Views.view_of}
+use Rattle.mk_words.specs.Steps.{Does}
 use Rattle.mk_cycle.proofs.Vocabulary.{GivesNothingBack, IsAtPhase, IsFreeForCycle, IsTurn, Makes, PassState}
 use Rattle.mk_cycle.proofs.Vocabulary.{does_nothing, does_step, does_then, event_of, now_of, stands, world_at}
 use Rattle.mk_cycle.proofs.FreeingSteps.{freed_free, freed_phase, frees_step, open_gives, others_do, others_free}
 use Rattle.mk_cycle.proofs.{GivingSteps.{none_at_once, none_then, state_there}, Allowed.protocol, MayAct.may_act}
-use Rattle.mk_core.specs.{Growing.AreOfOthers, Words.page_of}
+use Rattle.mk_core.specs.{History.AreOfOthers, Words.page_of}
 use Rattle.mk_words.proofs.{Seats.others_own, TurnSteps.{acts, still_turn}}
-use Rattle.mk_words.specs.Opening.{OnlyOpen, Opens, OthersMayOpen, is_open}
+use Rattle.mk_words.specs.Steps.{OnlyOpen, Opens, OthersMayOpen, is_open}
 
 open_is_holders : (x : Step) → is_open x ≡ true → is_holders x ≡ true
 open_is_holders x0 h = grind arith

@@ -8,11 +8,11 @@ use Rattle.mk_words.proofs.Below.Laws.Vocabulary.{or_parts, refl, run_count, sli
 use Rattle.mk_words.proofs.Below.Laws.Vocabulary.{used_at}
 use Rattle.mk_words.proofs.Below.Laws.Vocabulary.{◌+◌}
 use Rattle.mk_words.proofs.Below.Laws.Vocabulary.{◌<◌, ◌∙◌, ◌≡◌, ◌≤◌}
-use Rattle.mk_books.specs.Members.{IsNext, has_freed_cells, is_in_use}
+use Rattle.mk_books.specs.KnownPages.{IsNext, has_freed_cells, is_in_use}
 use Rattle.mk_cycle.proofs.Vocabulary.{Frees, FreesPage, HasFreeCells, IsOccupied, IsSettledPage, IsTurn, PassState}
 use Rattle.mk_cycle.proofs.Vocabulary.{Released, SamePage, below_more, held_below, held_unmarked, now_of}
 use Rattle.mk_cycle.proofs.{Vocabulary.{released_below, released_on}, CountedPages.{counted_more, held_more, held_same}}
-use Rattle.mk_cycle.{proofs.CountedPages.{none_held, nothing_on, same_released, told_same}, proofs.SumsBelow.{sum_past}}
+use Rattle.mk_cycle.proofs.{CountedPages.{none_held, nothing_on, same_released, told_same}, SumsBelow.sum_past}
 use Rattle.mk_cycle.proofs.SettledPages.{free_cells_stay, head_before, head_elsewhere, no_cells, no_snapshot}
 use Rattle.mk_cycle.proofs.{SettledPages.{none_left, same_occupied, same_settled, still_settled}}
 use Rattle.mk_cycle.proofs.FreeingSteps.{frees_nothing, frees_then}

@@ -1,16 +1,16 @@
 -- Tracing in parts: nothing, one part after another, and one step.
-use Rattle.std.proofs.{Common.count_by, lemmas.List.append_cancel_left, lemmas.List.Sums.sum_by-append}
+use Rattle.std.proofs.{Common.count_by, lemmas.List.{append_cancel_left, Sums.sum_by-append}}
 use Rattle.mk_words.proofs.Below.Laws.Vocabulary.{Bool, Config, Event, List, Moment, Seat, Step, World, ℕ, and_from}
 use Rattle.mk_words.proofs.Below.Laws.Vocabulary.{and_parts, ap, append-nil, append_assoc, arith, cond, false, found}
 use Rattle.mk_words.proofs.Below.Laws.Vocabulary.{if◌then◌else◌, left_in_parts, refl, subst, sym, true, true≢false}
 use Rattle.mk_words.proofs.Below.Laws.Vocabulary.{world_behind, [], ◌++◌, ◌+◌, ◌∙◌, ◌∷◌, ◌≡◌}
 use Rattle.mk_words.proofs.Doing.{does_nothing, does_step, does_then, done_in_parts, none_own}
 use Rattle.mk_cycle.specs.Tracing.{Counted, OwnStepsKeep, Traces, untouched_of}
-use Rattle.mk_words.specs.Doing.{Does, are_of, count_done, done_in}
-use Rattle.mk_core.specs.{Growing.{AreOfOthers, Finding, is_same_seat, own_from}, Frames.CountsAreLeft}
+use Rattle.mk_words.specs.Steps.{Does, are_of, count_done, done_in}
+use Rattle.mk_core.specs.{History.{AreOfOthers, Finding, is_same_seat, own_from}, Frames.CountsAreLeft}
 use Rattle.mk_core.specs.History.{left_from}
 use Rattle.mk_words.proofs.{Made.own_before, Seats.{not_both, same_seat, same_self}}
-use Rattle.mk_words.specs.{States.{PassState, event_of, world_of}, Seats.Has, Steps.Makes, TurnSteps.world_at}
+use Rattle.mk_words.specs.{States.{PassState, event_of, world_of, Has}, Steps.Makes, TurnSteps.world_at}
 
 -- the rule, over a list in two parts
 pub keep_in_parts : (rule : Config → Moment → Step → Type 0) (c : Config) (s : Seat) (w : World) (xs ys : List Event)

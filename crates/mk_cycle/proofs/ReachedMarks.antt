@@ -3,7 +3,7 @@ use Rattle.mk_words.proofs.Below.Laws.Vocabulary.{Bool, Config, Event, List, Sea
 use Rattle.mk_words.proofs.Below.Laws.Vocabulary.{world_behind, [], ◌++◌, ◌∷◌, ◌≡◌}
 use Rattle.mk_cycle.proofs.{Since.since_is, StopSteps.reached_marks_sweep_nothing}
 use Rattle.mk_cycle.specs.{Beside.MarksReachedAlone, Grays.TracesReached, Tracing.OwnStepsKeep}
-use Rattle.mk_words.specs.{Doing.Does, Sweeping.{SweepsNothing, SweepsNothingFrom}}
+use Rattle.mk_words.specs.{Steps.Does, Sweeping.{SweepsNothing, SweepsNothingFrom}}
 use Rattle.mk_words.specs.States.{PassState, world_of}
 
 sweepless_from : (c : Config) (s : Seat) (w : World) (es : List Event) → OwnStepsKeep TracesReached c s w es

@@ -5,8 +5,8 @@ use Rattle.mk_words.proofs.Below.Laws.Vocabulary.{◌≡◌}
 use Rattle.mk_cycle.proofs.Vocabulary.{Acts, IsAtPhase, IsFreeForCycle, IsTurn, LeavesTurn, PassState}
 use Rattle.mk_cycle.proofs.Vocabulary.{count_by-le-length, made, steady_of, world_at, world_of}
 use Rattle.mk_cycle.proofs.{Allowed.protocol, BeginSteps.counts_then, CleaningSteps.calm_keeps, KeptInParts.calls_then}
-use Rattle.mk_cycle.proofs.{KeptInParts.free_then, KeptInParts.same_config, ReleasedCounts.fresh_words_stay}
-use Rattle.mk_cycle.specs.{EngineLaw.ClosesMarks, Releasing.ReleasesUnmarked, TurnKeeps.but_phase}
+use Rattle.mk_cycle.proofs.{KeptInParts.{free_then, same_config}, ReleasedCounts.fresh_words_stay}
+use Rattle.mk_cycle.specs.{EngineLaw.ClosesMarks, FinishCycle.ReleasesUnmarked, TurnKeeps.but_phase}
 use Rattle.mk_words.specs.Steps.{moment_of}
 
 -- the phase where the step is made

@@ -15,8 +15,8 @@ use Rattle.mk_words.proofs.Below.Laws.Vocabulary.{plot_of, refl, released_where_
 use Rattle.mk_words.proofs.Below.Laws.Vocabulary.{sym, true, true≢false, typed_size, used_at, with_released}
 use Rattle.mk_words.proofs.Below.Laws.Vocabulary.{words_under, ◌&&◌, ◌*◌, ◌++◌, ◌+◌, ◌/◌, ◌<◌, ◌==◌, ◌||◌, ◌∙◌, ◌≡◌}
 use Rattle.mk_words.proofs.Below.Laws.FreeWords.{unmapped_words_are_zero}
-use Rattle.mk_words.proofs.{Below.Laws.InvariantHistories.allocations_are_disjoint, Below.Laws.MappedWords.mapped_stays}
-use Rattle.mk_words.specs.Below.Laws.FreeWords.{IsOfNoneMapped}
+use Rattle.mk_words.proofs.Below.Laws.{InvariantHistories.allocations_are_disjoint, MappedWords.mapped_stays}
+use Rattle.mk_words.specs.Below.Laws.WordLaws.{IsOfNoneMapped}
 use Rattle.mk_core.proofs.StandingAllocations.{placed_cell}
 
 pub plus_zero : (n : ℕ) → n + 0 ≡ n

@@ -13,7 +13,7 @@ use Rattle.mk_cycle.proofs.Vocabulary.{released_below, stands, sum_below, sum_by
 use Rattle.mk_cycle.proofs.CellCounts.{AreTheirBits, cells_are_as_many, cells_weigh_as_much}
 use Rattle.mk_cycle.proofs.NewlyReleased.{is_new, left_filtered, newly_counted, newly_weighed, parts_at_each}
 use Rattle.mk_cycle.proofs.{NewlyReleased.same_at_each, CellBits.has_bit_and}
-use Rattle.mk_cycle.specs.{FinishCycle.is_in_snapshot_of_cycle, ReleasedPages.{cells_marked, left_marked}}
+use Rattle.mk_cycle.specs.{FinishCycle.is_in_snapshot_of_cycle, Freeing.{cells_marked, left_marked}}
 
 -- a history whose next event may be a `release`
 module _ {c : Config} {es : List Event} (h : IsHistory c es) (at : phase_of (left c es).now.words ≡ 3) where

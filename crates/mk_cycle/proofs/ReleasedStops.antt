@@ -4,10 +4,10 @@ use Rattle.mk_cycle.proofs.Vocabulary.{Acts, HasFreeCells, HasReleased, HoldsFew
 use Rattle.mk_cycle.proofs.Vocabulary.{IsOccupied, IsTurn, LeavesTurn, PassState, WordsState, held_below, now_of}
 use Rattle.mk_cycle.proofs.Vocabulary.{released_below, world_of}
 use Rattle.mk_cycle.proofs.HeldReleased.{held_alike, release_holds}
-use Rattle.mk_cycle.proofs.{Allowed.in_turn_after, KeptInParts.free_then, KeptInParts.same_config}
-use Rattle.mk_cycle.proofs.{ReleaseSteps.close_leaves, ReleaseSteps.releases_unmarked, ReleasedCells.cells_are_free}
-use Rattle.mk_cycle.proofs.{ReleasedCells.pages_are_occupied, ReleasedCounts.release_tells, ReleasedCounts.told_from}
-use Rattle.mk_cycle.specs.{EngineLaw.ClosesMarks, Releasing.ReleasesUnmarked, TurnKeeps.but_phase}
+use Rattle.mk_cycle.proofs.{Allowed.in_turn_after, KeptInParts.{free_then, same_config}}
+use Rattle.mk_cycle.proofs.{ReleaseSteps.{close_leaves, releases_unmarked}, ReleasedCells.cells_are_free}
+use Rattle.mk_cycle.proofs.{ReleasedCells.pages_are_occupied, ReleasedCounts.{release_tells, told_from}}
+use Rattle.mk_cycle.specs.{EngineLaw.ClosesMarks, FinishCycle.ReleasesUnmarked, TurnKeeps.but_phase}
 
 -- The engine closes the marks, and the turn's holder makes the `close` and the `release`.
 pub record StopReleases (p b d q : PassState) : Type 0 where

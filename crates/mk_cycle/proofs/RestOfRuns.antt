@@ -9,11 +9,11 @@ use Rattle.mk_cycle.proofs.{FreeingSteps.{freed_turn, frees_nothing, frees_then}
 use Rattle.mk_cycle.proofs.{GivingSteps.{head_allowed, head_frees, head_state}, PageSteps.{same_header, same_left}}
 use Rattle.mk_cycle.proofs.{PageSteps.same_used, SettledPages.{empties_here, freed_settles, no_cells, no_snapshot}}
 use Rattle.mk_cycle.proofs.SettledPages.{none_left, still_settled}
-use Rattle.mk_cycle.specs.{Freeing.{FreesRest, FreesRun}, ReadHeaders.heads_unmapped_pages}
-use Rattle.mk_words.{proofs.StoredHeads.{heads_keep_turn, heads_leave}, specs.RunSteps.{MayStoreHeads, StoresHeads}}
+use Rattle.mk_cycle.specs.Freeing.{FreesRest, FreesRun, heads_unmapped_pages}
+use Rattle.mk_words.{proofs.StoredHeads.{heads_keep_turn, heads_leave}, specs.TurnSteps.{MayStoreHeads, StoresHeads}}
 use Rattle.mk_words.proofs.TurnSteps.{still_turn}
-use Rattle.mk_books.specs.{Members.{IsNext, has_freed_cells, page_at}, Runs.StandsOn}
-use Rattle.mk_geom.specs.{PageUses.PartOfRun, PageWords.{use_of_page, use_under}}
+use Rattle.mk_books.specs.KnownPages.{IsNext, has_freed_cells, page_at, StandsOn}
+use Rattle.mk_geom.specs.PageUses.{PartOfRun, use_of_page, use_under}
 use Rattle.std.specs.Option.{unwrap_or}
 
 -- The later pages of a run, from one on and below another, may be freed: no cell is used at its head or released there,

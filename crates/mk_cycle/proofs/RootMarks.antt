@@ -9,8 +9,8 @@ use Rattle.mk_words.proofs.Below.Laws.InvariantHistories.{histories_keep_the_inv
 use Rattle.mk_words.proofs.{Below.Laws.Protocols.lists_keep_the_protocol, PointedCells.outside_none}
 use Rattle.mk_cycle.proofs.{MoreMarks.{marked_as, more_then, well_more, well_none, zero_none}, Notes.notes_then}
 use Rattle.mk_cycle.proofs.StopSteps.{looks_from, looks_then}
-use Rattle.mk_cycle.specs.{Grays.{GlobalIsWell, LooksOn, MarksMore, RegistersAreWell, RootsPointWell}, Noted.Notes}
-use Rattle.mk_cycle.specs.{Scans.MarksAndNotes, Stops.{IsWanted, is_root, still_words}}
+use Rattle.mk_cycle.specs.Grays.{GlobalIsWell, LooksOn, MarksMore, RegistersAreWell, RootsPointWell, Notes}
+use Rattle.mk_cycle.specs.{Grays.MarksAndNotes, Stops.{IsWanted, is_root, still_words}}
 use Rattle.mk_core.specs.Words.{named_word}
 use Rattle.mk_words.specs.States.{PassState, TurnState, WordsState, now_of}
 

@@ -4,7 +4,7 @@ use Rattle.mk_words.proofs.Below.Laws.Vocabulary.{slice_index, subst, sym, true,
 use Rattle.mk_cycle.proofs.{Blackened.{cell_kept, gray_kept, scan_done}, MoreMarks.well_more}
 use Rattle.mk_cycle.proofs.Notes.{looks_alone, notes_then}
 use Rattle.mk_cycle.specs.{Stops.still_words, declared.noted.Noted.Noted, Grays.{LooksOn, MarksMore}}
-use Rattle.mk_cycle.specs.{Noted.{IsDue, Notes}, Scans.{MarksAndNotes, Scans}}
+use Rattle.mk_cycle.specs.Grays.{IsDue, Notes, MarksAndNotes, Scans}
 use Rattle.mk_core.specs.Cells.{words_point_well}
 use Rattle.mk_words.specs.States.{TurnState}
 

@@ -14,7 +14,7 @@ use Rattle.mk_words.proofs.Below.Laws.Vocabulary.{true≢false, used_at, without
 use Rattle.mk_words.proofs.Below.Laws.Vocabulary.{◌||◌, ◌∙◌, ◌≡◌, ◌≢◌, ◌≤◌, ◌⊎◌}
 use Rattle.mk_words.proofs.Below.Laws.FreePages.{free_pages_have_nothing}
 use Rattle.mk_core.proofs.WordBits.{zero_from_bits}
-use Rattle.mk_core.specs.StopConditions.{has_settled_page}
+use Rattle.mk_core.specs.MarkingConditions.{has_settled_page}
 use Rattle.mk_cycle.specs.Freeing.{GivesBack, is_occupied_page}
 
 -- Free cells stay so, those of a page whose words are the same, and some of them.

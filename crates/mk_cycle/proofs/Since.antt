@@ -5,10 +5,10 @@ use Rattle.mk_words.proofs.Below.Laws.Vocabulary.{left_in_parts, subst, sym, [],
 use Rattle.mk_words.proofs.Doing.{done_in_parts, none_own}
 use Rattle.mk_cycle.specs.{Beside.{done_since, seen_since}, Tracing.OwnStepsKeep}
 use Rattle.mk_cycle.proofs.Parts.{keep_in_parts, one_keeps, one_own, others_keep}
-use Rattle.mk_words.specs.Doing.{done_in}
-use Rattle.mk_core.specs.Growing.{Finding, own_from}
+use Rattle.mk_words.specs.Steps.{done_in}
+use Rattle.mk_core.specs.History.{Finding, own_from}
 use Rattle.mk_words.{proofs.Seats.{same_self}, specs.TurnSteps.{world_at}}
-use Rattle.mk_words.specs.{Seats.Has, States.{PassState, event_of, world_of}, Steps.{Makes, found_by}}
+use Rattle.mk_words.specs.{States.{Has, PassState, event_of, world_of}, Steps.{Makes, found_by}}
 
 -- what was seen after a list
 pub since_behind : (p : PassState) (xs : List Event) → seen_since p (record p { seen = p.seen ++ xs }) ≡ xs

@@ -11,7 +11,7 @@ use Rattle.mk_words.proofs.Below.Laws.Vocabulary.{seat_exists, set-get_or, still
 use Rattle.mk_words.proofs.Below.Laws.Vocabulary.{◌≡◌}
 use Rattle.mk_cycle.specs.{Stops.{HolderIsLoaded, is_loaded, is_loaded_at}, Tracing.{is_tracing, untouched_of}}
 use Rattle.mk_core.{proofs.{Conditions.meets_enabled, Histories.calls_more}, specs.Frames.{CountsAreLeft}}
-use Rattle.mk_core.specs.{Order.{comes_next_to_host, is_in_order, is_of_any_holder}, Effects.flights_behind}
+use Rattle.mk_core.specs.{Conditions.{comes_next_to_host, is_in_order, is_of_any_holder}, Effects.flights_behind}
 use Rattle.mk_words.{proofs.Undecided.{decides_nothing}, specs.TurnSteps.{Acts, IsStopped, world_at}}
 use Rattle.mk_words.specs.{States.{PassState, TurnState, call_of, now_of, world_of}, Steps.{IsEnabledTo, Makes}}
 

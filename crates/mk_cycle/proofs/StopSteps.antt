@@ -7,8 +7,8 @@ use Rattle.mk_cycle.proofs.{Stilled.{marked_hand, marks_on}, MaySteps.marks_by, 
 use Rattle.mk_cycle.proofs.Steps.{is_quiet}
 use Rattle.mk_cycle.specs.Grays.{MarksReached, ReachedMarksSweepNothing, TracesReached, HandPointsInto, HasDirtyPart}
 use Rattle.mk_cycle.specs.{Grays.{IsGray, IsGrayWord, IsInHand, LooksOn, MarksOn}, Stops.{IsWanted, is_page_word}}
-use Rattle.mk_cycle.specs.{Stops.{is_root, still_words}, Noted.IsDue, declared.noted.Noted.Noted}
-use Rattle.mk_core.{proofs.PointedPages.{pointed_within}, specs.Ranges.{is_word}}
+use Rattle.mk_cycle.specs.{Stops.{is_root, still_words}, Grays.IsDue, declared.noted.Noted.Noted}
+use Rattle.mk_core.{proofs.PointedPages.{pointed_within}, specs.Conditions.{is_word}}
 use Rattle.mk_words.proofs.Unmarked.{pointed_has_header}
 use Rattle.mk_words.specs.{States.{PassState, TurnState, now_of}, Steps.Finds, TurnSteps.Acts}
 

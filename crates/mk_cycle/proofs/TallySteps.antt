@@ -2,10 +2,10 @@
 use Rattle.mk_words.proofs.Below.Laws.Vocabulary.{Config, Steady, Step, Tally, Word, Words, World, ℕ, ap, arith}
 use Rattle.mk_words.proofs.Below.Laws.Vocabulary.{in_a_word, refl, subst, tally_word, world_behind, ◌+◌, ◌-◌, ◌∙◌, ◌≡◌}
 use Rattle.mk_cycle.proofs.Vocabulary.{Acts, IsFreeForCycle, PassState, does_step, does_then, event_of, now_of}
-use Rattle.mk_cycle.{proofs.Vocabulary.{sets_tallies, steady_of, world_at, world_of}, proofs.CleaningSteps.{calm_keeps}}
+use Rattle.mk_cycle.proofs.{Vocabulary.{sets_tallies, steady_of, world_at, world_of}, CleaningSteps.calm_keeps}
 use Rattle.mk_cycle.proofs.{KeptInParts.{gates_behind, gates_then, keeps_then}, Allowed.in_turn_before}
 use Rattle.mk_core.specs.Words.{named_word}
-use Rattle.mk_cycle.specs.{Tallying.{Sets, with_cycle_counted, with_tally}, TurnKeeps.unchanged}
+use Rattle.mk_cycle.specs.{FinishCycle.{Sets, with_cycle_counted, with_tally}, TurnKeeps.unchanged}
 
 pub sets_then : {f g : Steady → Steady} {p q r : PassState} → Sets f p q → Sets g q r → Sets (λ s. g (f s)) p r
 sets_then {g} {p} {q} {r} a b =

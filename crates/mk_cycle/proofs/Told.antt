@@ -1,7 +1,7 @@
 -- What is said of the world in which marks are closed, from wider parts of a turn.
 use Rattle.mk_words.proofs.Below.Laws.Vocabulary.{Config, Event, IsHistory, List, Step, World, ap, append_assoc, arith}
 use Rattle.mk_words.proofs.Below.Laws.Vocabulary.{[], ◌++◌, ◌≡◌}
-use Rattle.mk_cycle.{proofs.Vocabulary.{Has, Makes, PassState, made}, specs.Telling.{IsToldAtClose, IsToldOf}}
+use Rattle.mk_cycle.{proofs.Vocabulary.{Has, Makes, PassState, made}, specs.Stops.{IsToldAtClose, IsToldOf}}
 
 -- at the step that closes them
 pub told_closing : (tells : Config → World → Type 0) {p q : PassState} → Has p.seats p.seat → Makes p Step.Close q

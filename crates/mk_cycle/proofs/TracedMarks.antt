@@ -3,17 +3,17 @@ use Rattle.std.proofs.{Common.count_by, lemmas.List.Sums.sum_by-cons}
 use Rattle.mk_words.proofs.Below.Laws.Vocabulary.{Bool, Caller, Config, Holds, Host, List, Marker, MarksAreClosed}
 use Rattle.mk_words.proofs.Below.Laws.Vocabulary.{Moment, Protocol, Seat, Steady, Step, Words, ℕ, ap, arith, cond}
 use Rattle.mk_words.proofs.Below.Laws.Vocabulary.{false, flight_of, is_run_gone, refl, sym, true, [], ◌&&◌, ◌+◌, ◌∙◌}
-use Rattle.mk_words.proofs.{Below.Laws.Vocabulary.{◌∷◌, ◌≡◌}, Below.Laws.Protocols.lists_keep_the_protocol}
+use Rattle.mk_words.proofs.Below.Laws.{Vocabulary.{◌∷◌, ◌≡◌}, Protocols.lists_keep_the_protocol}
 use Rattle.mk_words.proofs.Doing.{does_nothing}
 use Rattle.mk_cycle.specs.{Tracing.{Counted, Traces, Untouched, is_tracing, is_want, untouched_of}, Grays.TracesReached}
 use Rattle.mk_cycle.specs.Stops.{HolderIsLoaded, IsWanted, is_loaded}
-use Rattle.mk_words.specs.Doing.{Does, are_of, done_in}
-use Rattle.mk_core.specs.{Frames.CountsAreLeft, Growing.Finding}
+use Rattle.mk_words.specs.Steps.{Does, are_of, done_in}
+use Rattle.mk_core.specs.{Frames.CountsAreLeft, History.Finding}
 use Rattle.mk_cycle.proofs.KeptInParts.{keeps_at_once}
 use Rattle.mk_cycle.specs.EngineLaw.{BeginsMarking, ClosesMarks, IsFreeForCycle, WantsFirst, is_pending_free}
 use Rattle.mk_cycle.specs.TurnKeeps.{Done, KeepsCall, LeavesTurn, but_phase, unchanged}
-use Rattle.mk_cycle.specs.Kinds.{begins_marking, closes_marks, is_want as is_wish}
-use Rattle.mk_words.specs.{States.IsTurn, States.PassState, States.now_of, States.world_of, Steps.IsEnabledTo}
+use Rattle.mk_cycle.specs.TurnKeeps.{begins_marking, closes_marks, is_want as is_wish}
+use Rattle.mk_words.specs.{States.{IsTurn, PassState, now_of, world_of}, Steps.IsEnabledTo}
 
 -- A call that is free for a cycle has loaded what it loads.
 

@@ -8,7 +8,7 @@ use Rattle.mk_cycle.proofs.Steps.{step_counts, step_untouched, still_ready}
 use Rattle.mk_cycle.specs.Tracing.{Counted, Traces, is_marking, is_tracing, is_waiting, is_want}
 use Rattle.mk_cycle.specs.{EngineLaw.WantsFirst, Grays.{TracesReached, WaitsForMarkers}}
 use Rattle.mk_cycle.specs.Stops.{HolderIsLoaded, IsWanted}
-use Rattle.mk_words.{proofs.TurnSteps.still_stopped, specs.Doing.Does}
+use Rattle.mk_words.{proofs.TurnSteps.still_stopped, specs.Steps.Does}
 use Rattle.mk_words.specs.{States.{PassState, TurnState, now_of}, Steps.Finds, TurnSteps.{Acts, IsStopped, world_at}}
 
 phase_there : {p q : PassState} {s : Step} (a : Acts p s q)

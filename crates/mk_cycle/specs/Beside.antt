@@ -1,15 +1,13 @@
--- What the turn's holder marks beside callers and markers, while a cycle marks.
+-- What the turn's holder marks beside callers and markers, from the roots on, while a cycle marks.
 use Rattle.std.specs.Prelude.{◌≡◌, ◌≢◌, ℕ, ◌<◌, Bool, true, false, ◌&&◌, ◌||◌, ◌==◌, not, List, [], ◌∷◌, length, drop}
-use Rattle.std.specs.List.{list_all, list_any}
-use Rattle.mk_core.specs.{declared.events.Event.Event, declared.events.Step.Step, declared.events.Word.Word}
-use Rattle.mk_core.specs.{Cells.points_well, Growing.Finding, Moments.{is_held, is_number_of}, Words.Words}
-use Rattle.mk_words.specs.States.{PassState, TurnState, WordsState, world_of, now_of, event_of}
-use Rattle.mk_words.specs.Doing.{Does, done_in}
-use Rattle.mk_cycle.specs.{Grays.TracesReached, Stops.is_root, Tracing.OwnStepsKeep}
-use Rattle.mk_cycle.specs.{EngineLaw.{IsFreeForCycle, IsAtPhase}, Holding.IsHeldOrOwn, Kinds.begins_marking}
-use Rattle.mk_cycle.specs.TurnKeeps.{LeavesTurn, unchanged}
-use Rattle.mk_core.specs.declared.events.Step.TheVariants as step
-use Rattle.mk_core.specs.declared.events.Word.TheVariants as word
+use Rattle.std.specs.{Prelude.◌++◌, List.{list_all, list_any}}
+use Rattle.mk_core.specs.declared.events.{Event.Event, Step.Step, Word.Word}
+use Rattle.mk_core.specs.{Cells.points_well, History.{Finding, in_this_call, left}, Moments.{is_held, is_number_of}}
+use Rattle.mk_core.specs.{Words.Words, declared.{config.Config.Config, events.Seat.Seat}, Conditions.is_word}
+use Rattle.mk_words.specs.{States.{PassState, TurnState, WordsState, world_of, now_of, event_of}, Steps.{Does, done_in}}
+use Rattle.mk_cycle.specs.{Grays.TracesReached, Stops.{is_root, IsHeldOrOwn}, Tracing.OwnStepsKeep}
+use Rattle.mk_cycle.specs.{EngineLaw.{IsFreeForCycle, IsAtPhase}, TurnKeeps.{begins_marking, LeavesTurn, unchanged}}
+use Rattle.mk_cycle.specs.BeginCycle.{CyclesAreBegun}
 
 -- the events that a pass has seen after what it had seen
 abbrev pub seen_since : PassState → PassState → List Event
@@ -23,18 +21,18 @@ done_since p q = done_in p (seen_since p q)
 
 -- they are one register, or one global
 abbrev pub is_same_root : Word → Word → Bool
-is_same_root (word.Reg j r) (word.Reg k s) = (j == k) && (r == s)
-is_same_root (word.Global g) (word.Global h) = g == h
+is_same_root (Word.Reg j r) (Word.Reg k s) = (j == k) && (r == s)
+is_same_root (Word.Global g) (Word.Global h) = g == h
 is_same_root _ _ = false
 
 -- it is a look at this word
 abbrev pub looks_at : Word → Step → Bool
-looks_at x (step.Look y) = is_same_root x y
+looks_at x (Step.Look y) = is_same_root x y
 looks_at x _ = false
 
 -- it is a look at a root
 abbrev pub looks_at_root : Step → Bool
-looks_at_root (step.Look x) = is_root x
+looks_at_root (Step.Look x) = is_root x
 looks_at_root _ = false
 
 -- The seat looked at the root, from what the one pass had seen to what it has seen now.
@@ -87,19 +85,19 @@ pub record FindsInRoot (x : Word) (n : ℕ) (t u : TurnState) : Type 0 where
   pub does : Does begins_marking t.pass u.pass
   pub keeps : LeavesTurn unchanged t.pass u.pass
   pub reached : MarksReachedAlone t.pass u.pass
-  pub done : done_since t.pass u.pass ≡ record { event = event_of t.pass (step.Look x); found = n } ∷ []
+  pub done : done_since t.pass u.pass ≡ record { event = event_of t.pass (Step.Look x); found = n } ∷ []
   pub well : StaysWell t.pass u.pass
 
 -- a word at which a look gives no hand
 abbrev pub gives_no_hand : Word → Bool
-gives_no_hand (word.Reg j r) = false
-gives_no_hand (word.Global g) = false
-gives_no_hand (word.Heap n) = false
+gives_no_hand (Word.Reg j r) = false
+gives_no_hand (Word.Global g) = false
+gives_no_hand (Word.Heap n) = false
 gives_no_hand _ = true
 
 -- A register is looked at while its caller's gate is held, or it is the holder's own.
 abbrev pub IsOpenToLook : PassState → Word → Type 0
-IsOpenToLook p x = (k r : ℕ) → x ≡ word.Reg k r → IsHeldOrOwn p k
+IsOpenToLook p x = (k r : ℕ) → x ≡ Word.Reg k r → IsHeldOrOwn p k
 
 -- The other gates are held, or not, as they were.
 abbrev pub KeepsOtherGates : ℕ → PassState → PassState → Type 0
@@ -118,3 +116,15 @@ pub record SetsGate (caller : ℕ) (held : Bool) (t u : TurnState) : Type 0 wher
   pub on : GoesBeside t u
   pub others : KeepsOtherGates caller t.pass u.pass
   pub set : is_held (now_of u.pass).words caller ≡ held
+
+-- After a list, the seat looked in these events at each register of each caller and at each global, what it found
+-- there points well at their end, and it marked nothing but what was reached.
+pub record MarksRoots (c : Config) (s : Seat) (es more : List Event) : Type 0 where
+  pub looked : (x : Word) → is_root x ≡ true → is_word c x ≡ true
+      → list_any (λ (f : Finding). looks_at x f.event.step) (in_this_call c s es more) ≡ true
+  pub found : list_all (found_well c.pages (left c (es ++ more)).now.words) (in_this_call c s es more) ≡ true
+  pub reached : OwnStepsKeep TracesReached c s (left c es) more
+
+-- Whoever begins a cycle of the history does so directly after its `begin`, in the same turn.
+abbrev pub CyclesMarkRootsFirst : Config → List Event → Type 0
+CyclesMarkRootsFirst c es = CyclesAreBegun MarksRoots c es

@@ -1,22 +1,28 @@
--- The law of an engine: what it makes of a cycle, and what it leaves alone.
-use Rattle.std.specs.Prelude.{◌≡◌, ℕ, Bool, true, false, List, ◌++◌}
+-- The law of an engine: what it makes of a cycle, what it leaves alone, and what all engines of a type are alike in.
+use Rattle.std.specs.Prelude.{Bool, List, ◌≡◌, ℕ, true, false, ◌++◌}
 use Rattle.mk_never.specs.declared.operations.Op.{Op}
-use Rattle.mk_core.specs.{declared.events.Event.Event, declared.events.Word.Word, declared.seats.Flight.Flight}
-use Rattle.mk_core.specs.declared.seats.Stage.{Stage}
-use Rattle.mk_core.specs.{Words.phase_of, ClosedMarks.MarksAreClosed}
-use Rattle.mk_words.specs.{Below.Laws.SettledPages.has_place, Doing.{Does, count_done}}
-use Rattle.mk_words.specs.{States.{PassState, WordsState, world_of, now_of, call_of}, Steps.{IsEnabledTo, Makes}}
-use Rattle.mk_cycle.specs.{Kinds.{is_want, begins_marking, closes_marks}, TurnKeeps.{LeavesTurn, KeepsGates, IsGone}}
-use Rattle.mk_cycle.specs.TurnKeeps.{unchanged, but_phase}
-use Rattle.mk_never.specs.declared.operations.Op.TheVariants as op
-use Rattle.mk_core.specs.declared.events.Word.TheVariants as word
-use Rattle.mk_core.specs.declared.events.Step.TheVariants as step
-use Rattle.mk_core.specs.declared.seats.Stage.TheVariants as stage
+use Rattle.mk_core.specs.declared.{config.Config.Config, events.{Event.Event, Seat.Seat}}
+use Rattle.mk_core.specs.{History.World, declared.{events.Word.Word, seats.Flight.Flight}}
+use Rattle.mk_core.specs.{declared.{seats.Stage.Stage, events.Step.Step}, Words.phase_of, Cycles.MarksAreClosed}
+use Rattle.mk_words.specs.{States.{PassState, WordsState, world_of, now_of, call_of}, Below.Laws.Theorems.has_place}
+use Rattle.mk_words.specs.Steps.{Does, count_done, IsEnabledTo, Makes}
+use Rattle.mk_cycle.specs.TurnKeeps.{is_want, begins_marking, closes_marks, LeavesTurn, KeepsGates, IsGone, unchanged}
+use Rattle.mk_cycle.specs.TurnKeeps.{but_phase}
+
+-- Whether a cycle that a free begins goes on after the call, and whether they make sweeping marks; what they do
+-- directly after a `begin`; what a value promises of the world in which it closed marks last, and what it did in that
+-- stop.
+pub record Ways (V : Type 0) : Type 1 where
+  pub on : Bool
+  pub sweeps : Bool
+  pub begins : Config → Seat → List Event → List Event → Type 0
+  pub tells : V → Config → World → Type 0
+  pub closes : V → PassState → PassState → Type 0
 
 -- a Free that hasn't decided its answer yet
 abbrev pub is_pending_free_at : Op → Stage → Bool
-is_pending_free_at (op.Free p) stage.Give = false
-is_pending_free_at (op.Free p) _ = true
+is_pending_free_at (Op.Free p) Stage.Give = false
+is_pending_free_at (Op.Free p) _ = true
 is_pending_free_at _ _ = false
 
 -- the call is a Free that isn't decided
@@ -54,7 +60,7 @@ pub record BeginsMarking (p q : PassState) : Type 0 where
 -- Before all else that it does it wants the close.
 pub record WantsFirst (p q : PassState) : Type 0 where
   pub wanted : PassState
-  pub want : Makes p step.Want wanted
+  pub want : Makes p Step.Want wanted
   pub rest : List Event
   pub is : q.seen ≡ wanted.seen ++ rest
 
@@ -65,10 +71,10 @@ pub record ClosesMarks (p q : PassState) : Type 0 where
   pub one_want : count_done is_want does ≡ 1
   pub keeps : LeavesTurn but_phase p q
   pub phase : IsAtPhase q 2
-  pub close : IsEnabledTo q step.Close
+  pub close : IsEnabledTo q Step.Close
   pub closed : MarksAreClosed q.table.config (world_of q)
 
 -- it is a register
 abbrev pub is_register : Word → Bool
-is_register (word.Reg j r) = true
+is_register (Word.Reg j r) = true
 is_register _ = false

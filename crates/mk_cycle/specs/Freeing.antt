@@ -1,14 +1,93 @@
 -- After a `release` what was released is wiped and given back, page by page.
-use Rattle.std.specs.Prelude.{◌≡◌, ◌≢◌, ℕ, ◌+◌, ◌*◌, ◌<◌, ◌≤◌, Bool, true, false, ◌==◌, ◌||◌, nat_lt, not, []}
-use Rattle.std.specs.Prelude.{slice_index}
-use Rattle.mk_geom.specs.{declared.pages.Page.Page, Headers.header_of}
-use Rattle.mk_core.specs.{Bits.has_bit, Cells.{head_page, header_in, is_unmapped_header, left_unmarked, words_under}}
-use Rattle.mk_core.specs.{Frames.Steady, Moments.is_held, StopConditions.has_settled_page, Words.{Words, page_of}}
-use Rattle.mk_core.specs.Words.{header_at, quarantine_word, used_at}
-use Rattle.mk_books.specs.Members.{has_freed_cells}
-use Rattle.mk_words.specs.{Below.Laws.{RunCounts.run_count, FreeWords.IsWordOfMapped}, Doing.Does}
+use Rattle.std.specs.Prelude.{◌≡◌, ℕ, ◌≤◌, Bool, ◌&&◌, nat_lt, Option, Some, zero, suc, ◌+◌, ◌*◌, bit_and, count_ones}
+use Rattle.std.specs.Prelude.{if◌then◌else◌, slice_index, ◌≢◌, ◌<◌, true, false, ◌==◌, ◌||◌, not, []}
+use Rattle.mk_geom.specs.declared.headers.Header.{Header, TheVariants.Later}
+use Rattle.mk_geom.specs.{Addresses.header_of, declared.pages.Page.Page}
+use Rattle.mk_books.specs.KnownPages.{has_freed_cells}
+use Rattle.mk_core.specs.Cells.{is_unmapped_header, words_under, left_unmarked, header_in, head_page}
+use Rattle.mk_core.specs.{Words.{Words, has_bit, page_of, header_at, quarantine_word, used_at}, Frames.Steady}
+use Rattle.mk_core.specs.{Moments.{is_held, none_is_held}, MarkingConditions.has_settled_page}
+use Rattle.mk_words.specs.{Below.Laws.{Theorems.run_count, WordLaws.IsWordOfMapped}, Steps.{Does, is_open}}
 use Rattle.mk_words.specs.States.{IsTurn, PassState, WordsState, world_of, now_of}
-use Rattle.mk_cycle.specs.{EngineLaw.IsTurnAmong, Kinds.is_giving_back, TurnKeeps.LeavesTurn}
+use Rattle.mk_cycle.specs.{declared.finishing.Released.Released, EngineLaw.{IsTurnAmong, IsAtPhase}}
+use Rattle.mk_cycle.specs.{TurnKeeps.{is_giving_back, LeavesTurn}, Stops.HoldsGates, FinishCycle.ReleasesUnmarked}
+
+-- how far a later page is from the head of its run
+abbrev pub distance_under : Option Header → ℕ
+distance_under (Some (Later distance mapped)) = distance
+distance_under _ = 0
+
+-- An unmapped run of several pages has its head at the page with this header.
+abbrev pub heads_unmapped_pages : Option Header → Bool
+heads_unmapped_pages x = is_unmapped_header x && nat_lt 1 (run_count x)
+
+-- The numbers are those of the header word. No cell has more than 4,096 words.
+pub record IsRight (word size : ℕ) (unmapped : Bool) (distance pages : ℕ) : Type 0 where
+  pub size_of : size ≡ words_under (header_of word)
+  pub few : size ≤ 4096
+  pub is_unmapped : unmapped ≡ is_unmapped_header (header_of word)
+  pub distance_of : distance ≡ distance_under (header_of word)
+  pub pages_of : pages ≡ run_count (header_of word)
+
+-- the sum of the values below a bound
+abbrev pub sum_below : ℕ → (ℕ → ℕ) → ℕ
+sum_below zero f = 0
+sum_below (suc n) f = sum_below n f + f n
+
+-- the cells of a page that are in the snapshot and marked, as bits
+abbrev pub left_marked : Words → ℕ → ℕ
+left_marked w p = bit_and (slice_index w.snapshot p) (slice_index w.marks p)
+
+-- how many cells of a page are left unmarked, the words of these, how many of them are held, and how many cells are
+-- marked
+
+-- the cells of a page that are in the snapshot and not marked
+abbrev pub cells_unmarked : Words → ℕ → ℕ
+cells_unmarked w p = count_ones (left_unmarked w p)
+
+-- their words
+abbrev pub words_unmarked : Words → ℕ → ℕ
+words_unmarked w p = cells_unmarked w p * words_under (header_in w p)
+
+-- those of them that are held
+abbrev pub held_unmarked : Words → ℕ → ℕ
+held_unmarked w p = if is_unmapped_header (header_in w p) then 0 else words_unmarked w p
+
+-- the cells that are in the snapshot and marked
+abbrev pub cells_marked : Words → ℕ → ℕ
+cells_marked w p = count_ones (left_marked w p)
+
+-- on one page, and on the first pages, of this many
+
+-- what a page's release comes to
+abbrev pub released_on : Words → ℕ → Released
+released_on w p = record { count = cells_unmarked w p; words = words_unmarked w p; kept = cells_marked w p }
+
+-- what that of all pages below this one comes to
+abbrev pub released_below : Words → ℕ → Released
+released_below w n =
+    record {
+      count = sum_below n (cells_unmarked w);
+      words = sum_below n (words_unmarked w);
+      kept = sum_below n (cells_marked w);
+    }
+
+-- the held words among them
+abbrev pub held_below : Words → ℕ → ℕ
+held_below w n = sum_below n (held_unmarked w)
+
+-- A page has few cells, and few words.
+pub record IsOfOnePage (r : Released) : Type 0 where
+  pub count : r.count ≤ 64
+  pub words : r.words ≤ 64 * 4096
+  pub kept : r.kept ≤ 64
+
+-- This was released on a page, and so many of its words were held until then.
+pub record WasReleasedOn (w : Words) (page : ℕ) (r : Released) (words : ℕ) : Type 0 where
+  pub released : r ≡ released_on w page
+  pub held : words ≡ held_unmarked w page
+  pub few : IsOfOnePage r
+  pub part : words ≤ r.words
 
 -- without what is given back, and the count of fresh words
 abbrev pub but_pages : Steady → Steady
@@ -136,3 +215,18 @@ pub record FreesRun (head end : ℕ) (p q : PassState) : Type 0 where
   pub frees_head : FreesPage head p between
   pub settled : IsSettledPage between head
   pub frees_rest : FreesRest (head + 1) end between q
+
+-- All that was released is given back, by these stages.
+pub record GivesAllBack (p q : PassState) : Type 0 where
+  pub held : PassState
+  pub released : PassState
+  pub opened : PassState
+  pub holds : HoldsGates p held
+  pub releases : ReleasesUnmarked held released
+  pub opens : Does is_open released opened
+  pub none_held : none_is_held p.table.config.callers (now_of opened).words ≡ true
+  pub gives : Does is_giving_back opened q
+  pub frees : Frees released q
+  pub phase : IsAtPhase q 4
+  pub gates : none_is_held p.table.config.callers (now_of q).words ≡ true
+  pub settled : (page : ℕ) → page < p.table.config.pages → IsSettledPage q page

@@ -1,18 +1,17 @@
--- Gray cells, which are marked and not black, and what steps in the stop keep to.
+-- Gray cells, which are marked and not black; what is noted of those that are still to be scanned.
 use Rattle.std.specs.Prelude.{◌≡◌, ◌≢◌, ◌⊎◌, ℕ, ◌+◌, ◌<◌, ◌≤◌, Bool, true, false, ⊤, slice_index, slice_set, bit_or}
-use Rattle.std.specs.Prelude.{bit_and, ◌^◌, Option, Some}
-use Rattle.mk_geom.specs.{declared.addresses.Cell.Cell, declared.headers.Header.Header}
-use Rattle.mk_core.specs.{declared.config.Config.Config, declared.events.Step.Step, declared.seats.Flight.Flight}
-use Rattle.mk_core.specs.{declared.seats.Hand.Hand, Bits.{has_bit, without}, Bounded.is_some_and}
-use Rattle.mk_core.specs.{Words.{Words, phase_of, register_word}, Cells.{header_in, head_page, cells_under, cell_bits}}
-use Rattle.mk_core.specs.Cells.{first_word, cell_words, is_marked, pointed_cell, points_well}
+use Rattle.std.specs.{Prelude.{bit_and, ◌^◌, Option, Some, ◌++◌, List, option_to_list}, List.{All, Contains}}
+use Rattle.mk_geom.specs.declared.addresses.Cell.{Cell}
+use Rattle.mk_core.specs.declared.{config.Config.Config, events.Step.Step, seats.Flight.Flight}
+use Rattle.mk_core.specs.{declared.seats.Hand.Hand, Words.{has_bit, without, is_some_and, Words, phase_of}}
+use Rattle.mk_core.specs.{Words.register_word, Cells.{header_in, head_page, cells_under, cell_bits, first_word}}
+use Rattle.mk_core.specs.Cells.{cell_words, is_marked, pointed_cell, points_well, has_no_pointers, words_scanned}
 use Rattle.mk_core.specs.{Cycles.{is_unmarked, sweeps}, Frames.OnlyGrow, Moments.Moment}
-use Rattle.mk_core.specs.StopConditions.{marks_by_hand}
+use Rattle.mk_core.specs.{MarkingConditions.marks_by_hand, declared.events.Word.Word}
 use Rattle.mk_words.specs.{States.{PassState, TurnState, now_of}, TurnSteps.IsStopped}
 use Rattle.mk_cycle.specs.{Stops.{HolderIsLoaded, IsWanted, hand_of, still_words}, Tracing.{Counted, Traces}}
-use Rattle.mk_cycle.specs.Tracing.{is_marking, is_waiting, is_want}
-use Rattle.mk_core.specs.declared.events.Step.TheVariants as step
-use Rattle.mk_core.specs.declared.events.Word.TheVariants as word
+use Rattle.mk_cycle.specs.{Tracing.{is_marking, is_waiting, is_want}, declared.noted.Noted.Noted}
+use Rattle.mk_cycle.specs.declared.worklist.Worklist.{Worklist}
 
 -- the cell is black
 abbrev pub is_black : Words → Cell → Bool
@@ -45,9 +44,9 @@ pub record MarksReached (c : Config) (m : Moment) (page value : ℕ) : Type 0 wh
 
 -- Only words of gray cells are looked at, only what was reached is marked, and only what is dirty is looked at again.
 abbrev pub TracesReached : Config → Moment → Step → Type 0
-TracesReached c m (step.Look (word.Heap n)) = IsGrayWord c.pages m.words n
-TracesReached c m (step.Mark p v) = MarksReached c m p v
-TracesReached c m (step.Unblack p) = HasDirtyPart m.words p
+TracesReached c m (Step.Look (Word.Heap n)) = IsGrayWord c.pages m.words n
+TracesReached c m (Step.Mark p v) = MarksReached c m p v
+TracesReached c m (Step.Unblack p) = HasDirtyPart m.words p
 TracesReached c m _ = ⊤
 
 -- The stop goes on, its holder marks by these rules, and all else is as it was.
@@ -184,3 +183,68 @@ GraysOne w cell was_white v =
 abbrev pub ReachedMarksSweepNothing : Type 0
 ReachedMarksSweepNothing =
     (c : Config) (m : Moment) (f : Flight) (s : Step) → TracesReached c m s → sweeps c m f s ≡ false
+
+-- The cell is one of its page's and marked, and so many of its words are scanned.
+pub record IsNoted (pages : ℕ) (w : Words) (noted : Noted) : Type 0 where
+  pub page : noted.cell.page < pages
+  pub index : noted.cell.index < cells_under (header_in w noted.cell.page)
+  pub marked : is_marked w noted.cell ≡ true
+  pub words : noted.words ≡ words_scanned (header_in w noted.cell.page)
+
+-- What is noted: some cells, and whether each gray cell is one of them.
+pub record Notes : Type 0 where
+  pub cells : List Noted
+  pub is_whole : Bool
+
+-- the notes of a list, and those with a cell in registers, which isn't in the list
+abbrev pub listed : Worklist → Notes
+listed work = record { cells = work.cells.items; is_whole = work.is_whole }
+
+-- the noted cells, with one that isn't in the list yet
+abbrev pub with_last : Worklist → Option Noted → Notes
+with_last work last = record { cells = work.cells.items ++ option_to_list last; is_whole = work.is_whole }
+
+-- The list has the cell too, if there is one, or it had no room, and isn't whole any more.
+abbrev pub Adds : Worklist → Option Noted → Worklist → Type 0
+Adds old last new = (listed new ≡ with_last old last) ⊎ (listed new ≡ record (listed old) { is_whole = false })
+
+-- The cell is one of these.
+pub record IsAmong (cells : List Noted) (cell : Cell) : Type 0 where
+  pub noted : Noted
+  pub among : Contains cells noted
+  pub is : noted.cell ≡ cell
+
+-- All cells are noted so, and if the notes are whole, each gray cell is one of them.
+pub record AreNoted (pages : ℕ) (w : Words) (notes : Notes) : Type 0 where
+  pub each : All (IsNoted pages w) notes.cells
+  pub grays : notes.is_whole ≡ true → (cell : Cell) → IsGray pages w cell → IsAmong notes.cells cell
+
+-- The notes were whole, what was noted stays so, and each cell that turned gray is noted.
+pub record NotesGrays (pages : ℕ) (w : Words) (had : Notes) (v : Words) (has : Notes) : Type 0 where
+  pub whole : had.is_whole ≡ true
+  pub kept : (cell : Cell) → IsAmong had.cells cell → IsAmong has.cells cell
+  pub new : (cell : Cell) → IsGray pages v cell → IsGray pages w cell ⊎ IsAmong has.cells cell
+
+-- The cell is gray, and so many of its words are scanned.
+pub record IsGrayNoted (pages : ℕ) (w : Words) (noted : Noted) : Type 0 where
+  pub gray : IsGray pages w noted.cell
+  pub words : noted.words ≡ words_scanned (header_in w noted.cell.page)
+
+-- The cell is gray, and its words, this many, are to be scanned.
+pub record IsDue (pages : ℕ) (w : Words) (noted : Noted) : Type 0 where
+  pub gray : IsGray pages w noted.cell
+  pub scanned : has_no_pointers (header_in w noted.cell.page) ≡ false
+  pub words : noted.words ≡ cell_words w noted.cell
+
+-- The stop goes on, marks and no others are added, and what turns gray is noted, as far as there is room.
+pub record MarksAndNotes (pages : ℕ) (t : TurnState) (had : Notes) (u : TurnState) (has : Notes) : Type 0 where
+  pub on : MarksOn t u
+  pub more : MarksMore (still_words t.pass) (still_words u.pass)
+  pub each : All (IsNoted pages (still_words t.pass)) had.cells → All (IsNoted pages (still_words u.pass)) has.cells
+  pub grays : has.is_whole ≡ true → NotesGrays pages (still_words t.pass) had (still_words u.pass) has
+
+-- The words of a cell from one on, up to another, are scanned: what each of them was points well now.
+pub record Scans (pages : ℕ) (t : TurnState) (had : Notes) (u : TurnState) (has : Notes) (cell : Cell)
+    (from end : ℕ) : Type 0 where
+  pub marks : MarksAndNotes pages t had u has
+  pub well : (i : ℕ) → from ≤ i → i < end → WordIsWell pages t.pass u.pass cell i

@@ -1,18 +1,20 @@
--- A stop in which marks are closed: the close is wanted, and no marker attends.
-use Rattle.std.specs.Prelude.{◌≡◌, Bool, true, false, Option}
-use Rattle.mk_core.specs.{declared.events.Seat.Seat, declared.events.Seat.TheVariants.Caller, declared.events.Word.Word}
-use Rattle.mk_core.specs.{declared.seats.Flight.Flight, declared.seats.Hand.Hand, declared.seats.Stage.Stage}
-use Rattle.mk_core.specs.{Words.{Words, phase_of}, Readings.NoneAttends}
-use Rattle.mk_words.specs.{States.{PassState, WordsState, now_of, call_of}, TurnSteps.IsStopped}
-use Rattle.mk_core.specs.declared.events.Word.TheVariants as word
-use Rattle.mk_core.specs.declared.seats.Stage.TheVariants as stage
+-- A stop: the gates of all other callers are held, no marker attends, and marks are closed. What an engine says of it.
+use Rattle.std.specs.Prelude.{◌≡◌, Bool, true, false, Option, ◌==◌, ℕ, ◌<◌, ◌||◌, not, List, ◌∷◌, ◌++◌}
+use Rattle.mk_core.specs.declared.events.{Seat.{Seat, TheVariants.Caller}, Word.Word}
+use Rattle.mk_core.specs.declared.seats.{Flight.Flight, Hand.Hand, Stage.Stage}
+use Rattle.mk_core.specs.{Words.{Words, phase_of}, Readings.NoneAttends, Moments.{is_held, is_number_of}}
+use Rattle.mk_core.specs.{declared.{config.Config.Config, events.Event.Event}, History.{AreOfOthers, World}}
+use Rattle.mk_core.specs.{History.{IsHistory, left}, declared.events.Step.Step}
+use Rattle.mk_words.specs.States.{PassState, WordsState, now_of, call_of, TurnState, event_of}
+use Rattle.mk_words.specs.{TurnSteps.{IsStopped, Acts}, Steps.Does, Sweeping.SweepsNothing}
+use Rattle.mk_cycle.specs.{TurnKeeps.{holds_gates, LeavesTurn, unchanged}, FinishCycle.MakesRelease}
 
 -- A caller's New or Free has loaded what it loads, so that any step of a holder may come.
 
 -- a stage at which a Free's register was loaded
 abbrev pub is_loaded_at : Stage → Bool
-is_loaded_at stage.Turn = true
-is_loaded_at stage.Give = true
+is_loaded_at Stage.Turn = true
+is_loaded_at Stage.Give = true
 is_loaded_at _ = false
 
 -- the seat is no caller, or its Free has loaded its register
@@ -38,22 +40,22 @@ pub record MayTrace (words : WordsState) (p : PassState) : Type 0 where
 
 -- a word at which a look gives no hand and decides nothing
 abbrev pub is_page_word : Word → Bool
-is_page_word (word.Head p) = true
-is_page_word (word.Used p) = true
-is_page_word (word.Mark p) = true
-is_page_word (word.Black p) = true
-is_page_word (word.Dirty p) = true
+is_page_word (Word.Head p) = true
+is_page_word (Word.Used p) = true
+is_page_word (Word.Mark p) = true
+is_page_word (Word.Black p) = true
+is_page_word (Word.Dirty p) = true
 is_page_word _ = false
 
 -- any word but the phase, which markers count in
 abbrev pub is_still_word : Word → Bool
-is_still_word word.Phase = false
+is_still_word Word.Phase = false
 is_still_word _ = true
 
 -- a register, or a global
 abbrev pub is_root : Word → Bool
-is_root (word.Reg j r) = true
-is_root (word.Global g) = true
+is_root (Word.Reg j r) = true
+is_root (Word.Global g) = true
 is_root _ = false
 
 -- The words, but for the phase: markers that come and find it wanted are counted there, and nothing else changes.
@@ -63,3 +65,73 @@ still_words p = record (now_of p).words { phase = 0 }
 -- what the turn's holder has in hand
 abbrev pub hand_of : PassState → Option Hand
 hand_of p = (now_of p).seats.holding.hand
+
+-- The holder of the turn looked at gates, and tried to hold such ones as these.
+pub data HoldsSuch (such : ℕ → Bool) (t : TurnState) : TurnState → Type 0 where
+  none_yet : HoldsSuch such t t
+  then_looks : {u v : TurnState} (j : ℕ) → HoldsSuch such t u → Acts u.pass (Step.Look (Word.Gate j)) v.pass
+      → HoldsSuch such t v
+  then_tries : {u v : TurnState} (j : ℕ) → such j ≡ true → HoldsSuch such t u → Acts u.pass (Step.Hold j) v.pass
+      → HoldsSuch such t v
+
+-- this gate, and those of all other callers
+
+-- only this caller's gate
+abbrev pub only_gate : ℕ → ℕ → Bool
+only_gate caller j = j == caller
+
+-- the gates of all others
+abbrev pub all_others : Seat → ℕ → Bool
+all_others s j = not (is_number_of s j)
+
+-- The holder's call has loaded what it loads, so it may hold gates. This one is another caller's.
+pub record MayHoldGate (w : WordsState) (p : PassState) (caller : ℕ) : Type 0 where
+  pub one_table : p.table ≡ w
+  pub ready : HolderIsLoaded p
+  pub within : caller < w.config.callers
+  pub another : is_number_of p.seat caller ≡ false
+
+-- From one to the other gates were held: those that are held stay so.
+pub record HoldsGates (p q : PassState) : Type 0 where
+  pub does : Does holds_gates p q
+  pub keeps : LeavesTurn unchanged p q
+  pub held : (j : ℕ) → is_held (now_of p).words j ≡ true → is_held (now_of q).words j ≡ true
+
+-- The gate is the holder's own, or held.
+abbrev pub IsHeldOrOwn : PassState → ℕ → Type 0
+IsHeldOrOwn p j = (is_number_of p.seat j || is_held (now_of p).words j) ≡ true
+
+-- It is said of what the pass has seen, whatever others do before its next step.
+abbrev pub IsToldOf : (Config → World → Type 0) → PassState → Type 0
+IsToldOf tells p =
+    (others : List Event) → AreOfOthers p.seats others → IsHistory p.table.config (p.seen ++ others)
+    → tells p.table.config (left p.table.config (p.seen ++ others))
+
+-- It is said of the world in which the pass closed the marks of a cycle, from what the one had seen to what the other
+-- has seen.
+pub record IsToldAtClose (tells : Config → World → Type 0) (p q : PassState) : Type 0 where
+  pub before : List Event
+  pub behind : List Event
+  pub is : q.seen ≡ p.seen ++ before ++ event_of p Step.Close ∷ behind
+  pub told : tells p.table.config (left p.table.config (p.seen ++ before))
+
+-- What an engine does in the stop, up to the `close`: it is said of the pass that held the gates, and of the one that
+-- may close.
+
+-- From what the one pass had seen to what the other has seen gates were held, then the engine did this, and then came
+-- the `close` and the `release`.
+pub record IsClosedBy (closes : PassState → PassState → Type 0) (p q : PassState) : Type 0 where
+  pub held : PassState
+  pub released : PassState
+  pub holds : HoldsGates p held
+  pub makes : MakesRelease held released
+  pub part : closes held makes.closing
+  pub rest : List Event
+  pub is : q.seen ≡ released.seen ++ rest
+
+-- Whatever an engine promises of a stop holds of what was seen from the one to the other.
+pub record ClosesAsPromised (sweeps : Bool) (tells : Config → World → Type 0) (closes : PassState → PassState → Type 0)
+    (p q : PassState) : Type 0 where
+  pub reached : sweeps ≡ false → SweepsNothing p q
+  pub told : IsToldAtClose tells p q
+  pub closed : IsClosedBy closes p q

@@ -1,13 +1,13 @@
 -- What the holder of the turn does that traces: steps of its own that keep to a rule, and all else left as it was.
 use Rattle.std.specs.Prelude.{◌≡◌, ℕ, Bool, true, false, List, [], ◌∷◌, Option, ⊤}
 use Rattle.mk_geom.specs.declared.pages.Page.{Page}
-use Rattle.mk_core.specs.{declared.config.Config.Config, declared.events.Seat.Seat, declared.events.Event.Event}
-use Rattle.mk_core.specs.{declared.events.Step.Step, declared.seats.Flight.Flight, declared.seats.Placing.Placing}
-use Rattle.mk_core.specs.{declared.seats.RunPages.RunPages, declared.seats.OwnCycle.OwnCycle}
-use Rattle.mk_core.specs.{Allocations.PlacedAllocation, Moments.Moment, Frames.CountsAreLeft, Growing.is_same_seat}
+use Rattle.mk_core.specs.declared.{config.Config.Config, events.{Seat.Seat, Event.Event}}
+use Rattle.mk_core.specs.declared.{events.Step.Step, seats.{Flight.Flight, Placing.Placing}}
+use Rattle.mk_core.specs.declared.seats.{RunPages.RunPages, OwnCycle.OwnCycle}
+use Rattle.mk_core.specs.{Allocations.PlacedAllocation, Moments.Moment, Frames.CountsAreLeft, History.is_same_seat}
 use Rattle.mk_core.specs.History.{World, world_behind}
 use Rattle.mk_words.specs.States.{PassState, world_of}
-use Rattle.mk_words.specs.Doing.{Does, count_done}
+use Rattle.mk_words.specs.Steps.{Does, count_done}
 use Rattle.mk_core.specs.declared.events.Step.TheVariants as step
 use Rattle.mk_core.specs.declared.events.Word.TheVariants as word
 

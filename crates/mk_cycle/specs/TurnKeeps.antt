@@ -1,9 +1,65 @@
--- What the turn's holder finds unchanged over a part of its turn.
-use Rattle.std.specs.Prelude.{◌≡◌, ℕ, ◌<◌, true, [], Option}
-use Rattle.mk_core.specs.{declared.seats.Placing.Placing, declared.seats.OwnCycle.OwnCycle}
+-- The kinds of step that the parts of a cycle are made of, and what the turn's holder finds unchanged over each part.
+use Rattle.std.specs.Prelude.{Bool, true, false, ◌≡◌, ℕ, ◌<◌, [], Option}
+use Rattle.mk_core.specs.declared.{events.Step.Step, seats.{Placing.Placing, OwnCycle.OwnCycle}}
 use Rattle.mk_core.specs.{declared.seats.RunPages.RunPages, Frames.{Steady, steady_of, CountsAreLeft}}
-use Rattle.mk_core.specs.{Moments.{Moment, is_held}, NewPlaces.is_run_gone}
+use Rattle.mk_core.specs.{Moments.{Moment, is_held}, NewPlaces.is_run_gone, declared.events.Word.Word}
 use Rattle.mk_words.specs.States.{PassState, world_of, now_of, call_of}
+
+-- it is a `want`
+abbrev pub is_want : Step → Bool
+is_want Step.Want = true
+is_want _ = false
+
+-- what an engine does after a `begin`
+abbrev pub begins_marking : Step → Bool
+begins_marking (Step.Look x) = true
+begins_marking (Step.Hold j) = true
+begins_marking (Step.Open j) = true
+begins_marking (Step.Mark p v) = true
+begins_marking _ = false
+
+-- what it does up to a `close`
+abbrev pub closes_marks : Step → Bool
+closes_marks (Step.Look x) = true
+closes_marks Step.Want = true
+closes_marks (Step.Mark p v) = true
+closes_marks (Step.Undirty p) = true
+closes_marks (Step.Black p v) = true
+closes_marks (Step.Unblack p) = true
+closes_marks _ = false
+
+-- before a `begin`: the marks of the cycle before are cleared, the snapshot is taken, and nothing is fresh
+abbrev pub clears : Step → Bool
+clears (Step.Look x) = true
+clears (Step.Clear p) = true
+clears (Step.Unblack p) = true
+clears (Step.Undirty p) = true
+clears (Step.Quar p v) = true
+clears (Step.Tally n v) = true
+clears _ = false
+
+-- before the stop: the gates are held, of which each is looked at first
+abbrev pub holds_gates : Step → Bool
+holds_gates (Step.Look (Word.Gate j)) = true
+holds_gates (Step.Hold j) = true
+holds_gates _ = false
+
+-- After a `release` what is released is wiped and given back. A gate is opened only while one is held.
+abbrev pub is_giving_back : Step → Bool
+is_giving_back (Step.Look x) = true
+is_giving_back (Step.Open j) = true
+is_giving_back (Step.Wipe n) = true
+is_giving_back (Step.Used p v) = true
+is_giving_back (Step.Quar p v) = true
+is_giving_back (Step.Head p v) = true
+is_giving_back (Step.Tally n v) = true
+is_giving_back _ = false
+
+-- after an `end`: the tallies are set
+abbrev pub sets_tallies : Step → Bool
+sets_tallies (Step.Look x) = true
+sets_tallies (Step.Tally n v) = true
+sets_tallies _ = false
 
 -- what was done in the turn, but for the last look: the place of a New, the run that a Free freed, and the own cycle
 pub record Done : Type 0 where

@@ -1,7 +1,7 @@
 //! The beginning of a cycle.
 ghost use Rattle.std.specs.Prelude.{◌≡◌, false};
 ghost use Rattle.mk_words.specs.Sweeping.{SweepsNothing};
-ghost use Rattle.mk_cycle.specs.{BeginCycle.BeginsCycle, Begun.{EachIsBegunYet, IsBegunLast}};
+ghost use Rattle.mk_cycle.specs.BeginCycle.{BeginsCycle, EachIsBegunYet, IsBegunLast};
 ghost use Rattle.mk_cycle.specs.EngineLaw.{IsFreeForCycle, IsAtPhase};
 
 use crate::cleaning::clean_pages;

@@ -2,9 +2,9 @@
 //! pages that may be marked are looked at, and then the pages in use, once each. A word that has the right value
 //! already isn't stored to.
 ghost use Rattle.std.specs.Prelude.{◌≡◌, ◌≢◌, ◌<◌, ℕ, true, false};
-ghost use Rattle.mk_core.specs.{Ranges.is_word, Words.{header_at, named_word}};
+ghost use Rattle.mk_core.specs.{Conditions.is_word, Words.{header_at, named_word}};
 ghost use Rattle.mk_words.specs.{PageMaps.HasNoMarks, States.now_of};
-ghost use Rattle.mk_cycle.specs.Cleaning.{Cleans, IsUnmarked, IsUnscanned, HasTakenSnapshot, IsReadyPage, WasUndirty};
+ghost use Rattle.mk_cycle.specs.BeginCycle.{Cleans, IsUnmarked, IsUnscanned, HasTakenSnapshot, IsReadyPage, WasUndirty};
 ghost use Rattle.mk_cycle.specs.{EngineLaw.{IsTurnAmong, IsTurnAt, is_register}, Freeing.IsQuarantineWord};
 
 use crate::turn_steps::look_among;

@@ -1,6 +1,6 @@
 //! What an engine does in the stop: it wants the close, and marks until the marks may be closed.
 ghost use Rattle.std.specs.Prelude.{◌≡◌, ℕ, ◌<◌, slice_index};
-ghost use Rattle.mk_core.specs.{ClosedMarks.MarksAreClosed, Words.phase_of};
+ghost use Rattle.mk_core.specs.{Cycles.MarksAreClosed, Words.phase_of};
 ghost use Rattle.mk_words.specs.{States.{now_of, world_of}, Steps.IsEnabledTo};
 ghost use Rattle.mk_cycle.specs.{EngineLaw.WantsFirst, Grays.{HasNoGray, MarksOn, RootsPointWell, TracesReached}};
 ghost use Rattle.mk_cycle.specs.Stops.{HolderIsLoaded, IsWanted, MayTrace, still_words};

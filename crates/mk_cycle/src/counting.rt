@@ -1,11 +1,11 @@
 //! What the words of a page say of a cycle: what was released on it, by its snapshot and marks, before that is given
 //! back; and how much of that was held.
 ghost use Rattle.std.specs.Prelude.{◌≡◌, ◌≤◌, ◌*◌, true, false, bit_and, count_ones, if◌then◌else◌};
-ghost use Rattle.mk_core.specs.{Bits.without, Cells.{is_unmapped_header, words_under}, Ranges.is_word};
+ghost use Rattle.mk_core.specs.{Words.without, Cells.{is_unmapped_header, words_under}, Conditions.is_word};
 ghost use Rattle.mk_core.specs.Words.{named_word};
-ghost use Rattle.mk_geom.specs.Headers.{header_of};
+ghost use Rattle.mk_geom.specs.Addresses.{header_of};
 ghost use Rattle.mk_words.specs.States.{now_of};
-ghost use Rattle.mk_cycle.specs.{ReleasedPages.IsOfOnePage, EngineLaw.{IsTurnAmong, is_register}};
+ghost use Rattle.mk_cycle.specs.{Freeing.IsOfOnePage, EngineLaw.{IsTurnAmong, is_register}};
 ghost use Rattle.mk_cycle.specs.Freeing.{GivesNothingBack};
 
 use crate::finishing::Released;

@@ -1,8 +1,8 @@
 //! Engines: how the marks of a cycle are made.
 ghost use Rattle.std.specs.Prelude.{◌≡◌, ℕ, false, IfOk};
 ghost use Rattle.mk_words.specs.Sweeping.{SweepsNothing};
-ghost use Rattle.mk_cycle.specs.{Begun.IsBegun, EngineLaw.{IsFreeForCycle, IsAtPhase, BeginsMarking, ClosesMarks}};
-ghost use Rattle.mk_cycle.specs.{Telling.IsToldOf, Ways.Ways};
+ghost use Rattle.mk_cycle.specs.{BeginCycle.IsBegun, EngineLaw.{IsFreeForCycle, IsAtPhase, BeginsMarking, ClosesMarks}};
+ghost use Rattle.mk_cycle.specs.{Stops.IsToldOf, EngineLaw.Ways};
 
 use mk_never::NoMemory;
 use mk_words::{Stopped, Turn, Words};

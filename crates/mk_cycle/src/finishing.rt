@@ -1,8 +1,8 @@
 //! The end of a cycle.
 ghost use Rattle.std.specs.Prelude.{◌≡◌, false};
 ghost use Rattle.mk_words.specs.Sweeping.{SweepsNothing};
-ghost use Rattle.mk_cycle.specs.{Closing.IsClosedBy, EngineLaw.{IsFreeForCycle, IsAtPhase}};
-ghost use Rattle.mk_cycle.specs.{FinishCycle.{FinishesCycle, HasReleased}, Telling.IsToldAtClose};
+ghost use Rattle.mk_cycle.specs.{Stops.IsClosedBy, EngineLaw.{IsFreeForCycle, IsAtPhase}};
+ghost use Rattle.mk_cycle.specs.{FinishCycle.{FinishesCycle, HasReleased}, Stops.IsToldAtClose};
 
 use crate::engine::Engine;
 use crate::giving::give_all_back;

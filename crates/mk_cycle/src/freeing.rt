@@ -2,7 +2,7 @@
 ghost use Rattle.std.specs.Prelude.{◌≡◌};
 ghost use Rattle.mk_core.specs.Cells.{left_unmarked};
 ghost use Rattle.mk_words.specs.States.{now_of};
-ghost use Rattle.mk_cycle.specs.{Freeing.{GivesBack, IsQuarantineWord, MayGiveBackOn}, ReleasedPages.WasReleasedOn};
+ghost use Rattle.mk_cycle.specs.Freeing.{GivesBack, IsQuarantineWord, MayGiveBackOn, WasReleasedOn};
 
 use crate::counting::{self, held_words, released_cells};
 use crate::finishing::Released;

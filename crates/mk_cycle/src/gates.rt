@@ -2,7 +2,7 @@
 ghost use Rattle.std.specs.Prelude.{◌≡◌, ◌<◌, true, false, not};
 ghost use Rattle.mk_core.specs.Moments.{is_held, is_number_of, others_are_held};
 ghost use Rattle.mk_words.specs.States.{now_of};
-ghost use Rattle.mk_cycle.specs.Holding.{HoldsGates, HoldsSuch, IsHeldOrOwn, MayHoldGate, all_others, only_gate};
+ghost use Rattle.mk_cycle.specs.Stops.{HoldsGates, HoldsSuch, IsHeldOrOwn, MayHoldGate, all_others, only_gate};
 ghost use Rattle.mk_cycle.specs.Stops.{HolderIsLoaded};
 
 use crossbeam_utils::Backoff;

@@ -1,11 +1,11 @@
 //! The stop of a cycle, and what comes after it up to the `end`.
 ghost use Rattle.std.specs.Prelude.{◌≡◌, true};
 ghost use Rattle.mk_core.specs.Moments.{none_is_held};
-ghost use Rattle.mk_words.specs.Doing.{Does};
-ghost use Rattle.mk_words.specs.{Opening.is_open, States.now_of};
-ghost use Rattle.mk_cycle.specs.{Closing.ClosesAsPromised, EngineLaw.{IsFreeForCycle, IsAtPhase}};
+ghost use Rattle.mk_words.specs.Steps.{Does};
+ghost use Rattle.mk_words.specs.{Steps.is_open, States.now_of};
+ghost use Rattle.mk_cycle.specs.{Stops.ClosesAsPromised, EngineLaw.{IsFreeForCycle, IsAtPhase}};
 ghost use Rattle.mk_cycle.specs.{FinishCycle.{HasReleased, HoldsFewer}, Freeing.GivesNothingBack};
-ghost use Rattle.mk_cycle.specs.GivingAll.{GivesAllBack};
+ghost use Rattle.mk_cycle.specs.Freeing.{GivesAllBack};
 
 use crate::engine::Engine;
 use crate::gates::hold_gates;

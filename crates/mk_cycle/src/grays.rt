@@ -1,9 +1,9 @@
 //! The search for gray cells: marked, and not black.
 ghost use Rattle.std.specs.Prelude.{◌≡◌, ℕ, ◌<◌, ◌≤◌, true, false, [], IfSome, IfNone, slice_index};
-ghost use Rattle.mk_geom.specs.Headers.{header_of};
-ghost use Rattle.mk_core.specs.{Bits.has_bit, Cells.cells_under};
+ghost use Rattle.mk_geom.specs.Addresses.{header_of};
+ghost use Rattle.mk_core.specs.{Words.has_bit, Cells.cells_under};
 ghost use Rattle.mk_cycle.specs.{Grays.{HasNoGray, LooksOn, gray_bits, is_black}, Stops.{MayTrace, still_words}};
-ghost use Rattle.mk_cycle.specs.Noted.{AreNoted, IsGrayNoted, IsNoted, listed, with_last};
+ghost use Rattle.mk_cycle.specs.Grays.{AreNoted, IsGrayNoted, IsNoted, listed, with_last};
 
 use crate::noted::Noted;
 use crate::stepping::look_at;

@@ -1,8 +1,8 @@
 //! The engine that marks beside the callers, and then in the stop what is left.
 ghost use Rattle.std.specs.Prelude.{◌≡◌, true, false, ⊤};
-ghost use Rattle.mk_cycle.specs.{Begun.IsBegun, EngineLaw.{IsFreeForCycle, IsAtPhase, BeginsMarking, ClosesMarks}};
+ghost use Rattle.mk_cycle.specs.{BeginCycle.IsBegun, EngineLaw.{IsFreeForCycle, IsAtPhase, BeginsMarking, ClosesMarks}};
 ghost use Rattle.mk_words.specs.Sweeping.{SweepsNothing};
-ghost use Rattle.mk_cycle.specs.{Grays.TracesReached, Tracing.{Traces, is_tracing}, Roots.MarksRoots};
+ghost use Rattle.mk_cycle.specs.{Grays.TracesReached, Tracing.{Traces, is_tracing}, Beside.MarksRoots};
 
 use crate::engine::Engine;
 use crate::roots_beside::mark_roots;

@@ -1,7 +1,7 @@
 //! What is noted of a marked cell: what follows from its page's header word, which is looked at once.
 ghost use Rattle.std.specs.Prelude.{◌≡◌, ◌<◌, ◌≤◌, ◌+◌, Some, None, IfSome, IfNone};
 ghost use Rattle.mk_core.specs.Cells.{cells_under, words_scanned};
-ghost use Rattle.mk_geom.specs.{Addresses.cell_of_block, Headers.header_of};
+ghost use Rattle.mk_geom.specs.Addresses.{cell_of_block, header_of};
 
 use mk_core::{cells_under, words_scanned};
 use mk_geom::{Cell, class_words, index_in_block};

@@ -2,7 +2,7 @@
 ghost use Rattle.std.specs.Prelude.{◌≡◌, ◌≢◌, ◌<◌, Some, true};
 ghost use Rattle.mk_core.specs.{Cells.{is_marked, points_well}, Words.header_at};
 ghost use Rattle.mk_geom.specs.Addresses.{is_heap_address, page_at_address};
-ghost use Rattle.mk_cycle.specs.{Grays.{IsGray, IsInHand}, Noted.{IsAmong, listed, with_last}, Scans.MarksAndNotes};
+ghost use Rattle.mk_cycle.specs.Grays.{IsGray, IsInHand, IsAmong, listed, with_last, MarksAndNotes};
 ghost use Rattle.mk_cycle.specs.Stops.{MayTrace, still_words};
 
 use crate::noted::Noted;

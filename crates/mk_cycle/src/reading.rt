@@ -2,9 +2,9 @@
 //! page.
 ghost use Rattle.std.specs.Prelude.{◌≡◌, ◌+◌, ◌*◌, ◌≤◌};
 ghost use Rattle.mk_core.specs.{Cells.{is_unmapped_header, words_under}, Counts.in_a_word};
-ghost use Rattle.mk_geom.specs.{Addresses.head_page_under, Headers.header_of};
-ghost use Rattle.mk_words.specs.Below.Laws.RunCounts.{run_count};
-ghost use Rattle.mk_cycle.specs.ReadHeaders.{heads_unmapped_pages};
+ghost use Rattle.mk_geom.specs.Addresses.{head_page_under, header_of};
+ghost use Rattle.mk_words.specs.Below.Laws.Theorems.{run_count};
+ghost use Rattle.mk_cycle.specs.Freeing.{heads_unmapped_pages};
 
 use mk_geom::{Header, PAGE_WORDS, class_words, decode};
 use std::marker::Model;
@@ -25,7 +25,7 @@ impl Model for ReadHeader {
 
     ghost Value = { ℕ };
 
-    ghost use Rattle.mk_cycle.specs.ReadHeaders.{IsRight};
+    ghost use Rattle.mk_cycle.specs.Freeing.{IsRight};
 
     ghost view = { λ h. h.word };
 

@@ -1,9 +1,9 @@
 //! The stop of a cycle: the marks are closed, and what is unmarked is released.
 ghost use Rattle.std.specs.Prelude.{◌≡◌, ℕ};
 ghost use Rattle.mk_words.specs.States.{now_of};
-ghost use Rattle.mk_cycle.specs.{Closing.ClosesAsPromised, ReleasedPages.{held_below, released_below}};
+ghost use Rattle.mk_cycle.specs.{Stops.ClosesAsPromised, Freeing.{held_below, released_below}};
 ghost use Rattle.mk_cycle.specs.{FinishCycle.{HasReleased, HoldsFewer}, Freeing.{HasFreeCells, IsOccupied}};
-ghost use Rattle.mk_cycle.specs.{EngineLaw.{IsFreeForCycle, IsAtPhase}, Releasing.ReleasesUnmarked};
+ghost use Rattle.mk_cycle.specs.{EngineLaw.{IsFreeForCycle, IsAtPhase}, FinishCycle.ReleasesUnmarked};
 
 use crate::engine::Engine;
 use mk_words::{Stopped, Words};

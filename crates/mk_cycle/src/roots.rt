@@ -1,8 +1,8 @@
 //! Marks from the roots: the registers and the globals.
 ghost use Rattle.std.specs.Prelude.{◌≡◌, ℕ, ◌+◌, ◌<◌, ◌≤◌, true, slice_index};
-ghost use Rattle.mk_core.specs.{Cells.points_well, Ranges.is_word, Words.named_word};
-ghost use Rattle.mk_cycle.specs.{Grays.{GlobalIsWell, LooksOn, RegistersAreWell, RootsPointWell}, Noted.listed};
-ghost use Rattle.mk_cycle.specs.{Scans.MarksAndNotes, Stops.{MayTrace, is_root, still_words}};
+ghost use Rattle.mk_core.specs.{Cells.points_well, Conditions.is_word, Words.named_word};
+ghost use Rattle.mk_cycle.specs.Grays.{GlobalIsWell, LooksOn, RegistersAreWell, RootsPointWell, listed};
+ghost use Rattle.mk_cycle.specs.{Grays.MarksAndNotes, Stops.{MayTrace, is_root, still_words}};
 
 use crate::noting::mark_address;
 use crate::stepping::look_at_root;

@@ -1,10 +1,10 @@
 //! Marks from the roots beside the callers: their registers, and the globals. What a root points into is marked before
 //! the next one is looked at.
 ghost use Rattle.std.specs.Prelude.{◌≡◌, ◌<◌, ℕ, true, false};
-ghost use Rattle.mk_core.specs.Ranges.{is_word};
-ghost use Rattle.mk_cycle.specs.{Begun.IsBegun, Holding.IsHeldOrOwn, TurnKeeps.KeepsGates};
+ghost use Rattle.mk_core.specs.Conditions.{is_word};
+ghost use Rattle.mk_cycle.specs.{BeginCycle.IsBegun, Stops.IsHeldOrOwn, TurnKeeps.KeepsGates};
 ghost use Rattle.mk_cycle.specs.{Stops.is_root, Beside.{GoesBeside, IsBeside, IsOpenToLook, LooksAt, MaySetGate}};
-ghost use Rattle.mk_cycle.specs.Roots.{MarksRoots};
+ghost use Rattle.mk_cycle.specs.Beside.{MarksRoots};
 ghost use Rattle.mk_core.specs.declared.events.Word.TheVariants as word;
 
 use crate::roots::{GLOBALS, REGISTERS};

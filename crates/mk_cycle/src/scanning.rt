@@ -2,7 +2,7 @@
 //! numbers, so those of a group are looked at together first.
 ghost use Rattle.std.specs.Prelude.{◌≡◌, ℕ, ◌+◌, ◌*◌, ◌/◌, ◌<◌, ◌≤◌, min, true, Some, slice_index};
 ghost use Rattle.mk_core.specs.Cells.{first_word, words_point_well};
-ghost use Rattle.mk_cycle.specs.{Grays.LooksOn, Noted.{IsDue, listed, with_last}, Scans.{MarksAndNotes, Scans}};
+ghost use Rattle.mk_cycle.specs.Grays.{LooksOn, IsDue, listed, with_last, MarksAndNotes, Scans};
 ghost use Rattle.mk_cycle.specs.Stops.{MayTrace, still_words};
 
 use crate::noted::Noted;

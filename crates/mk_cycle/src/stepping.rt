@@ -1,9 +1,9 @@
 //! Steps in the stop, when the close is wanted and no marker attends.
 ghost use Rattle.std.specs.Prelude.{◌≡◌, ◌/◌, ◌≢◌, ◌+◌, ◌<◌, ◌^◌, true, slice_index};
-ghost use Rattle.mk_core.specs.{Cells.{first_word, head_page}, Ranges.is_word};
-ghost use Rattle.mk_core.specs.{StopConditions.may_turn_black, Words.named_word};
+ghost use Rattle.mk_core.specs.{Cells.{first_word, head_page}, Conditions.is_word};
+ghost use Rattle.mk_core.specs.{MarkingConditions.may_turn_black, Words.named_word};
 ghost use Rattle.mk_cycle.specs.Grays.{with_marks, with_blacks, without_blacks, without_dirty, HasDirtyPart, IsInHand};
-ghost use Rattle.mk_cycle.specs.{Grays.{HandPointsInto, MarksOn, LooksOn}, Noted.IsDue, Stops.{MayTrace, hand_of}};
+ghost use Rattle.mk_cycle.specs.{Grays.{HandPointsInto, MarksOn, LooksOn, IsDue}, Stops.{MayTrace, hand_of}};
 ghost use Rattle.mk_cycle.specs.Stops.{is_page_word, is_root, still_words};
 
 use crate::noted::Noted;

@@ -1,6 +1,6 @@
 //! Steps of a turn while a cycle marks, beside callers and markers.
 ghost use Rattle.std.specs.Prelude.{◌≡◌, true, false, not};
-ghost use Rattle.mk_core.specs.{Cells.is_marked, Moments.is_held, Ranges.is_word, Words.named_word};
+ghost use Rattle.mk_core.specs.{Cells.is_marked, Moments.is_held, Conditions.is_word, Words.named_word};
 ghost use Rattle.mk_words.specs.States.{now_of};
 ghost use Rattle.mk_cycle.specs.TurnKeeps.{KeepsGates};
 ghost use Rattle.mk_cycle.specs.{Grays.{IsInHand, HandPointsInto}, Stops.{hand_of, is_root}};

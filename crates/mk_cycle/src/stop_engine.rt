@@ -1,6 +1,7 @@
 //! The engine that makes all marks in the stop.
 ghost use Rattle.std.specs.Prelude.{◌≡◌, false, ⊤};
-ghost use Rattle.mk_cycle.specs.{Begun.{DoesNothing, IsBegun}, EngineLaw.{IsFreeForCycle, IsAtPhase, BeginsMarking}};
+ghost use Rattle.mk_cycle.specs.BeginCycle.{DoesNothing, IsBegun};
+ghost use Rattle.mk_cycle.specs.EngineLaw.{IsFreeForCycle, IsAtPhase, BeginsMarking};
 ghost use Rattle.mk_cycle.specs.EngineLaw.{ClosesMarks};
 ghost use Rattle.mk_words.specs.Sweeping.{SweepsNothing};
 ghost use Rattle.mk_cycle.specs.{Grays.TracesReached, Tracing.{Traces, is_tracing}};

@@ -1,9 +1,9 @@
 //! The tallies are set when a cycle has ended.
 ghost use Rattle.std.specs.Prelude.{◌≡◌, ◌+◌, ◌-◌, true, false};
-ghost use Rattle.mk_core.specs.{Accesses.tally_word, Counts.in_a_word, Ranges.is_word, Words.named_word};
+ghost use Rattle.mk_core.specs.{Accesses.tally_word, Counts.in_a_word, Conditions.is_word, Words.named_word};
 ghost use Rattle.mk_words.specs.States.{now_of};
-ghost use Rattle.mk_cycle.specs.{EngineLaw.{IsFreeForCycle, is_register}, Tallying.{Sets, with_cycle_counted}};
-ghost use Rattle.mk_cycle.specs.{Tallying.with_tally, TurnKeeps.unchanged};
+ghost use Rattle.mk_cycle.specs.{EngineLaw.{IsFreeForCycle, is_register}, FinishCycle.{Sets, with_cycle_counted}};
+ghost use Rattle.mk_cycle.specs.{FinishCycle.with_tally, TurnKeeps.unchanged};
 
 use crate::turn_steps::look_among;
 use mk_core::{Tally, Word};

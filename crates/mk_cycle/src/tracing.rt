@@ -1,8 +1,8 @@
 //! Tracing: every marked cell is scanned and blackened.
 ghost use Rattle.std.specs.Prelude.{◌≡◌, ℕ, ◌<◌, true, Some};
-ghost use Rattle.mk_core.specs.StopConditions.{may_turn_black};
-ghost use Rattle.mk_cycle.specs.{Grays.{BlackensOne, ColoursMore, HasNoGray, MarksOn}, Scans.MarksAndNotes};
-ghost use Rattle.mk_cycle.specs.{Noted.{AreNoted, IsGrayNoted, listed, with_last}, Stops.{MayTrace, still_words}};
+ghost use Rattle.mk_core.specs.MarkingConditions.{may_turn_black};
+ghost use Rattle.mk_cycle.specs.Grays.{BlackensOne, ColoursMore, HasNoGray, MarksOn, MarksAndNotes};
+ghost use Rattle.mk_cycle.specs.{Grays.{AreNoted, IsGrayNoted, listed, with_last}, Stops.{MayTrace, still_words}};
 
 use crate::grays::next_gray;
 use crate::noted::Noted;

@@ -1,6 +1,6 @@
 //! Looks of a turn that is free for a cycle.
 ghost use Rattle.std.specs.Prelude.{◌≡◌, true, false};
-ghost use Rattle.mk_core.specs.{Ranges.is_word, Words.named_word};
+ghost use Rattle.mk_core.specs.{Conditions.is_word, Words.named_word};
 ghost use Rattle.mk_words.specs.{States.now_of, TurnSteps.Acts};
 ghost use Rattle.mk_cycle.specs.EngineLaw.{IsFreeForCycle, is_register};
 ghost use Rattle.mk_core.specs.declared.events.Step.TheVariants as step;

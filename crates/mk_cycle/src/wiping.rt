@@ -1,7 +1,7 @@
 //! Released cells are wiped: their words are looked at, in a table of this many pages, and what isn't 0 is stored to.
 ghost use Rattle.std.specs.Prelude.{◌≡◌, ◌<◌, ◌≤◌, ◌+◌, ◌*◌, ◌/◌, ℕ, true, slice_index};
-ghost use Rattle.mk_core.specs.{Bits.has_bit, Cells.words_under};
-ghost use Rattle.mk_geom.specs.Headers.{header_of};
+ghost use Rattle.mk_core.specs.{Words.has_bit, Cells.words_under};
+ghost use Rattle.mk_geom.specs.Addresses.{header_of};
 ghost use Rattle.mk_words.specs.States.{now_of};
 ghost use Rattle.mk_cycle.specs.EngineLaw.{IsTurnAmong};
 ghost use Rattle.mk_cycle.specs.Freeing.{AreFreeCells, GivesNothingBack, IsUnmappedWord, IsZero};

@@ -16,7 +16,7 @@ pub struct Worklist {
 }
 
 impl Worklist {
-    ghost use Rattle.mk_cycle.specs.Noted.{Adds, listed, with_last};
+    ghost use Rattle.mk_cycle.specs.Grays.{Adds, listed, with_last};
 
     /// An empty list for a heap of this many pages, with all the room that it ever has.
     pub fn new(alloc: Global, pages: u64) -> Result<Worklist, NoMemory>

@@ -1,20 +1,20 @@
 -- What pages show is what the storages say that stand on them.
 use Rattle.std.proofs.Common.{Bool, List, Option, Some, ℕ, ap, arith, inl, inr, length, refl, slice_index_or, subst}
 use Rattle.std.proofs.{Common.{sym, true, ◌-◌, ◌/◌, ◌<◌, ◌∙◌, ◌≡◌, ◌≤◌}, lemmas.Bool.{and_parts, cases_Bool}}
-use Rattle.std.proofs.{lemmas.Bool.{cond-false, cond-true}, lemmas.List.{get_or-map, length-map, same_lists}}
+use Rattle.std.proofs.lemmas.{Bool.{cond-false, cond-true}, List.{get_or-map, length-map, same_lists}}
 use Rattle.std.proofs.lemmas.List.FromFn.{get_or-map-range_with_len, length-map-range_with_len}
 use Rattle.std.proofs.lemmas.List.Elements.{All-contains}
 use Rattle.mk_geom.proofs.Standing.{class_of_cell, large_is_run, small_is_cell, stands_parts}
 use Rattle.mk_geom.{proofs.{HeaderLemmas.header_of-word_of, ListSearch.find_cases}, specs.declared.pages.Page.{Page}}
 use Rattle.mk_geom.proofs.{StoredWords.{words_by_large, words_by_small}, TakenCells.length-taken_cells}
 use Rattle.mk_geom.proofs.UsedWords.{bits_of-used_word}
-use Rattle.mk_geom.specs.{Headers.{IsHeaderWord, IsInRange, word_of}, PageUses.{Cells, PageUse, PartOfRun}}
-use Rattle.mk_geom.specs.{PageUses.{census_among, place_on_uses}, PageWords.{HaveHeaderWords, bits_of, use_of_page}}
-use Rattle.mk_geom.specs.{PageWords.{use_under, uses_of_pages}, Storages.{AreLaidOut, IsRun, IsStorage, PagesStandFor}}
+use Rattle.mk_geom.specs.{Addresses.{IsHeaderWord, IsInRange, word_of}, PageUses.{Cells, PageUse, PartOfRun}}
+use Rattle.mk_geom.specs.PageUses.{census_among, place_on_uses, HaveHeaderWords, bits_of, use_of_page}
+use Rattle.mk_geom.specs.{PageUses.{use_under, uses_of_pages}, Storages.{AreLaidOut, IsRun, IsStorage, PagesStandFor}}
 use Rattle.mk_geom.specs.Storages.{Storage, block_header, block_page, census_of, class_of_storage, first_page}
 use Rattle.mk_geom.specs.Storages.{free_page, is_small, place_among_storages, run_header, run_page, run_used, stands_on}
 use Rattle.mk_geom.specs.Storages.{taken_cells, use_by, use_of_storages, used_word, uses_of_storages, words_by}
-use Rattle.mk_geom.specs.{Storages.words_of_storages, Classes.cells_of, declared.headers.Header.Header}
+use Rattle.mk_geom.specs.{Storages.words_of_storages, Addresses.cells_of, declared.headers.Header.Header}
 
 -- a page whose header word is one, and what it shows
 abbrev pub Shows : Page → PageUse → Type 0

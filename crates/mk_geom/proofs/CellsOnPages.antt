@@ -1,20 +1,20 @@
 -- What values point into on pages that stand for storages: their cells, and nothing else that is taken.
 use Rattle.std.proofs.Common.{Contains, List, Some, ℕ, ap, arith, false, inl, inr, leb-true, length, ltb-true, nat_lt}
 use Rattle.std.proofs.Common.{refl, subst, sym, true, ◌%◌, ◌*◌, ◌+◌, ◌/◌, ◌<◌, ◌==◌, ◌↔◌, ◌∙◌, ◌≡◌, ◌≤◌, ◌⊎◌}
-use Rattle.std.proofs.{lemmas.Bool.{and_parts, cases_Bool, cond-false, cond-true}, lemmas.Option.{cond_some, none-some}}
+use Rattle.std.proofs.lemmas.{Bool.{and_parts, cases_Bool, cond-false, cond-true}, Option.{cond_some, none-some}}
 use Rattle.std.{proofs.{lemmas.Option.same_Some, lemmas.Nat.{div_below, mod_below}}, specs.Int.{bit_at}}
 use Rattle.mk_geom.proofs.{ClassTable.{cell_ends, class_words_within}, PointedCells.{cell_first, cell_from_first}}
 use Rattle.mk_geom.proofs.PointedCells.{cell_index, class_has_words, large_cell_of, large_lookup, looked_up}
 use Rattle.mk_geom.proofs.PointedCells.{points_into_cell, small_cell_of, small_lookup, stands_at_address}
 use Rattle.mk_geom.proofs.Standing.{AreAlike, class_of_cell, has_words, large_is_run, same_or_alike, same_or_apart}
 use Rattle.mk_geom.proofs.Standing.{small_is_cell, stands_at_first, stands_parts, storage_in}
-use Rattle.mk_geom.{proofs.StoredWords.{words_at, words_by_large, words_by_small}, proofs.UsedWords.{bit_at-used_word}}
+use Rattle.mk_geom.proofs.{StoredWords.{words_at, words_by_large, words_by_small}, UsedWords.bit_at-used_word}
 use Rattle.mk_geom.proofs.{TakenCells.{cell_taken_by, get_or-taken_cells, length-taken_cells}, ListSearch.find_cases}
-use Rattle.mk_geom.specs.StorageWords.{PointsInto, ShowsStorage, cell_of_storage, cell_on, page_in}
+use Rattle.mk_geom.specs.Storages.{PointsInto, ShowsStorage, cell_of_storage, cell_on, page_in}
 use Rattle.mk_geom.specs.Storages.{AreLaidOut, IsStorage, PagesStandFor, Storage, class_of_storage, first_page}
 use Rattle.mk_geom.specs.Storages.{free_page, is_cell_taken, is_small, stands_on, taken_cells, used_word, words_by}
-use Rattle.mk_geom.specs.{Addresses.{cell_at, page_at_address, word_at_address}, Classes.{cells_of, class_words_of}}
-use Rattle.mk_geom.specs.{declared.addresses.Cell.Cell, declared.pages.Page.Page}
+use Rattle.mk_geom.specs.Addresses.{cell_at, page_at_address, word_at_address, cells_of, class_words_of}
+use Rattle.mk_geom.specs.declared.{addresses.Cell.Cell, pages.Page.Page}
 
 -- a value that points into a cell is an address of a page of the heap
 pub is_address : (pages header u : ℕ) (k : Cell) → cell_at pages header u ≡ Some k

@@ -1,9 +1,9 @@
 -- The classes, one by one, and the cells of a page.
 use Rattle.std.proofs.Common.{List, None, Option, Some, ℕ, ap, arith, get_or, leb-true, map, refl, slice_index, sym, []}
 use Rattle.std.proofs.{Common.{◌*◌, ◌+◌, ◌-◌, ◌/◌, ◌<◌, ◌∙◌, ◌∷◌, ◌≡◌, ◌≤◌}, lemmas.Bool.{cond-false, cond-true}}
-use Rattle.std.proofs.{lemmas.List.FromFn.get_or-map-range_with_len, lemmas.List.Quantifiers.position-Some}
+use Rattle.std.proofs.lemmas.List.{FromFn.get_or-map-range_with_len, Quantifiers.position-Some}
 use Rattle.std.{proofs.{lemmas.Nat.{le-div, mul-le}, lemmas.Option.none-some}, specs.List.{range_with_len}}
-use Rattle.mk_geom.specs.Classes.{cells_of, class_for, class_words_of}
+use Rattle.mk_geom.specs.Addresses.{cells_of, class_for, class_words_of}
 
 pub class_for-class_words_of : (class : ℕ) → class < 8 → class_for (class_words_of class) ≡ Some class
 class_for-class_words_of x0 known = grind arith

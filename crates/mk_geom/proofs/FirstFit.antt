@@ -3,15 +3,15 @@ use Rattle.std.proofs.Common.{Bool, List, None, Option, Some, ℕ, add-one, ap, 
 use Rattle.std.proofs.Common.{if◌then◌else◌, inl, inr, le-leb, leb-true, length, ltb-true, nat_le, nat_lt, not}
 use Rattle.std.proofs.Common.{option_map, refl, slice_get, subst, suc, sym, true, zero, [], ◌+◌, ◌<◌, ◌∙◌, ◌∷◌, ◌≡◌}
 use Rattle.std.proofs.{Common.{◌≤◌, ◌⊎◌}, lemmas.Bool.{and_parts, cases_Bool, cond-false, cond-true, cond_both}}
-use Rattle.std.proofs.{lemmas.Bool.{false≢true, lt-leb, not-true}, lemmas.Option.{none-some, same_Some, slice_get-map}}
+use Rattle.std.proofs.lemmas.{Bool.{false≢true, lt-leb, not-true}, Option.{none-some, same_Some, slice_get-map}}
 use Rattle.std.{proofs.lemmas.List.{get_or-map, length-map}, specs.List.{AllWithin}}
 use Rattle.mk_geom.proofs.{ClassTable.{class_for-some, class_words_within, some_cells}, Bridge.same_places}
-use Rattle.mk_geom.specs.{Classes.{cells_of, class_for, run_pages_of}, PageUses.{Cells, Nothing, PageUse, PartOfRun}}
+use Rattle.mk_geom.specs.{Addresses.{cells_of, class_for, run_pages_of}, PageUses.{Cells, Nothing, PageUse, PartOfRun}}
 use Rattle.mk_geom.specs.PageUses.{carved, cell_place, cells_taken, first_where, free_range, is_free_page, large_place}
 use Rattle.mk_geom.specs.PageUses.{or_else, page_behind, place_on_uses, range_start, resident_pages, small_place}
-use Rattle.mk_geom.specs.Places.{AreFree, IsCellPlace, IsRunPlace, MayTakeCell}
-use Rattle.mk_geom.specs.{PageWords.{use_of_page, uses_of_pages}, Storages.{PagesStandFor, Storage}}
-use Rattle.mk_geom.specs.{Storages.place_among_storages, declared.pages.Page.Page, declared.pages.Place.Place}
+use Rattle.mk_geom.specs.PageUses.{AreFree, IsCellPlace, IsRunPlace, MayTakeCell}
+use Rattle.mk_geom.specs.{PageUses.{use_of_page, uses_of_pages}, Storages.{PagesStandFor, Storage}}
+use Rattle.mk_geom.specs.{Storages.place_among_storages, declared.pages.{Page.Page, Place.Place}}
 
 or_else_cases : {A : Type 0} (o p : Option A) (x : A) → or_else o p ≡ Some x → (o ≡ Some x) ⊎ (p ≡ Some x)
 or_else_cases x0 p x is = grind arith

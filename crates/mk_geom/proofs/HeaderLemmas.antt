@@ -1,7 +1,7 @@
 -- The header words and the headers that are in range are the same.
 use Rattle.std.proofs.{Common.{Some, ℕ, arith, false, true, ◌≡◌}, lemmas.Grind.common_steps}
 use Rattle.mk_geom.specs.declared.headers.Header.TheVariants.{Block, Free, Later, LeafBlock, LeafRun, Run}
-use Rattle.mk_geom.specs.{Headers.{IsInRange, header_of, word_of}, declared.headers.Header.Header}
+use Rattle.mk_geom.specs.{Addresses.{IsInRange, header_of, word_of}, declared.headers.Header.Header}
 
 pub header_of-word_of : (h : Header) → IsInRange h → header_of (word_of h) ≡ Some h
 header_of-word_of Free in_range = grind (arith, common_steps)

@@ -2,7 +2,7 @@
 use Rattle.std.proofs.Common.{Bool, Contains, List, Option, Some, ℕ, ap, arith, cond, false, find, get_or}
 use Rattle.std.proofs.Common.{if◌then◌else◌, inl, inr, length, ne_eqb, refl, set, subst, suc, sym, true, [], ◌*◌, ◌+◌}
 use Rattle.std.proofs.{Common.{◌<◌, ◌∙◌, ◌∷◌, ◌≡◌, ◌≢◌, ◌≤◌}, lemmas.Bool.{cases_Bool, cond-false, cond-true}}
-use Rattle.std.proofs.{lemmas.Bool.{false_from_ne_true, false≢true}, lemmas.List.Elements.{All-head, All-tail}}
+use Rattle.std.proofs.lemmas.{Bool.{false_from_ne_true, false≢true}, List.Elements.{All-head, All-tail}}
 use Rattle.std.{proofs.lemmas.List.Sums.{sum_by-cons, sum_by-set}, specs.List.{count_by}}
 use Rattle.mk_geom.proofs.{Bridge.same_uses, ListSearch.{Contains-head, Contains-tail, find_cases}}
 use Rattle.mk_geom.proofs.PageSums.{sum_below, sum_below-add, sum_below-block, sum_below-zero, sum_by-range}
@@ -11,11 +11,11 @@ use Rattle.mk_geom.proofs.Standing.{stands_from, stands_parts, storage_in}
 use Rattle.mk_geom.proofs.TakenCells.{cell_taken_by, cell_taken_from, get_or-taken_cells, length-taken_cells}
 use Rattle.mk_geom.proofs.TakenCells.{none_taken, same_index, taken_cells-set, taken_same}
 use Rattle.mk_geom.proofs.{ClassTable.class_words_within, PointedCells.{class_has_words, first_in_page}}
-use Rattle.mk_geom.specs.{Classes.{cells_of, class_words_of}, PageUses.{Cells, PageUse, PartOfRun, held_by_use}}
+use Rattle.mk_geom.specs.{Addresses.{cells_of, class_words_of}, PageUses.{Cells, PageUse, PartOfRun, held_by_use}}
 use Rattle.mk_geom.specs.{PageUses.held_by_uses, Storages.{AreLaidOut, IsCell, IsStorage, LieApart, PagesStandFor}}
 use Rattle.mk_geom.specs.Storages.{Storage, class_of_storage, first_page, is_cell_taken, is_small, last_page, stands_on}
-use Rattle.mk_geom.specs.{Storages.{taken_cells, use_by, use_of_storages}, PageWords.uses_of_pages}
-use Rattle.mk_geom.specs.{StorageWords.held_by_storages, declared.pages.Page.Page}
+use Rattle.mk_geom.specs.{Storages.{taken_cells, use_by, use_of_storages}, PageUses.uses_of_pages}
+use Rattle.mk_geom.specs.{Storages.held_by_storages, declared.pages.Page.Page}
 
 -- the words of a storage that are on one page, if it is mapped
 abbrev pub words_there : Storage → ℕ

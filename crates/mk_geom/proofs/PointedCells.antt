@@ -1,15 +1,15 @@
 -- What an address in a storage points into, and in which storage an address is that points into its cell.
 use Rattle.std.proofs.Common.{Bool, Option, Some, ℕ, ap, arith, false, inl, inr, le-leb, lt-ltb, sym, true, ◌%◌, ◌*◌}
 use Rattle.std.proofs.{Common.{◌+◌, ◌-◌, ◌/◌, ◌<◌, ◌↔◌, ◌∙◌, ◌≡◌, ◌≤◌}, lemmas.Bool.{and_from, cases_Bool, cond-false}}
-use Rattle.std.proofs.{lemmas.Bool.{cond-true, lt-leb}, lemmas.Nat.{div-mul-add, mul-le}}
+use Rattle.std.proofs.lemmas.{Bool.{cond-true, lt-leb}, Nat.{div-mul-add, mul-le}}
 use Rattle.mk_geom.proofs.{Bridge.{block_in_range, run_in_range, run_near}, Standing.{cell_stands_at, class_of_cell}}
 use Rattle.mk_geom.proofs.Standing.{class_of_words, has_words, large_is_run, small_is_cell, stands_from, stands_parts}
 use Rattle.mk_geom.proofs.{ClassTable.{cell_ends, class_words_within}, HeaderLemmas.header_of-word_of}
 use Rattle.mk_geom.specs.Addresses.{address_of, cell_at, cell_of_block, cell_under, page_at_address, word_at_address}
-use Rattle.mk_geom.specs.{Headers.{header_of, word_of}, StorageWords.{IsWordOf, PointsInto, ShowsStorage}}
-use Rattle.mk_geom.specs.{StorageWords.cell_of_storage, Storages.{IsCell, IsStorage, Storage, block_header}}
+use Rattle.mk_geom.specs.{Addresses.{header_of, word_of}, Storages.{IsWordOf, PointsInto, ShowsStorage}}
+use Rattle.mk_geom.specs.Storages.{cell_of_storage, IsCell, IsStorage, Storage, block_header}
 use Rattle.mk_geom.specs.Storages.{class_of_storage, first_page, is_small, run_header, stands_on}
-use Rattle.mk_geom.specs.{Classes.class_words_of, declared.addresses.Cell.Cell, declared.headers.Header.Header}
+use Rattle.mk_geom.specs.{Addresses.class_words_of, declared.{addresses.Cell.Cell, headers.Header.Header}}
 
 -- a heap address whose page has this header
 pub looked_up : (pages header u : ℕ) (h : Header) → 65536 ≤ u → page_at_address u < pages → header_of header ≡ Some h

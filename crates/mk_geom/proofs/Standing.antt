@@ -1,11 +1,11 @@
 -- Which pages a storage stands on, and what two storages on one page share.
 use Rattle.std.proofs.Common.{Contains, List, ℕ, ap, arith, false, get_or, inl, inr, le-leb, leb-true, refl, subst, sym}
 use Rattle.std.proofs.{Common.{true, ◌%◌, ◌+◌, ◌-◌, ◌/◌, ◌<◌, ◌∙◌, ◌≡◌, ◌≤◌, ◌⊎◌}, lemmas.Bool.{and_from, and_parts}}
-use Rattle.std.proofs.{lemmas.Bool.{cases_eq, false≢true, lt-leb}, lemmas.List.get_or_default}
+use Rattle.std.proofs.lemmas.{Bool.{cases_eq, false≢true, lt-leb}, List.get_or_default}
 use Rattle.std.proofs.lemmas.List.Elements.{All-contains}
 use Rattle.mk_geom.proofs.ClassTable.{cell_ends, class_for-class_words_of, class_words_within}
 use Rattle.mk_geom.specs.Storages.{AreLaidOut, IsCell, IsRun, IsStorage, LieApart, Storage, class_of_storage, is_small}
-use Rattle.mk_geom.specs.{Storages.stands_on, Classes.class_words_of}
+use Rattle.mk_geom.specs.{Storages.stands_on, Addresses.class_words_of}
 
 -- a cell lies within a page
 pub cell_within : (s : Storage) → IsCell s → (1 ≤ s.words) × (s.words ≤ 32) × (s.first % 64 + s.words ≤ 64)

@@ -5,7 +5,7 @@ use Rattle.mk_geom.proofs.Standing.{class_of_words, same_or_alike, stands_at_fir
 use Rattle.mk_geom.proofs.{ClassTable.{cell_ends, class_words_within}, ListSearch.find_cases}
 use Rattle.mk_geom.specs.Storages.{AreLaidOut, Storage, block_page, class_of_storage, first_page, free_page, is_small}
 use Rattle.mk_geom.specs.Storages.{run_page, stands_on, taken_cells, used_word, words_by, words_of_storages}
-use Rattle.mk_geom.specs.Classes.{cells_of, class_words_of}
+use Rattle.mk_geom.specs.Addresses.{cells_of, class_words_of}
 
 pub words_by_small : (page : ℕ) (xs : List Storage) (s : Storage) → is_small s ≡ true → words_by xs page (Some s)
     ≡ block_page (class_of_storage s) s.leaf (used_word (taken_cells xs page (class_of_storage s)))

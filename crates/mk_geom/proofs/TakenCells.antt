@@ -3,9 +3,9 @@ use Rattle.std.proofs.Common.{All, Bool, Contains, List, ℕ, arith, eq-eqb, eqb
 use Rattle.std.proofs.Common.{get_or-set_same, inl, inr, length, length-set, set, sym, true, ◌*◌, ◌+◌, ◌<◌, ◌==◌, ◌∙◌}
 use Rattle.std.proofs.{Common.{◌≡◌, ◌≢◌, ◌≤◌}, lemmas.Bool.{cases_eq, cases_order, false_from_ne_true, false≢true}}
 use Rattle.std.proofs.lemmas.List.FromFn.{get_or-map-range_with_len, length-map-range_with_len}
-use Rattle.std.proofs.{lemmas.List.same_lists, lemmas.List.Elements.All-contains, lemmas.Nat.mul-le}
+use Rattle.std.proofs.lemmas.{List.{same_lists, Elements.All-contains}, Nat.mul-le}
 use Rattle.mk_geom.proofs.{ClassTable.{cell_ends, class_words_within}, ListSearch.{list_any_found, list_any_from}}
-use Rattle.mk_geom.{proofs.Standing.{stands_at_first}, specs.Classes.{cells_of, class_words_of}}
+use Rattle.mk_geom.{proofs.Standing.{stands_at_first}, specs.Addresses.{cells_of, class_words_of}}
 use Rattle.mk_geom.specs.Storages.{IsStorage, Storage, is_cell_taken, stands_on, taken_cells}
 
 -- each of these storages that stands on the page is one of those

@@ -2,8 +2,8 @@
 use Rattle.std.proofs.Common.{Bool, List, ℕ, ap, arith, false, get_or, length, suc, true, zero, [], ◌*◌, ◌+◌, ◌/◌, ◌<◌}
 use Rattle.std.{proofs.Common.{◌==◌, ◌∙◌, ◌∷◌, ◌≡◌}, specs.Int.{bit_at}}
 use Rattle.std.proofs.lemmas.List.FromFn.{get_or-map-range_with_len, length-map-range_with_len}
-use Rattle.std.proofs.{lemmas.List.same_lists, lemmas.Nat.Bits.{bit_at-suc, bit_at_lowest}}
-use Rattle.mk_geom.specs.{PageWords.bits_of, Storages.used_word}
+use Rattle.std.proofs.lemmas.{List.same_lists, Nat.Bits.{bit_at-suc, bit_at_lowest}}
+use Rattle.mk_geom.specs.{PageUses.bits_of, Storages.used_word}
 
 pub bit_at-used_word : (bits : List Bool) (k : ℕ) (d : Bool) → k < length bits
     → (bit_at (used_word bits) k == 1) ≡ get_or bits k d

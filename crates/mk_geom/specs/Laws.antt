@@ -1,12 +1,12 @@
 -- The laws of pages and storages. Each holds of all pages and all storages that they stand for.
 use Rattle.std.specs.Prelude.{◌≡◌, ℕ, ◌+◌, ◌*◌, ◌<◌, Bool, true, false, List, [], length, replicate, ◌==◌, ◌↔◌, Some}
 use Rattle.std.specs.{Prelude.Contains, Int.bit_at}
-use Rattle.mk_geom.specs.{declared.addresses.Cell.Cell, declared.pages.Page.Page, declared.pages.Place.Place}
-use Rattle.mk_geom.specs.{Classes.{class_words_of, cells_of, class_for, run_pages_of}, StorageWords.{cell_on, IsWordOf}}
-use Rattle.mk_geom.specs.StorageWords.{PointsInto, cell_of_storage, held_by_storages, ShowsStorage, page_in}
+use Rattle.mk_geom.specs.declared.{addresses.Cell.Cell, pages.{Page.Page, Place.Place}}
+use Rattle.mk_geom.specs.{Addresses.{class_words_of, cells_of, class_for, run_pages_of}, Storages.{cell_on, IsWordOf}}
+use Rattle.mk_geom.specs.Storages.{PointsInto, cell_of_storage, held_by_storages, ShowsStorage, page_in}
 use Rattle.mk_geom.specs.{Addresses.{address_of, page_at_address, cell_at}, PageUses.{place_on_uses, held_by_uses}}
-use Rattle.mk_geom.specs.{PageUses.census_among, PageWords.{uses_of_pages, HaveHeaderWords}}
-use Rattle.mk_geom.specs.{Places.{IsCellPlace, IsRunPlace}, Storages.{Storage, stands_on, uses_of_storages}}
+use Rattle.mk_geom.specs.PageUses.{census_among, uses_of_pages, HaveHeaderWords}
+use Rattle.mk_geom.specs.{PageUses.{IsCellPlace, IsRunPlace}, Storages.{Storage, stands_on, uses_of_storages}}
 use Rattle.mk_geom.specs.Storages.{place_among_storages, census_of, taken_cells, used_word, free_page, block_page}
 use Rattle.mk_geom.specs.Storages.{run_page, words_of_storages, IsStorage, AreLaidOut, PagesStandFor}
 

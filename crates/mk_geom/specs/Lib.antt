@@ -1,9 +1,4 @@
-pub mod Classes
-pub mod Headers
-pub mod PageUses
-pub mod PageWords
-pub mod Storages
 pub mod Addresses
-pub mod StorageWords
-pub mod Places
 pub mod Laws
+pub mod PageUses
+pub mod Storages

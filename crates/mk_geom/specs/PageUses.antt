@@ -1,9 +1,11 @@
--- What stands on the pages of a heap, where an object goes by first fit, and the counts.
+-- What stands on the pages of a heap, by a list or by their words, and where an object goes by first fit.
 use Rattle.std.specs.Prelude.{ℕ, ◌+◌, ◌*◌, max, Bool, true, false, not, ◌&&◌, ◌==◌, nat_le, nat_lt, if◌then◌else◌, List}
 use Rattle.std.specs.Prelude.{[], ◌∷◌, ◌++◌, map, sum_by, count_by, Option, Some, None, option_map, option_and_then}
-use Rattle.std.specs.List.{range_with_len}
-use Rattle.mk_geom.specs.{declared.pages.Place.Place, declared.pages.Census.Census, Classes.{class_for, class_words_of}}
-use Rattle.mk_geom.specs.Classes.{is_small_size, run_pages_of}
+use Rattle.std.specs.{Prelude.{All, ◌≡◌, ◌<◌, ◌≤◌, length, slice_get}, List.{range_with_len, AllWithin}, Int.bit_at}
+use Rattle.mk_geom.specs.Addresses.{class_for, class_words_of, is_small_size, run_pages_of, header_of, IsHeaderWord}
+use Rattle.mk_geom.specs.{Addresses.cells_of, declared.headers.Header.Header}
+use Rattle.mk_geom.specs.declared.headers.Header.TheVariants.{Free, Block, Run, Later, LeafBlock, LeafRun}
+use Rattle.mk_geom.specs.declared.pages.{Census.Census, Page.Page, Place.Place}
 
 -- What stands on a page: nothing, cells of one class and sort, of which these are taken, or a part of a run.
 pub data PageUse : Type 0 where
@@ -119,3 +121,58 @@ census_among pages = record {
   free_cells = map (free_cells_among false pages) (range_with_len 0 8) ++ map (free_cells_among true pages)
       (range_with_len 0 8);
 }
+
+-- the low bits of a used word, one a cell
+abbrev pub bits_of : ℕ → ℕ → List Bool
+bits_of count used = map (λ k. bit_at used k == 1) (range_with_len 0 count)
+
+-- A page whose header is no header word is as a page of an unmapped run: neither free nor resident.
+abbrev pub use_under : Option Header → ℕ → PageUse
+use_under None used = PartOfRun false
+use_under (Some Free) used = Nothing
+use_under (Some (Block class)) used = Cells class false (bits_of (cells_of class) used)
+use_under (Some (Run pages mapped)) used = PartOfRun mapped
+use_under (Some (Later distance mapped)) used = PartOfRun mapped
+use_under (Some (LeafBlock class)) used = Cells class true (bits_of (cells_of class) used)
+use_under (Some (LeafRun pages)) used = PartOfRun true
+
+-- what stands on a page, by its header and used word
+abbrev pub use_of_page : Page → PageUse
+use_of_page page = use_under (header_of page.header) page.used
+
+-- what stands on each page
+abbrev pub uses_of_pages : List Page → List PageUse
+uses_of_pages pages = map use_of_page pages
+
+-- Each page has a header word.
+abbrev pub HaveHeaderWords : List Page → Type 0
+HaveHeaderWords pages = All (λ page. IsHeaderWord page.header) pages
+
+-- An object of this class and sort may take the cell: the page is free, or a block of that class and sort in which the
+-- cell isn't taken.
+abbrev pub MayTakeCell : ℕ → Bool → ℕ → PageUse → Type 0
+MayTakeCell class leaf index Nothing = index < cells_of class
+MayTakeCell class leaf index (Cells class' leaf' taken) = (class' ≡ class) × (leaf' ≡ leaf)
+    × (slice_get taken index ≡ Some false)
+MayTakeCell class leaf index (PartOfRun mapped) = ⊥
+
+-- the pages from `first` on are there, and free
+pub record AreFree (first count : ℕ) (pages : List Page) : Type 0 where
+  pub within : first + count ≤ length pages
+  pub free : AllWithin (λ page. is_free_page (use_of_page page) ≡ true) pages first (first + count)
+
+-- a place for an object of this class and sort
+pub record IsCellPlace (limit class : ℕ) (leaf : Bool) (pages : List Page) (place : Place) : Type 0 where
+  pub page : Page
+  pub at : slice_get pages place.page ≡ Some page
+  pub may_take : MayTakeCell class leaf place.index (use_of_page page)
+  pub carves : place.carve ≡ is_free_page (use_of_page page)
+  pub carves_first : place.carve ≡ true → place.index ≡ 0
+  pub has_room : place.carve ≡ true → resident_pages (uses_of_pages pages) < limit
+
+-- a place for an object that takes this many pages
+pub record IsRunPlace (limit count : ℕ) (pages : List Page) (place : Place) : Type 0 where
+  pub free : AreFree place.page count pages
+  pub index : place.index ≡ 0
+  pub carves : place.carve ≡ true
+  pub has_room : resident_pages (uses_of_pages pages) + count ≤ limit

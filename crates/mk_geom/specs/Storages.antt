@@ -1,12 +1,13 @@
--- The storage of objects: what stands on the pages of a heap, read off a plain list.
+-- The storage of objects, its words and their addresses: what stands on the pages of a heap, read off a plain list.
 use Rattle.std.specs.Prelude.{◌≡◌, ◌≢◌, ℕ, zero, suc, ◌+◌, ◌-◌, ◌*◌, ◌/◌, ◌%◌, ◌<◌, ◌≤◌, Bool, true, false, ◌&&◌, ◌==◌}
 use Rattle.std.specs.Prelude.{nat_le, if◌then◌else◌, List, [], ◌∷◌, length, map, find, slice_index_or, All, Option}
-use Rattle.std.specs.{Prelude.{Some, None, IsSome, unwrap_or, ◌⊎◌}, List.{range_with_len, list_any}}
-use Rattle.mk_geom.specs.{declared.pages.Page.Page, declared.pages.Place.Place, declared.pages.Census.Census}
-use Rattle.mk_geom.specs.{declared.headers.Header.Header, declared.headers.Header.TheVariants.{Block, Run, Later}}
-use Rattle.mk_geom.specs.{declared.headers.Header.TheVariants.{LeafBlock, LeafRun}, Classes.{class_for, class_words_of}}
-use Rattle.mk_geom.specs.{Classes.{cells_of, is_small_size}, Headers.word_of, PageUses.{PageUse, Nothing, Cells}}
-use Rattle.mk_geom.specs.PageUses.{PartOfRun, place_on_uses, census_among}
+use Rattle.std.specs.{Prelude.{Some, None, IsSome, unwrap_or, ◌⊎◌, sum_by}, List.{range_with_len, list_any}}
+use Rattle.mk_geom.specs.declared.pages.{Page.Page, Place.Place, Census.Census}
+use Rattle.mk_geom.specs.declared.headers.Header.{Header, TheVariants.{Block, Run, Later}}
+use Rattle.mk_geom.specs.declared.headers.Header.TheVariants.{LeafBlock, LeafRun}
+use Rattle.mk_geom.specs.Addresses.{class_for, class_words_of, cells_of, is_small_size, word_of, heap_word_at}
+use Rattle.mk_geom.specs.{Addresses.{page_at_address, cell_at}, PageUses.{PageUse, Nothing, Cells, PartOfRun}}
+use Rattle.mk_geom.specs.{PageUses.{place_on_uses, census_among}, declared.addresses.Cell.Cell}
 
 -- An object's storage: its first heap word, how many words it takes, whether its pages are mapped, and whether it is
 -- leaf. A small object takes a cell, and a large one all the words of its pages.
@@ -156,3 +157,40 @@ pub record PagesStandFor (pages : List Page) (storages : List Storage) : Type 0 
   pub laid_out : AreLaidOut (length pages) storages
   pub words : (page : ℕ) (d : Page) → page < length pages
       → slice_index_or pages page d ≡ words_of_storages storages page
+
+-- Heap word n is one of the storage's words.
+abbrev pub IsWordOf : Storage → ℕ → Type 0
+IsWordOf s n = (s.first ≤ n) × (n < s.first + s.words)
+
+-- The value is an address, and the heap word that it is in is one of the storage's: whatever the headers say.
+abbrev pub PointsInto : ℕ → Storage → Type 0
+PointsInto u s = (65536 ≤ u) × IsWordOf s (heap_word_at u)
+
+-- the cell of a small storage; of a large one cell 0 of the page that it begins on
+abbrev pub cell_of_storage : Storage → Cell
+cell_of_storage s = record { page = first_page s; index = if is_small s then s.first % 64 / s.words else 0 }
+
+-- the words of the mapped storages
+abbrev pub held_by_storages : List Storage → ℕ
+held_by_storages storages = sum_by (λ s. if s.mapped then s.words else 0) storages
+
+-- the header word of a page that the storage stands on, mapped or not; a cell's page is always mapped
+abbrev pub header_shown : Storage → ℕ → Bool → ℕ
+header_shown s page mapped =
+    word_of
+    (if is_small s
+    then block_header (class_of_storage s) s.leaf
+    else run_header (s.words / 64) mapped s.leaf (page - first_page s))
+
+-- The header word is one that the storage gives the page. The pages of a run may be mapped and unmapped, each by
+-- itself.
+abbrev pub ShowsStorage : Storage → ℕ → ℕ → Type 0
+ShowsStorage s page header = (mapped : Bool) × (header ≡ header_shown s page mapped)
+
+-- a page of these; after the last a free one
+abbrev pub page_in : List Page → ℕ → Page
+page_in pages page = slice_index_or pages page free_page
+
+-- what a value points into, by the header of the page that it is in
+abbrev pub cell_on : List Page → ℕ → Option Cell
+cell_on pages u = cell_at (length pages) (page_in pages (page_at_address u)).header u

@@ -1,7 +1,7 @@
 //! What an address points into. The heap's words come one after the other from the heap's start on, 8 bytes each.
 ghost use Rattle.std.specs.Prelude.{◌≡◌, ◌<◌, ◌≤◌, true, false, IfSome, IfNone};
 ghost use Rattle.mk_geom.specs.Addresses.{cell_at, cell_of_block, head_page_under, is_heap_address, page_at_address};
-ghost use Rattle.mk_geom.specs.Headers.{header_of};
+ghost use Rattle.mk_geom.specs.Addresses.{header_of};
 
 use crate::classes::PAGE_WORDS;
 use crate::{Header, cells, decode, index_in_block};

@@ -1,6 +1,6 @@
 //! The sizes of objects.
 ghost use Rattle.std.specs.Prelude.{◌≡◌, ℕ, ◌/◌, ◌<◌, ◌≤◌, ◌↔◌, ◌⊎◌, IfSome, IsNone};
-ghost use Rattle.mk_geom.specs.Classes.{class_for, class_words_of, cells_of, run_pages_of};
+ghost use Rattle.mk_geom.specs.Addresses.{class_for, class_words_of, cells_of, run_pages_of};
 
 /// How many words a page has.
 pub const PAGE_WORDS: u64 = 64;

@@ -1,7 +1,7 @@
 //! Header words: what a page is, in one word.
 ghost use Rattle.std.specs.Prelude.{◌≡◌, ◌≢◌, Some, IfSome, IfNone};
 ghost use Rattle.mk_geom.specs.declared.headers.Header.{Header};
-ghost use Rattle.mk_geom.specs.Headers.{IsInRange, word_of, header_of, is_unmapped_header};
+ghost use Rattle.mk_geom.specs.Addresses.{IsInRange, word_of, header_of, is_unmapped_header};
 
 /// What a page is. Classes are 0 to 7. A run has 1 to 64 pages. A distance counts the pages from the head of the run to
 /// this one, 1 to 63. The later pages of a leaf run are as those of another mapped run.

@@ -1,16 +1,16 @@
 -- What the engine does after each `begin` of the host's.
 use Rattle.std.proofs.Common.{⊎_elim}
 use Rattle.mk_alloc.proofs.Below.Laws.Vocabulary.{Config, Event, List, None, Seat, Step, Word, ap, arith, false, refl}
-use Rattle.mk_alloc.{proofs.Below.Laws.Vocabulary.{subst, sym, ◌∙◌, ◌≡◌}, proofs.Below.Words.Unswept.{taking_sweeps}}
+use Rattle.mk_alloc.proofs.Below.{Laws.Vocabulary.{subst, sym, ◌∙◌, ◌≡◌}, Words.Unswept.taking_sweeps}
 use Rattle.mk_alloc.proofs.Below.Cycles.Begun.{begun_then, does_begin_none, finish_begins_none, has_on, left_then}
-use Rattle.mk_alloc.proofs.{Below.Cycles.Begun.step_begins_none, Below.Cycles.HeldFirst.finish_holds}
+use Rattle.mk_alloc.proofs.Below.Cycles.{Begun.step_begins_none, HeldFirst.finish_holds}
 use Rattle.mk_alloc.proofs.Below.Words.Sweeping.{only_seen, only_seen_by, other_step_sweeps, others_sweep}
-use Rattle.mk_alloc.proofs.{Below.Words.Sweeping.{step_then_sweeps, sweeps_then}, Below.Words.TakesAlone.taking_does}
-use Rattle.mk_alloc.specs.{Below.Cycles.BeginCycle.BeginsCycle, Below.Cycles.Begun.{EachIsBegun, EachIsBegunYet}}
-use Rattle.mk_alloc.specs.{Below.Cycles.EngineLaw.IsAtPhase, Below.Cycles.FinishCycle.FinishesCycle}
-use Rattle.mk_alloc.specs.{Below.Words.Sweeping.{SweepsNothing, is_mark}, Below.Words.Taking.{TakesTurn, is_take}}
-use Rattle.mk_alloc.specs.{Below.Words.Seats.Has, Below.Words.States.{PassState, world_of}, Below.Words.Steps.Makes}
-use Rattle.mk_core.specs.Growing.{Grows}
+use Rattle.mk_alloc.proofs.Below.Words.{Sweeping.{step_then_sweeps, sweeps_then}, TakesAlone.taking_does}
+use Rattle.mk_alloc.specs.Below.Cycles.BeginCycle.{BeginsCycle, EachIsBegun, EachIsBegunYet}
+use Rattle.mk_alloc.specs.Below.Cycles.{EngineLaw.IsAtPhase, FinishCycle.FinishesCycle}
+use Rattle.mk_alloc.specs.Below.Words.{Sweeping.{SweepsNothing, is_mark}, TurnSteps.{TakesTurn, is_take}}
+use Rattle.mk_alloc.specs.Below.Words.{States.{Has, PassState, world_of}, Steps.Makes}
+use Rattle.mk_core.specs.History.{Grows}
 use Rattle.mk_heap.proofs.MovedHosts.{MovesOn, idle_moves, taken_own, turn_moves}
 use Rattle.mk_heap.specs.Ending.{EndsCycle, SaysOver, TakesIdleTurn}
 

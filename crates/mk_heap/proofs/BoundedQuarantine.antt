@@ -5,7 +5,7 @@ use Rattle.mk_alloc.proofs.Below.Laws.Vocabulary.{is_one_of, subst, sym, true, t
 use Rattle.mk_alloc.proofs.{Below.Laws.Vocabulary.false, Bounds.quarantines_are_bounded}
 use Rattle.mk_alloc.proofs.{EndedCycles.{others_at, others_behind}, ListParts.{InFirst, InSecond, stands}}
 use Rattle.mk_alloc.specs.{Bounds.{HostBeginsLast, QuarantineIsBounded}, TurnCycles.TurnsOfAreExact}
-use Rattle.mk_heap.specs.HostTurns.{HostComesLast}
+use Rattle.mk_heap.specs.Ending.{HostComesLast}
 
 -- Where the host comes last, so does each of its cycles.
 host_begins_last : (c : Config) {with_cycle : Bool} {es : List Event} → HostComesLast c.callers with_cycle es

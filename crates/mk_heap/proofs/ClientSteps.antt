@@ -4,12 +4,12 @@ use Rattle.mk_alloc.proofs.Below.Laws.Vocabulary.{Caller, Config, Event, IsWithi
 use Rattle.mk_alloc.proofs.Below.Laws.Vocabulary.{arith, asked, calls, length, list_any-append, never_behind, refl}
 use Rattle.mk_alloc.proofs.Below.Laws.Vocabulary.{subst, sym, true, [], ◌*◌, ◌<◌, ◌∙◌, ◌∷◌, ◌≡◌}
 use Rattle.mk_alloc.{proofs.Below.Words.Seats.{has_right}, specs.Below.Words.Steps.{Makes}}
-use Rattle.mk_alloc.specs.{Below.Callers.States.{Admits, CallerState, IsAtHome}, Below.Words.Seats.{Has, has_over}}
-use Rattle.mk_alloc.specs.{Below.Words.Seats.is_over, Below.Words.States.{PassState, WordsState}}
+use Rattle.mk_alloc.specs.Below.{Callers.States.{Admits, CallerState, IsAtHome}, Words.States.{Has, has_over}}
+use Rattle.mk_alloc.specs.Below.Words.States.{is_over, PassState, WordsState}
 use Rattle.mk_never.proofs.Later.{calls_stay}
 use Rattle.mk_core.specs.History.{never_first}
 use Rattle.mk_heap.specs.Hosts.{AllAreJoined, HostState, first_host, pass_for, with_caller_made, with_joined, with_seen}
-use Rattle.mk_heap.specs.{Clients.IsPassOf, Ending.SaysOver}
+use Rattle.mk_heap.specs.{Hosts.IsPassOf, Ending.SaysOver}
 
 -- Each caller has eight registers, whatever happened.
 registers_are : (c : Config) (es : List Event) → length (never_behind c es).registers ≡ 8 * c.callers

@@ -5,9 +5,9 @@ use Rattle.mk_alloc.proofs.Below.Laws.Vocabulary.{append_assoc, arith, left, mar
 use Rattle.mk_alloc.proofs.Below.Laws.Vocabulary.{[], ◌++◌, ◌+◌, ◌<◌, ◌∙◌, ◌∷◌, ◌≡◌, ◌≤◌, ◌⊎◌}
 use Rattle.mk_alloc.proofs.Below.Words.Seats.{has_first, has_left, has_right, others_append, others_fewer, others_none}
 use Rattle.mk_alloc.{proofs.Below.Words.Seats.{without_keeps}, specs.Below.Words.States.{PassState, WordsState}}
-use Rattle.mk_alloc.specs.{Below.Callers.States.{CallerState, IsAtHome, IsIdleCaller}, Below.Words.Seats.Has}
-use Rattle.mk_core.specs.{History.left_from, MarkerConditions.is_out}
-use Rattle.mk_heap.specs.{Crews.{HasMade, IsFirstPass, IsMarkersPass, JoinsMarkers}, Hosts.{HostState, TakesBack}}
+use Rattle.mk_alloc.specs.Below.{Callers.States.{CallerState, IsAtHome, IsIdleCaller}, Words.States.Has}
+use Rattle.mk_core.specs.{History.left_from, MarkingConditions.is_out}
+use Rattle.mk_heap.specs.Hosts.{HasMade, IsFirstPass, IsMarkersPass, JoinsMarkers, HostState, TakesBack}
 use Rattle.mk_heap.specs.Hosts.{pass_for, with_caller_made, with_marker_made}
 
 -- The host makes the next caller, or the next marker.

@@ -8,13 +8,13 @@ use Rattle.mk_alloc.proofs.ExactTurns.{stay_exact_behind_calls, stay_exact_behin
 use Rattle.mk_alloc.proofs.{FinishedCycles.unbegun_finished, Parts.seen_then, SaidCloses.kinds_close_none}
 use Rattle.mk_alloc.proofs.{UnsweptTurns.keeps_then, Below.Cycles.Begun.kinds_begin_none}
 use Rattle.mk_alloc.proofs.Below.Words.Doing.{does_step, done_in_parts, of_kinds_in_parts}
-use Rattle.mk_alloc.proofs.{Below.Words.Made.own_before, Below.Words.Seats.has_first, Below.Words.Sweeping.kinds_sweep}
+use Rattle.mk_alloc.proofs.Below.Words.{Made.own_before, Seats.has_first, Sweeping.kinds_sweep}
 use Rattle.mk_alloc.specs.{Below.Callers.Called.{Called, own_calls, stages_made, step_at}, TurnCalls.CalledInTurn}
-use Rattle.mk_alloc.specs.{Below.Callers.Causes.FindsGateHeld, Below.Callers.States.{Admits, CallerState}}
-use Rattle.mk_alloc.specs.{Below.Callers.States.{caller_of_pass, never_of}, Below.Words.Doing.{are_of, done_in}}
-use Rattle.mk_alloc.specs.{Below.Cycles.Ways.Ways, Below.Words.Seats.Has, Underway.PassKeeps}
+use Rattle.mk_alloc.specs.Below.Callers.{Called.FindsGateHeld, States.{Admits, CallerState}}
+use Rattle.mk_alloc.specs.Below.{Callers.States.{caller_of_pass, never_of}, Words.Steps.{are_of, done_in}}
+use Rattle.mk_alloc.specs.{Below.{Cycles.EngineLaw.Ways, Words.States.Has}, Rooms.PassKeeps}
 use Rattle.mk_never.proofs.Later.{calls_stay}
-use Rattle.mk_core.specs.Growing.{Finding, own_from}
+use Rattle.mk_core.specs.History.{Finding, own_from}
 use Rattle.mk_heap.specs.Dispatching.{Answers, IsCalled, IsPutOff, MakesNoCall, StaysAdmitted, StaysBeside, as_told}
 use Rattle.mk_heap.specs.Dispatching.{is_beside_turns, unflagged}
 

@@ -7,16 +7,16 @@ use Rattle.mk_alloc.proofs.Below.Laws.Vocabulary.{ℕ, and_from, and_parts, ap, 
 use Rattle.mk_alloc.proofs.Below.Laws.Vocabulary.{host_has_turn, inl, inr, is_quarantined, left, lt-ltb, not, not-true}
 use Rattle.mk_alloc.proofs.Below.Laws.Vocabulary.{phase_of, placed_at, refl, seat_exists, slice_index, subst, suc, sym}
 use Rattle.mk_alloc.proofs.Below.Laws.Vocabulary.{true, true≢false, zero, ◌%◌, ◌+◌, ◌-◌, ◌<◌, ◌^◌, ◌∙◌, ◌≡◌, ◌≢◌, ◌⊎◌}
-use Rattle.mk_alloc.proofs.{Below.Laws.InvariantHistories.histories_keep_the_invariant, Below.Laws.Known.known_left}
-use Rattle.mk_alloc.proofs.{Below.Laws.Protocols.protocol_of, Below.Laws.Tallies.tallies_tell}
-use Rattle.mk_alloc.proofs.{Below.Cycles.CellCounts.cells_are_as_many, Below.Words.Seats.{has_not, only_one}}
-use Rattle.mk_alloc.specs.{Below.Cycles.ReleasedPages.sum_below, Below.Words.Finals.{HasTallies, freed_cells}}
-use Rattle.mk_alloc.specs.{Below.Words.Seats.{Has, HasAll}, Below.Words.States.{WordsState, now_of}}
+use Rattle.mk_alloc.proofs.Below.Laws.{InvariantHistories.histories_keep_the_invariant, Known.known_left}
+use Rattle.mk_alloc.proofs.Below.Laws.{Protocols.protocol_of, Tallies.tallies_tell}
+use Rattle.mk_alloc.proofs.Below.{Cycles.CellCounts.cells_are_as_many, Words.Seats.{has_not, only_one}}
+use Rattle.mk_alloc.specs.Below.{Cycles.Freeing.sum_below, Words.States.{HasTallies, freed_cells}}
+use Rattle.mk_alloc.specs.Below.Words.States.{Has, HasAll, WordsState, now_of}
 use Rattle.mk_alloc.specs.Below.Words.declared.finals.Final.{Final}
 use Rattle.mk_core.specs.{History.AreEnabledFrom, Readings.is_in_turn}
-use Rattle.mk_heap.{proofs.HostsKept.{all_home}, specs.Reports.{HasCounts, IsWhole, MarkersAreBelow, quarantined}}
+use Rattle.mk_heap.{proofs.HostsKept.{all_home}, specs.Hosts.{HasCounts, IsWhole, MarkersAreBelow, quarantined}}
 use Rattle.mk_heap.specs.{declared.reports.Report.Report, Hosts.{AllAreJoined, HostState, IsHost, Rests}}
-use Rattle.mk_alloc.specs.Below.Words.Finals as final
+use Rattle.mk_alloc.specs.Below.Words.States as final
 
 -- The freed bits of the quarantine words are as many as the allocations that are freed and unreleased.
 

@@ -2,9 +2,10 @@
 use Rattle.mk_alloc.proofs.Below.Laws.Vocabulary.{Step, ap, false, refl, ◌∙◌}
 use Rattle.mk_alloc.proofs.Below.Cycles.Begun.{finish_begins_none, has_on, step_begins_none}
 use Rattle.mk_alloc.proofs.{Below.Words.Sweeping.only_seen, FinishedCycles.{Never, begun_and_finished, finished_then}}
-use Rattle.mk_alloc.{proofs.FinishedCycles.{unbegun_finished}, specs.{Below.Words.Steps.Makes, Closes.EachIsFinished}}
-use Rattle.mk_alloc.specs.{Below.Cycles.BeginCycle.BeginsCycle, Below.Cycles.Closing.IsClosedBy}
-use Rattle.mk_alloc.specs.{Below.Cycles.FinishCycle.FinishesCycle, Below.Words.States.PassState}
+use Rattle.mk_alloc.proofs.FinishedCycles.{unbegun_finished}
+use Rattle.mk_alloc.specs.{Below.Words.Steps.Makes, TurnCycles.EachIsFinished}
+use Rattle.mk_alloc.specs.Below.Cycles.{BeginCycle.BeginsCycle, Stops.IsClosedBy}
+use Rattle.mk_alloc.specs.Below.{Cycles.FinishCycle.FinishesCycle, Words.States.PassState}
 use Rattle.mk_heap.{proofs.{BegunHosts.idle_begun, MovedHosts.{idle_moves, taken_own}}, specs.Ending.{TakesIdleTurn}}
 
 pub cycle_finished : {V : Type 0} (closes : V → PassState → PassState → Type 0) (engine : V)

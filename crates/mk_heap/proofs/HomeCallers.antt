@@ -10,12 +10,12 @@ use Rattle.mk_alloc.proofs.Below.Laws.Vocabulary.{not, not-true, or_cases, or_fr
 use Rattle.mk_alloc.proofs.Below.Laws.Vocabulary.{seat_exists, subst, sym, true, true≢false, world_behind, [], ◌&&◌}
 use Rattle.mk_alloc.proofs.Below.Laws.Vocabulary.{◌++◌, ◌<◌, ◌||◌, ◌∙◌, ◌∷◌, ◌≡◌, ◌≢◌, ◌≤◌, ◌⊎◌}
 use Rattle.mk_alloc.proofs.Below.Laws.CyclePhases.{AsksPhase, moves_phase, phase_behind}
-use Rattle.mk_alloc.proofs.{Below.Laws.Actors.{Meets, is_holders}, Below.Words.Waiting.waits_more}
+use Rattle.mk_alloc.proofs.Below.{Laws.Actors.{Meets, is_holders}, Words.Waiting.waits_more}
 use Rattle.mk_alloc.proofs.Below.Words.Overs.{none_over, over_is_hosts}
-use Rattle.mk_alloc.specs.Below.Words.Taking.{TakesTurn, Waits, is_take, waits_for}
-use Rattle.mk_alloc.specs.Below.Words.Seats.{Has, HasCallers, has_over, is_over}
-use Rattle.mk_alloc.specs.{Below.Words.States.{PassState, now_of}, Below.Words.Steps.Makes}
-use Rattle.mk_core.specs.{Growing.{AreOfOthers, Grows, is_same_seat}, History.{AreEnabledFrom, left_from}}
+use Rattle.mk_alloc.specs.Below.Words.TurnSteps.{TakesTurn, Waits, is_take, waits_for}
+use Rattle.mk_alloc.specs.Below.Words.States.{Has, HasCallers, has_over, is_over}
+use Rattle.mk_alloc.specs.Below.Words.{States.{PassState, now_of}, Steps.Makes}
+use Rattle.mk_core.specs.History.{AreOfOthers, Grows, is_same_seat, AreEnabledFrom, left_from}
 use Rattle.mk_heap.proofs.MovedHosts.{MovesOn}
 use Rattle.mk_heap.specs.{Ending.CallersAreJoined, Hosts.{HostState, IsHost, with_joined}}
 

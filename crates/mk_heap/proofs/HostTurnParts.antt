@@ -6,10 +6,10 @@ use Rattle.mk_alloc.proofs.Below.Laws.Vocabulary.{world_behind, [], ◌++◌, �
 use Rattle.mk_alloc.proofs.{Below.Laws.CyclePhases.{close_is, moves_phase, phase_behind}, ListParts.{Lacks, SomeKind}}
 use Rattle.mk_alloc.proofs.{CycleParts.finish_does, Parts.{has_then, in_turn_then, made_as}}
 use Rattle.mk_alloc.proofs.{CalmStretches.{is_of_cycles, cycles_in_turn}, JoinedLooks.does_wider}
-use Rattle.mk_alloc.proofs.{Below.Words.Doing.does_then, Below.Words.TurnSteps.takes}
-use Rattle.mk_alloc.specs.{Below.Words.Seats.Has, Below.Words.States.{PassState, IsTurn}}
-use Rattle.mk_alloc.specs.{TurnCycles.{has_step, finishes}, Below.Words.TurnSteps.turn_stays, Below.Words.Doing.Does}
-use Rattle.mk_alloc.specs.Below.Words.Taking.{TakesTurn}
+use Rattle.mk_alloc.proofs.Below.Words.{Doing.does_then, TurnSteps.takes}
+use Rattle.mk_alloc.specs.Below.Words.States.{Has, PassState, IsTurn}
+use Rattle.mk_alloc.specs.{TurnCycles.{has_step, finishes}, Below.Words.{TurnSteps.turn_stays, Steps.Does}}
+use Rattle.mk_alloc.specs.Below.Words.TurnSteps.{TakesTurn}
 use Rattle.mk_heap.specs.Ending.{EndsCycle}
 
 -- Outside of phases 1 and 2 no cycle is closed before another is begun.

@@ -1,15 +1,15 @@
 -- What the host does in a run: it makes no step before the scripts are joined, and then begins the last cycle alone.
-use Rattle.std.proofs.{Math.Bool.cond, lemmas.List.Sums.{sum_by-append, sum_by-cons}, lemmas.List.append_cancel_left}
+use Rattle.std.proofs.{Math.Bool.cond, lemmas.List.{Sums.{sum_by-append, sum_by-cons}, append_cancel_left}}
 use Rattle.mk_alloc.proofs.Below.Laws.Vocabulary.{AreOfOthers, Bool, Caller, Config, Event, Host, IsHistory, List, Seat}
 use Rattle.mk_alloc.proofs.Below.Laws.Vocabulary.{Step, ℕ, ap, append_assoc, arith, enabled_in_parts, false, is_begin}
 use Rattle.mk_alloc.proofs.Below.Laws.Vocabulary.{left, or_parts, refl, subst, sym, true, [], ◌++◌, ◌+◌, ◌∙◌, ◌∷◌, ◌≡◌}
 use Rattle.mk_alloc.proofs.{ListParts.Lacks, Below.Words.Seats.{others_append, others_none, others_own}}
 use Rattle.mk_alloc.proofs.{Parts.seen_then, CycleParts.BeginIn}
-use Rattle.mk_alloc.specs.{Below.Words.Seats.{Has, HasCallers}, Below.Words.States.PassState, TurnCycles.has_step}
-use Rattle.mk_core.specs.Growing.{Grows}
+use Rattle.mk_alloc.specs.{Below.Words.States.{Has, HasCallers, PassState}, TurnCycles.has_step}
+use Rattle.mk_core.specs.History.{Grows}
 use Rattle.mk_heap.proofs.{LastCycles.{ends, h_idle, t_ended}, LastOvers.{Unbegun, idle_unbegun, over_unbegun}}
 use Rattle.mk_heap.proofs.{LastOvers.{unbegun_made, unheld_unbegun}, HomeCallers.others_hold_none}
-use Rattle.mk_heap.specs.{LastTurns.{CallersAreStill, BeginsAsAsked}, HostTurns.{HostComesLast, cycles_begun}}
+use Rattle.mk_heap.specs.Ending.{CallersAreStill, BeginsAsAsked, HostComesLast, cycles_begun}
 use Rattle.mk_heap.specs.{Hosts.{HostState, with_seen}, Ending.{SaysOver, MakesCycle}}
 use Rattle.mk_heap.proofs.LastCycles.{begins as begins_in}
 

@@ -6,13 +6,13 @@ use Rattle.mk_alloc.proofs.Below.Laws.Vocabulary.{ℕ, ap, arith, cases_lt, earl
 use Rattle.mk_alloc.proofs.Below.Laws.Vocabulary.{first_moment, first_world, get_or, get_or_past, host_has_turn, left}
 use Rattle.mk_alloc.proofs.Below.Laws.Vocabulary.{lt-ltb, ltb-true, marker_at, ne_eqb, not, outside, refl, subst, sym}
 use Rattle.mk_alloc.proofs.Below.Laws.Vocabulary.{true, [], ◌++◌, ◌+◌, ◌<◌, ◌∙◌, ◌∷◌, ◌≡◌, ◌≤◌}
-use Rattle.mk_alloc.proofs.{Below.Laws.ProtocolFrames.others_leave, Below.Words.Seats.{has_all, has_either, has_left}}
+use Rattle.mk_alloc.proofs.Below.{Laws.ProtocolFrames.others_leave, Words.Seats.{has_all, has_either, has_left}}
 use Rattle.mk_alloc.proofs.Below.Words.Seats.{only_one, others_append, others_none, others_own, without_keeps}
-use Rattle.mk_alloc.proofs.{Below.Words.Seats.without_less, Below.Words.LongerLists.longer_lists}
+use Rattle.mk_alloc.proofs.Below.Words.{Seats.without_less, LongerLists.longer_lists}
 use Rattle.mk_alloc.{proofs.Below.Words.Owed.{history_more}, specs.Below.Words.States.{PassState, WordsState, now_of}}
-use Rattle.mk_alloc.specs.{Below.Callers.States.IsIdleCaller, Below.Words.Seats.{Has, HasAll}}
+use Rattle.mk_alloc.specs.Below.{Callers.States.IsIdleCaller, Words.States.{Has, HasAll}}
 use Rattle.mk_core.proofs.{Conditions.meets_enabled, Histories.last_enabled}
-use Rattle.mk_core.specs.{Growing.{AreOfOthers, Grows}, History.left_from}
+use Rattle.mk_core.specs.History.{AreOfOthers, Grows, left_from}
 use Rattle.atomic_table.specs.Seated.{TableId}
 use Rattle.mk_heap.specs.Hosts.{AllAreJoined, HostState, IsDone, IsHost, IsWholeHost, Rests, first_host, host_of}
 use Rattle.mk_heap.specs.Hosts.{pass_for, with_caller_made, with_caller_out, with_joined, with_marker_made}

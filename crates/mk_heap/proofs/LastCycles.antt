@@ -6,17 +6,17 @@ use Rattle.mk_alloc.proofs.Below.Laws.Vocabulary.{arith, is_begin, is_close, lef
 use Rattle.mk_alloc.proofs.{Below.Laws.Vocabulary.{◌∷◌, ◌≡◌}, ListParts.{Lacks, IsAt, lacks_append, lacks_first}}
 use Rattle.mk_alloc.proofs.{ListParts.{lacks_second, only_at}, CycleParts.{finish_does, finish_in, BeginIn, FinishIn}}
 use Rattle.mk_alloc.proofs.{CycleParts.{begin_does, begin_in, begins_held}, Parts.{has_then, history_before}}
-use Rattle.mk_alloc.{proofs.Parts.{in_turn_then, others_lack, seen_behind}, proofs.Below.Words.Made.{pass_before}}
+use Rattle.mk_alloc.proofs.{Parts.{in_turn_then, others_lack, seen_behind}, Below.Words.Made.pass_before}
 use Rattle.mk_alloc.proofs.{Below.Words.Seats.{others_append, others_none}, OwnGives.{GivesNone, doing_gives}}
 use Rattle.mk_alloc.proofs.{OwnGives.{gives_append, others_give}, Below.Words.Doing.does_then}
-use Rattle.mk_alloc.specs.{Below.Words.Seats.{Has, HasCallers}, Below.Words.States.{PassState, IsTurn, event_of}}
-use Rattle.mk_alloc.specs.{Below.Words.TurnSteps.turn_stays, Below.Cycles.Telling.IsToldAtClose, Below.Words.Doing.Does}
+use Rattle.mk_alloc.specs.Below.Words.States.{Has, HasCallers, PassState, IsTurn, event_of}
+use Rattle.mk_alloc.specs.Below.{Words.{TurnSteps.turn_stays, Steps.Does}, Cycles.Stops.IsToldAtClose}
 use Rattle.mk_heap.proofs.MovedHosts.{turn_moves, MovesOn, moves_does, moves_more}
 use Rattle.mk_heap.proofs.HostTurnParts.{behind_first, closes_no_more, finish_stays, idle_own, idle_turn, stays}
 use Rattle.mk_heap.proofs.HostTurnParts.{to_idle, unfinished_unclosed}
-use Rattle.mk_heap.specs.{LastCycle.{MakesLastCycle, give_of}, Ending.MakesCycle}
+use Rattle.mk_heap.specs.Ending.{MakesLastCycle, give_of, MakesCycle}
 use Rattle.std.proofs.lemmas.List.{append_cancel_left}
-use Rattle.mk_core.specs.Growing.{is_same_seat}
+use Rattle.mk_core.specs.History.{is_same_seat}
 
 module _ {p q : PassState} (m : MakesCycle p q) where
   abbrev taken : PassState

@@ -7,19 +7,19 @@ use Rattle.mk_alloc.proofs.Below.Laws.Vocabulary.{◌∙◌, ◌∷◌, ◌≡�
 use Rattle.mk_alloc.proofs.{Below.Laws.Actors.is_holders, ListParts.{Lacks, lacks_append, lacks_one}}
 use Rattle.mk_alloc.proofs.{CycleParts.{finish_does, finish_in, begins_held}, Parts.{has_then, in_turn_then, seen_then}}
 use Rattle.mk_alloc.proofs.{Parts.{behind_step, made_as, others_lack, seen_made}, CalmStretches.is_of_cycles}
-use Rattle.mk_alloc.proofs.{Below.Words.Seats.{others_append, others_own}, Below.Words.Waiting.waits_more}
+use Rattle.mk_alloc.proofs.Below.Words.{Seats.{others_append, others_own}, Waiting.waits_more}
 use Rattle.mk_alloc.proofs.Below.Words.Made.{pass_before}
-use Rattle.mk_alloc.specs.{Below.Words.Seats.{Has, HasCallers}, Below.Words.States.{PassState, WordsState, IsTurn}}
+use Rattle.mk_alloc.specs.Below.Words.States.{Has, HasCallers, PassState, WordsState, IsTurn}
 use Rattle.mk_alloc.specs.{Below.Words.States.event_of, TurnCycles.{has_step, within_turn}}
-use Rattle.mk_alloc.specs.{Below.Words.TurnSteps.turn_stays, Below.Words.Doing.Does}
-use Rattle.mk_alloc.specs.{Below.Words.Taking.{TakesTurn, Waits}, Below.Words.Steps.Makes}
+use Rattle.mk_alloc.specs.Below.Words.{TurnSteps.turn_stays, Steps.Does}
+use Rattle.mk_alloc.specs.Below.Words.{TurnSteps.{TakesTurn, Waits}, Steps.Makes}
 use Rattle.mk_heap.proofs.{LastTurns.{cycle_moves, over_moves, still_behind_over}, HostTurnParts.{idle_turn, stays}}
 use Rattle.mk_heap.proofs.{HostTurnParts.turn_taken, LastCycles.last_cycle}
 use Rattle.mk_heap.proofs.HomeCallers.{HoldersStepNone, others_hold_none, waiting_holds_none}
-use Rattle.mk_heap.specs.{Reports.IsWhole, Ending.{SaysOver, EndsCycle}, LastTurns.TakesLastTurns}
-use Rattle.mk_heap.specs.{LastCycle.{EndsWithCycle, MakesLastCycle}, declared.reports.Report.Report}
+use Rattle.mk_heap.specs.{Hosts.IsWhole, Ending.{SaysOver, EndsCycle, TakesLastTurns}}
+use Rattle.mk_heap.specs.{Ending.{EndsWithCycle, MakesLastCycle}, declared.reports.Report.Report}
 use Rattle.std.proofs.lemmas.List.{append_cancel_left}
-use Rattle.mk_heap.specs.Reports as report
+use Rattle.mk_heap.specs.Hosts as report
 
 -- From what the one pass had seen to what the other has seen no cycle is begun.
 pub record Unbegun (p q : PassState) : Type 0 where

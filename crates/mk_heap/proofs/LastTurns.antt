@@ -2,10 +2,10 @@
 use Rattle.mk_alloc.proofs.Below.Laws.Vocabulary.{Caller, Config, Host, Seat, Step, World, ap, append-nil, append_assoc}
 use Rattle.mk_alloc.proofs.Below.Laws.Vocabulary.{subst, sym, ℕ, [], ◌++◌, ◌∙◌, ◌∷◌, ◌≡◌}
 use Rattle.mk_alloc.proofs.Below.Words.Seats.{others_append, others_none, others_fewer}
-use Rattle.mk_alloc.specs.{Below.Words.Seats.{Has, HasCallers}, Below.Words.States.{PassState, WordsState}}
-use Rattle.mk_heap.specs.{LastTurns.{CallersAreStill, TakesLastTurns}, Hosts.{HostState, with_seen}}
-use Rattle.mk_heap.specs.{Crews.JoinsMarkers, Ending.{SaysOver, MakesCycle, MakesToldCycle}}
-use Rattle.mk_core.specs.Growing.{is_same_seat}
+use Rattle.mk_alloc.specs.Below.Words.States.{Has, HasCallers, PassState, WordsState}
+use Rattle.mk_heap.specs.{Ending.{CallersAreStill, TakesLastTurns}, Hosts.{HostState, with_seen}}
+use Rattle.mk_heap.specs.{Hosts.JoinsMarkers, Ending.{SaysOver, MakesCycle, MakesToldCycle}}
+use Rattle.mk_core.specs.History.{is_same_seat}
 use Rattle.mk_heap.proofs.MovedHosts.{MovesOn, begin_moves, finish_moves, idle_moves, moves_more}
 
 -- Callers whose seats are home make no step in the host's turns.

@@ -4,15 +4,15 @@ use Rattle.mk_alloc.proofs.Below.Laws.Vocabulary.{Bool, Caller, Event, Host, IsH
 use Rattle.mk_alloc.proofs.Below.Laws.Vocabulary.{Seat, Step, Word, and_parts, ap, append_assoc, arith, false}
 use Rattle.mk_alloc.proofs.Below.Laws.Vocabulary.{host_has_turn, inl, inr, is_one_of, left, not, not-true, or_cases}
 use Rattle.mk_alloc.proofs.Below.Laws.Vocabulary.{refl, subst, sym, true, true≢false, [], ◌&&◌, ◌++◌, ◌||◌, ◌∙◌, ◌∷◌}
-use Rattle.mk_alloc.proofs.{Below.Laws.Vocabulary.{◌≡◌, ◌⊎◌}, Below.Words.Waiting.{joined_lists, waits_more}}
+use Rattle.mk_alloc.proofs.Below.{Laws.Vocabulary.{◌≡◌, ◌⊎◌}, Words.Waiting.{joined_lists, waits_more}}
 use Rattle.mk_alloc.proofs.Below.Words.Seats.{has_not, only_one, others_append, others_one, others_own, same_seat}
 use Rattle.mk_alloc.{proofs.{Below.Words.Seats.same_self, Below.Words.Made.own_before}, specs.Below.Words.Steps.{Makes}}
-use Rattle.mk_alloc.specs.Below.Cycles.Kinds.{begins_marking, clears, closes_marks, holds_gates, is_giving_back}
-use Rattle.mk_alloc.specs.{Below.Cycles.Kinds.sets_tallies, Below.Cycles.BeginCycle.BeginsCycle}
-use Rattle.mk_alloc.specs.{Below.Cycles.FinishCycle.FinishesCycle, Below.Words.Doing.{AreOwnOrOfOthers, Does}}
-use Rattle.mk_alloc.specs.{Below.Words.Taking.{TakesTurn, Waits, is_take, waits_for}, Below.Words.Opening.is_open}
-use Rattle.mk_alloc.specs.{Below.Words.Seats.Has, Below.Words.States.{PassState, event_of, now_of}}
-use Rattle.mk_core.specs.Growing.{AreOfOthers, is_same_seat}
+use Rattle.mk_alloc.specs.Below.Cycles.TurnKeeps.{begins_marking, clears, closes_marks, holds_gates, is_giving_back}
+use Rattle.mk_alloc.specs.Below.Cycles.{TurnKeeps.sets_tallies, BeginCycle.BeginsCycle}
+use Rattle.mk_alloc.specs.Below.{Cycles.FinishCycle.FinishesCycle, Words.Steps.{AreOwnOrOfOthers, Does}}
+use Rattle.mk_alloc.specs.Below.Words.{TurnSteps.{TakesTurn, Waits, is_take, waits_for}, Steps.is_open}
+use Rattle.mk_alloc.specs.Below.Words.States.{Has, PassState, event_of, now_of}
+use Rattle.mk_core.specs.History.{AreOfOthers, is_same_seat}
 use Rattle.mk_heap.{proofs.HostsKept.{still_rests}, specs.{Ending.TakesIdleTurn, Hosts.{HostState, IsHost, Rests}}}
 
 -- The host's pass has seen more: no event of a seat that is home, but for its own.

@@ -4,18 +4,18 @@ use Rattle.mk_alloc.proofs.Below.Laws.Vocabulary.{Config, Event, Host, IsHistory
 use Rattle.mk_alloc.proofs.Below.Laws.Vocabulary.{TalliesAreTidy, Word, World, ℕ, and_from, ap, append-nil, arith}
 use Rattle.mk_alloc.proofs.Below.Laws.Vocabulary.{eq-eqb, false, has_phase, host_has_turn, inl, inr, left, ne_eqb}
 use Rattle.mk_alloc.proofs.Below.Laws.Vocabulary.{phase_of, refl, subst, true, ◌%◌, ◌+◌, ◌/◌, ◌^◌, ◌∙◌, ◌≡◌, ◌≤◌, ◌⊎◌}
-use Rattle.mk_alloc.proofs.{Below.Laws.Actors.give_phase, Below.Laws.Settled.gone_is_unmapped}
-use Rattle.mk_alloc.proofs.{Below.Laws.Tallies.counts_tidy_more, Below.Cycles.KeptInParts.{free_then, gates_behind}}
+use Rattle.mk_alloc.proofs.Below.Laws.{Actors.give_phase, Settled.gone_is_unmapped}
+use Rattle.mk_alloc.proofs.Below.{Laws.Tallies.counts_tidy_more, Cycles.KeptInParts.{free_then, gates_behind}}
 use Rattle.mk_alloc.{proofs.Below.Cycles.KeptInParts.{keeps_less, same_config}, specs.Below.Words.TurnSteps.{world_at}}
 use Rattle.mk_alloc.proofs.Below.Cycles.OwnSteps.{keeps_call, keeps_counts, steady_behind}
-use Rattle.mk_alloc.proofs.{Below.Cycles.Allowed.protocol, Below.Cycles.BeginSteps.none_held_kept}
-use Rattle.mk_alloc.proofs.{Below.Cycles.CleaningSteps.calm_keeps, Below.Cycles.MayAct.may_act, Below.Words.Made.made}
-use Rattle.mk_alloc.proofs.{Below.Words.OverPhases.end_is_behind_over, Below.Words.Tallies.settled_tallies}
-use Rattle.mk_alloc.specs.{Below.Cycles.BeginCycle.BeginsCycle, Below.Cycles.EngineLaw.{IsAtPhase, IsFreeForCycle}}
-use Rattle.mk_alloc.specs.{Below.Cycles.FinishCycle.FinishesCycle, Below.Cycles.TurnKeeps.{LeavesTurn, but_phase}}
-use Rattle.mk_alloc.specs.{Below.Cycles.TurnKeeps.unchanged, Below.Words.Taking.TakesTurn}
-use Rattle.mk_alloc.specs.{Below.Words.Seats.{Has, has_over}, Below.Words.States.{IsTurn, PassState, now_of}}
-use Rattle.mk_alloc.specs.{Below.Words.Steps.{Finds, IsAdmittedTo, IsEnabledTo}, Below.Words.TurnSteps.{Acts, IsFresh}}
+use Rattle.mk_alloc.proofs.Below.Cycles.{Allowed.protocol, BeginSteps.none_held_kept}
+use Rattle.mk_alloc.proofs.Below.{Cycles.{CleaningSteps.calm_keeps, MayAct.may_act}, Words.Made.made}
+use Rattle.mk_alloc.proofs.Below.Words.{OverPhases.end_is_behind_over, Tallies.settled_tallies}
+use Rattle.mk_alloc.specs.Below.Cycles.{BeginCycle.BeginsCycle, EngineLaw.{IsAtPhase, IsFreeForCycle}}
+use Rattle.mk_alloc.specs.Below.Cycles.{FinishCycle.FinishesCycle, TurnKeeps.{LeavesTurn, but_phase}}
+use Rattle.mk_alloc.specs.Below.{Cycles.TurnKeeps.unchanged, Words.TurnSteps.TakesTurn}
+use Rattle.mk_alloc.specs.Below.Words.States.{Has, has_over, IsTurn, PassState, now_of}
+use Rattle.mk_alloc.specs.Below.Words.{Steps.{Finds, IsAdmittedTo, IsEnabledTo}, TurnSteps.{Acts, IsFresh}}
 use Rattle.mk_core.proofs.Histories.{calls_more}
 use Rattle.mk_core.specs.{Counts.TalliesAreExact, Frames.{CountsAreLeft, steady_of}, Moments.none_is_held}
 use Rattle.mk_heap.proofs.{HomeCallers.taken_overs, MovedHosts.{taken_own, turn_moves}}

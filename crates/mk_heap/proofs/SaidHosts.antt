@@ -1,9 +1,9 @@
 -- What the host's engine says at each close, in parts of the host's turns.
 use Rattle.mk_alloc.proofs.Below.Laws.Vocabulary.{Config, None, Step, World, ap, arith, false, is_close, not}
-use Rattle.mk_alloc.proofs.{Below.Laws.Vocabulary.{not-true, ◌≡◌}, Below.Words.Doing.does_step}
-use Rattle.mk_alloc.proofs.{Below.Words.Sweeping.{only_seen, only_seen_by}, Below.Words.TakesAlone.taking_does}
-use Rattle.mk_alloc.{proofs.SaidCloses.{does_say_none, said_then}, specs.Below.Words.Taking.{TakesTurn, is_take}}
-use Rattle.mk_alloc.specs.{Below.Words.States.PassState, Below.Words.Steps.Makes, Closes.EachIsSaid}
+use Rattle.mk_alloc.proofs.Below.{Laws.Vocabulary.{not-true, ◌≡◌}, Words.Doing.does_step}
+use Rattle.mk_alloc.proofs.Below.Words.{Sweeping.{only_seen, only_seen_by}, TakesAlone.taking_does}
+use Rattle.mk_alloc.{proofs.SaidCloses.{does_say_none, said_then}, specs.Below.Words.TurnSteps.{TakesTurn, is_take}}
+use Rattle.mk_alloc.specs.{Below.Words.{States.PassState, Steps.Makes}, TurnCycles.EachIsSaid}
 use Rattle.mk_heap.{proofs.MovedHosts.{idle_moves, taken_own, turn_moves}, specs.Ending.{TakesIdleTurn}}
 
 module _ {V : Type 0} (tells : V → Config → World → Type 0) where

@@ -3,10 +3,10 @@ use Rattle.mk_alloc.proofs.Below.Laws.Vocabulary.{Config, Event, List, Marker, M
 use Rattle.mk_alloc.proofs.Below.Laws.Vocabulary.{arith, first_world, flight_of, left, seat_exists, subst, sym}
 use Rattle.mk_alloc.proofs.Below.Laws.Vocabulary.{through, true, world_behind, [], ◌++◌, ◌∙◌, ◌∷◌, ◌≡◌}
 use Rattle.mk_core.proofs.Conditions.{enabled_events_meet_all}
-use Rattle.mk_core.specs.{Cycles.NoneSweeps, Cycles.NoneSweepsFrom, History.AreEnabledFrom, History.left_from}
-use Rattle.mk_alloc.specs.Below.Callers.Below.Laws.{Precision.CyclesArePrecise, Promises.KeepsAllPromises}
+use Rattle.mk_core.specs.{Cycles.{NoneSweeps, NoneSweepsFrom}, History.{AreEnabledFrom, left_from}}
+use Rattle.mk_alloc.specs.Below.Callers.Below.Laws.{Releases.CyclesArePrecise, Promises.KeepsAllPromises}
 use Rattle.mk_heap.specs.Unswept.{IsUnswept}
-use Rattle.mk_alloc.proofs.{Below.Words.Sweeping.other_steps_sweep, Below.Words.Seats.same_self}
+use Rattle.mk_alloc.proofs.Below.Words.{Sweeping.other_steps_sweep, Seats.same_self}
 use Rattle.mk_alloc.specs.Below.Words.Sweeping.{SweepsNothingFrom}
 
 -- A marker makes none: its marks are of a kind of their own.

@@ -1,8 +1,8 @@
 -- A seat that makes no sweeping mark, as its pass sees more.
 use Rattle.mk_alloc.proofs.Below.Laws.Vocabulary.{Config, Event, List, Seat, arith, subst, sym, [], ◌≡◌}
-use Rattle.mk_alloc.specs.{Below.Words.Seats.Has, Below.Words.States.PassState}
-use Rattle.mk_core.specs.Growing.{Grows}
-use Rattle.mk_heap.specs.UnsweptSeats.{SeatSweepsNothing}
+use Rattle.mk_alloc.specs.Below.Words.States.{Has, PassState}
+use Rattle.mk_core.specs.History.{Grows}
+use Rattle.mk_heap.specs.Unswept.{SeatSweepsNothing}
 use Rattle.mk_alloc.proofs.Below.Words.Sweeping.{others_sweep, sweeps_append}
 use Rattle.mk_alloc.specs.Below.Words.Sweeping.{SweepsNothing, SweepsNothingFrom}
 

@@ -2,12 +2,12 @@
 -- caller is told of its answer.
 use Rattle.std.specs.Prelude.{◌≡◌, Bool, true, false, List, ◌++◌, Some}
 use Rattle.mk_never.specs.{declared.operations.Op.Op, Laws.KeepsRegisters}
-use Rattle.mk_core.specs.{declared.events.Answer.Answer, declared.events.Event.Event, declared.events.Group.Group}
-use Rattle.mk_core.specs.{declared.events.Step.Step, Calls.is_under_turn, Decided.entry_of, History.IsHistory}
-use Rattle.mk_core.specs.Order.{group_of}
-use Rattle.mk_alloc.specs.{Below.Callers.Called.{own_calls, Called}, Below.Callers.Causes.FindsGateHeld}
-use Rattle.mk_alloc.specs.{Below.Callers.States.{caller_of_pass, never_of, Admits}, Below.Words.Doing.{are_of, done_in}}
-use Rattle.mk_alloc.specs.{Below.Words.States.PassState, Laws.OwnAreExact, TurnCalls.CalledInTurn}
+use Rattle.mk_core.specs.declared.events.{Answer.Answer, Event.Event, Group.Group}
+use Rattle.mk_core.specs.{declared.events.Step.Step, Calls.{is_under_turn, entry_of}, History.IsHistory}
+use Rattle.mk_core.specs.Conditions.{group_of}
+use Rattle.mk_alloc.specs.Below.Callers.Called.{own_calls, Called, FindsGateHeld}
+use Rattle.mk_alloc.specs.Below.{Callers.States.{caller_of_pass, never_of, Admits}, Words.Steps.{are_of, done_in}}
+use Rattle.mk_alloc.specs.{Below.Words.States.PassState, TurnCalls.{OwnAreExact, CalledInTurn}}
 
 -- A caller isn't told which pointer it loaded.
 abbrev pub as_told : Answer → Answer

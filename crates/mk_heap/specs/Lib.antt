@@ -1,13 +1,5 @@
 pub mod Below
-pub mod Hosts
-pub mod Reports
-pub mod Turns
-pub mod Clients
-pub mod Ending
-pub mod HostTurns
-pub mod LastTurns
-pub mod LastCycle
-pub mod Crews
 pub mod Dispatching
+pub mod Ending
+pub mod Hosts
 pub mod Unswept
-pub mod UnsweptSeats

@@ -2,9 +2,9 @@
 ghost use Rattle.std.specs.Prelude.{◌≡◌, ◌<◌, IfOk, IfErr, OnErr, IfSome, IfNone, true, false, Bool};
 ghost use Rattle.mk_core.specs.Calls.{is_under_turn};
 ghost use Rattle.mk_never.specs.declared.operations.Op.{Op};
-ghost use Rattle.mk_alloc.specs.{Below.Callers.Causes.{FindsGateHeld, IsRefused}, Below.Callers.Moves.is_access};
+ghost use Rattle.mk_alloc.specs.Below.Callers.{Called.{FindsGateHeld, IsRefused}, Moves.is_access};
 ghost use Rattle.mk_alloc.specs.{Below.Callers.States.{caller_of_pass, Admits}, TurnCalls.MayTakeTurns};
-ghost use Rattle.mk_alloc.specs.Underway.{PassKeeps};
+ghost use Rattle.mk_alloc.specs.Rooms.{PassKeeps};
 ghost use Rattle.mk_heap.specs.Dispatching.{Answers, IsCalled, IsPutOff, StaysAdmitted, StaysBeside};
 
 use mk_alloc::lower::callers::{Caller, Refusal};

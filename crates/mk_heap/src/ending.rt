@@ -1,8 +1,8 @@
 //! The host's cycles, and the end of a heap.
 ghost use Rattle.std.specs.Prelude.{◌≡◌, None, false};
-ghost use Rattle.mk_alloc.specs.{Below.Words.Seats.{Has, HasCallers, has_over}, Below.Words.Steps.IsEnabledTo};
-ghost use Rattle.mk_alloc.specs.{Below.Cycles.Begun.EachIsBegun, Below.Cycles.EngineLaw.IsAtPhase};
-ghost use Rattle.mk_alloc.specs.{Below.Words.Sweeping.SweepsNothing, Closes.{EachIsFinished, EachIsSaid}};
+ghost use Rattle.mk_alloc.specs.Below.Words.{States.{Has, HasCallers, has_over}, Steps.IsEnabledTo};
+ghost use Rattle.mk_alloc.specs.Below.Cycles.{BeginCycle.EachIsBegun, EngineLaw.IsAtPhase};
+ghost use Rattle.mk_alloc.specs.{Below.Words.Sweeping.SweepsNothing, TurnCycles.{EachIsFinished, EachIsSaid}};
 ghost use Rattle.mk_heap.specs.Ending.{CallersAreJoined, IsIdleTurn, MakesToldCycle, SaysOver, TakesIdleTurn};
 ghost use Rattle.mk_heap.specs.Hosts.{with_seen};
 ghost use Rattle.mk_core.specs.declared.events.Seat.TheVariants as seat;

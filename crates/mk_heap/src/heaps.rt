@@ -1,8 +1,8 @@
 //! A heap: the words that callers and markers share.
 ghost use Rattle.std.specs.Prelude.{◌≡◌, IfOk};
-ghost use Rattle.mk_core.specs.Config.{IsWithinLimits};
+ghost use Rattle.mk_core.specs.Moments.{IsWithinLimits};
 ghost use Rattle.mk_heap.specs.Hosts.{first_host, AllAreJoined};
-ghost use Rattle.mk_heap.specs.Reports.{history_of, config_of, HasCounts, IsWhole, MarkersAreBelow};
+ghost use Rattle.mk_heap.specs.Hosts.{history_of, config_of, HasCounts, IsWhole, MarkersAreBelow};
 
 use crate::hosts::Host;
 use crate::reports::Report;

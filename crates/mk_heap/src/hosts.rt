@@ -1,11 +1,11 @@
 //! The host: it creates callers and markers, and joins them.
 ghost use Rattle.std.specs.Prelude.{◌≡◌, ◌<◌, [], ◌∷◌, Some, IsSome, true, false};
-ghost use Rattle.mk_core.specs.{Counts.IsTidy, History.IsHistory, Ranges.is_word};
-ghost use Rattle.mk_alloc.specs.{Below.Words.Seats.{Has, has_over}, Below.Callers.States.{IsAtHome, IsIdleCaller}};
+ghost use Rattle.mk_core.specs.{Counts.IsTidy, History.IsHistory, Conditions.is_word};
+ghost use Rattle.mk_alloc.specs.Below.{Words.States.{Has, has_over}, Callers.States.{IsAtHome, IsIdleCaller}};
 ghost use Rattle.mk_alloc.specs.Below.Words.Sweeping.{SweepsNothing};
 ghost use Rattle.mk_marker.specs.Markers.{IsMarkers, IsOut};
 ghost use Rattle.mk_heap.specs.Hosts.{TakesBack, pass_for, with_caller_made, with_caller_out, with_marker_made};
-ghost use Rattle.mk_heap.specs.{Hosts.{with_seen, IsDone}, Turns.{is_register, TellsWord}};
+ghost use Rattle.mk_heap.specs.{Hosts.{with_seen, IsDone}, Ending.{is_register, TellsWord}};
 ghost use Rattle.mk_core.specs.declared.events.Seat.TheVariants as seat;
 
 use crate::heaps::Heap;

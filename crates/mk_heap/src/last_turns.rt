@@ -1,7 +1,7 @@
 //! The host's last turns, when the scripts are joined.
 ghost use Rattle.std.specs.Prelude.{◌≡◌, true};
-ghost use Rattle.mk_alloc.specs.Below.Words.Seats.{has_over};
-ghost use Rattle.mk_heap.specs.LastTurns.{BeginsAsAsked, GoesOnAlone, HasAllHome, TakesLastTurns};
+ghost use Rattle.mk_alloc.specs.Below.Words.States.{has_over};
+ghost use Rattle.mk_heap.specs.Ending.{BeginsAsAsked, GoesOnAlone, HasAllHome, TakesLastTurns};
 
 use crate::heaps::Heap;
 use crate::hosts::Host;

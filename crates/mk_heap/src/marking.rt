@@ -1,7 +1,7 @@
 //! Markers, each on a thread of its own, beside the callers.
 ghost use Rattle.std.specs.{Prelude.{◌≡◌, ◌+◌, ◌≤◌, true, false}, Thread.IsSync};
 ghost use Rattle.mk_marker.specs.Markers.{attends};
-ghost use Rattle.mk_heap.specs.{Crews.{HasMade, HasMarkersOut, IsMarkersPass, RanBeside}, Hosts.HostState};
+ghost use Rattle.mk_heap.specs.Hosts.{HasMade, HasMarkersOut, IsMarkersPass, RanBeside, HostState};
 
 use crate::heaps::Heap;
 use crate::hosts::Host;

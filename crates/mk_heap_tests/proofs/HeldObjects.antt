@@ -9,11 +9,11 @@ use Rattle.mk_heap_tests.proofs.Vocabulary.{MayAllocate, Ok, OnOk, PassState, Re
 use Rattle.mk_heap_tests.proofs.{Vocabulary.value_of, JoinedHosts.{has_registers, null_at_first, pass_after}}
 use Rattle.mk_never.specs.{Admitted.IsBase, NeverHeap.after_op}
 use Rattle.mk_run.specs.Below.Objects.TurnCalls.{CalledInTurn, FreesObject, IsAnsweredDouble, IsAnsweredFull}
-use Rattle.mk_run.specs.{Below.Objects.declared.making.Full.Full, Below.Callers.States.never_then}
-use Rattle.mk_run.specs.{Below.Objects.declared.retirement.Double.Double, Below.Objects.declared.retirement.Freed.Freed}
+use Rattle.mk_run.specs.Below.{Objects.declared.making.Full.Full, Callers.States.never_then}
+use Rattle.mk_run.specs.Below.Objects.declared.retirement.{Double.Double, Freed.Freed}
 use Rattle.mk_run.proofs.Below.Callers.After.{set_same}
 use Rattle.mk_heap_tests.specs.HeldObjects.{BothGoOn, GoesOn, HoldsObjects, MayMakeObjects}
-use Rattle.mk_run.specs.Below.Heaps.Crews.{IsFirstPass}
+use Rattle.mk_run.specs.Below.Heaps.Hosts.{IsFirstPass}
 
 -- what calls ask of such a caller
 

@@ -8,17 +8,17 @@ use Rattle.mk_heap_tests.proofs.Vocabulary.{PassState, Result, WordsState, has_a
 use Rattle.mk_heap_tests.proofs.JoinedHosts.{HasJoinedOne, IsUnused, free_at_first, has_joined, none_is_held_at}
 use Rattle.mk_heap_tests.proofs.JoinedHosts.{only_zero, split_is}
 use Rattle.mk_heap_tests.proofs.JoinedHosts.{still_unused, unused}
-use Rattle.mk_core.specs.{History.left_from, MarkerConditions.is_out}
+use Rattle.mk_core.specs.{History.left_from, MarkingConditions.is_out}
 use Rattle.mk_run.proofs.Below.Cycles.HoldingSteps.{all_held_below, held_free, held_table, hold_allowed, hold_holds}
-use Rattle.mk_run.proofs.{Below.Cycles.Allowed.{or_true, protocol}, Below.Cycles.BeginSteps.none_held_kept}
-use Rattle.mk_run.proofs.{Below.Cycles.MayAct.may_act, Below.Heaps.Overs.{HasLooked, begun_free, looked, looked_idle}}
-use Rattle.mk_run.proofs.{Below.Heaps.HostsKept.{first_is_host, host_may_take}, Below.Heaps.MovedHosts.turn_moves}
+use Rattle.mk_run.proofs.Below.Cycles.{Allowed.{or_true, protocol}, BeginSteps.none_held_kept}
+use Rattle.mk_run.proofs.Below.{Cycles.MayAct.may_act, Heaps.Overs.{HasLooked, begun_free, looked, looked_idle}}
+use Rattle.mk_run.proofs.Below.Heaps.{HostsKept.{first_is_host, host_may_take}, MovedHosts.turn_moves}
 use Rattle.mk_run.proofs.Below.Words.Seats.{without_keeps}
-use Rattle.mk_run.specs.{Below.Cycles.BeginCycle.BeginsCycle, Below.Cycles.EngineLaw.IsFreeForCycle}
-use Rattle.mk_run.specs.{Below.Cycles.Holding.HoldsGates, Below.Heaps.Hosts.{IsHost, first_host, with_caller_made}}
-use Rattle.mk_run.specs.{Below.Heaps.Hosts.{with_joined, with_marker_made}, Below.Markers.Markers.{IsOut, attends}}
-use Rattle.mk_run.specs.{Below.Words.Seats.{all_seats, has_over, without_seat}, Below.Words.TurnSteps.Acts}
-use Rattle.mk_heap_tests.specs.Passes.{HostIsMarking, IsHostsPass, IsMarkerOut}
+use Rattle.mk_run.specs.Below.Cycles.{BeginCycle.BeginsCycle, EngineLaw.IsFreeForCycle}
+use Rattle.mk_run.specs.Below.{Cycles.Stops.HoldsGates, Heaps.Hosts.{IsHost, first_host, with_caller_made}}
+use Rattle.mk_run.specs.Below.{Heaps.Hosts.{with_joined, with_marker_made}, Markers.Markers.{IsOut, attends}}
+use Rattle.mk_run.specs.Below.Words.{States.{all_seats, has_over, without_seat}, TurnSteps.Acts}
+use Rattle.mk_heap_tests.specs.HeldObjects.{HostIsMarking, IsHostsPass, IsMarkerOut}
 
 pub attends_not : (p : PassState) → IsOut p → attends p ≡ false
 attends_not p out = grind arith

@@ -5,14 +5,14 @@ use Rattle.mk_heap_tests.proofs.Vocabulary.{IsEnabledTo, IsPassFor, IsPassOfObje
 use Rattle.mk_heap_tests.proofs.Vocabulary.{caller_of_pass, now_of}
 use Rattle.mk_run.proofs.Below.Objects.CalledTurns.{Taken, callers, take_allowed, taken_phase, taken_same}
 use Rattle.mk_run.proofs.Below.Objects.FreedTurns.{Frees, Refuses, double_answered, freed, freed_object, refused}
-use Rattle.mk_run.proofs.{Below.Objects.FreedTurns.unloaded, Below.Objects.NewTurns.{begun_quiet, begun_unplaced}}
-use Rattle.mk_run.proofs.{Below.Objects.NewTurns.operands_of, Below.Objects.Going.give_allowed}
-use Rattle.mk_run.proofs.{Below.Objects.SeekingTurns.seeks_placed, Below.Heaps.MovedHosts.taken_own}
-use Rattle.mk_run.specs.{Below.Objects.Rooms.Seeks, Below.Objects.TurnCalls.CalledInTurn}
-use Rattle.mk_run.specs.{Below.Objects.Underway.{BeginsTurn, TurnGoesOn}, Below.Objects.Placing.{IsOutOfStop, IsPlaced}}
-use Rattle.mk_run.specs.{Below.Objects.Placing.IsUnplaced, Below.Objects.Retired.{FindsFreed, Retires}}
-use Rattle.mk_run.specs.{Below.Objects.Retiring.IsUnloaded, Below.Words.States.call_of, Below.Words.Steps.Makes}
-use Rattle.mk_heap_tests.{proofs.HeldObjects.free_keeps, proofs.JoinedHosts.alone_in, specs.Taken.IsTaken}
+use Rattle.mk_run.proofs.Below.Objects.{FreedTurns.unloaded, NewTurns.{begun_quiet, begun_unplaced}}
+use Rattle.mk_run.proofs.Below.Objects.{NewTurns.operands_of, Going.give_allowed}
+use Rattle.mk_run.proofs.Below.{Objects.SeekingTurns.seeks_placed, Heaps.MovedHosts.taken_own}
+use Rattle.mk_run.specs.Below.Objects.{Rooms.Seeks, TurnCalls.CalledInTurn}
+use Rattle.mk_run.specs.Below.Objects.{Rooms.{BeginsTurn, TurnGoesOn}, Placing.{IsOutOfStop, IsPlaced}}
+use Rattle.mk_run.specs.Below.Objects.{Placing.IsUnplaced, Retiring.{FindsFreed, Retires}}
+use Rattle.mk_run.specs.Below.{Objects.Retiring.IsUnloaded, Words.{States.call_of, Steps.Makes}}
+use Rattle.mk_heap_tests.{proofs.{HeldObjects.free_keeps, JoinedHosts.alone_in}, specs.HeldObjects.IsTaken}
 
 abbrev pub first_new : Op
 first_new = Op.New 0 0 false

@@ -6,9 +6,9 @@ use Rattle.mk_heap_tests.proofs.Vocabulary.{Err, HoldsNull, IsCaller, Ok, OnOk, 
 use Rattle.mk_heap_tests.proofs.Vocabulary.{value_of}
 use Rattle.mk_run.proofs.Below.Callers.After.{calls_leave_other_registers}
 use Rattle.mk_run.specs.Below.Callers.Called.{Called, IsAnswered, Says}
-use Rattle.mk_run.specs.{Below.Callers.Causes.{FindsGateHeld, IsRefused}, Below.Callers.Laws.destination}
-use Rattle.mk_run.specs.{Below.Callers.States.{Admits, never_of}, Below.Callers.declared.refusals.Refusal.Refusal}
-use Rattle.mk_heap_tests.{proofs.JoinedHosts.globals_are, proofs.JoinedHosts.has_registers, specs.Passes.StaysNull}
+use Rattle.mk_run.specs.Below.Callers.Called.{FindsGateHeld, IsRefused, destination}
+use Rattle.mk_run.specs.Below.Callers.{States.{Admits, never_of}, declared.refusals.Refusal.Refusal}
+use Rattle.mk_heap_tests.{proofs.JoinedHosts.{globals_are, has_registers}, specs.HeldObjects.StaysNull}
 
 of_a_caller : {p : PassState} → HoldsNull p → IsCaller (never_of p) (caller_of_pass p)
 of_a_caller h = grind (arith, has_registers)

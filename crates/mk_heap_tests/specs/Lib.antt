@@ -1,4 +1,1 @@
-pub mod Passes
-pub mod Taken
 pub mod HeldObjects
-pub mod Configs

@@ -1,8 +1,8 @@
 //! What the tests begin with: a heap that nobody has used, or its words alone, and the passes of its two callers.
 ghost use Rattle.std.specs.Prelude.{◌≡◌, ◌<◌, length, IfOk};
-ghost use Rattle.mk_core.specs.Config.{IsWithinLimits};
+ghost use Rattle.mk_core.specs.Moments.{IsWithinLimits};
 ghost use Rattle.mk_run.specs.Below.Heaps.Hosts.{first_host, with_caller_made};
-ghost use Rattle.mk_heap_tests.specs.Passes.{AreOfTwo, IsHostsPass, IsPassFor};
+ghost use Rattle.mk_heap_tests.specs.HeldObjects.{AreOfTwo, IsHostsPass, IsPassFor};
 
 use mk_core::{Config, Seat};
 use mk_never::NoMemory;

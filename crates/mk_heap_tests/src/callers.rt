@@ -1,8 +1,8 @@
 //! Two callers at once, each on a thread of its own, whose calls are on registers that stay null.
 ghost use Rattle.std.specs.Prelude.{◌≡◌, ◌<◌, true};
 ghost use Rattle.mk_run.specs.Below.Heaps.Hosts.{first_host, with_caller_made};
-ghost use Rattle.mk_run.specs.Below.Heaps.Crews.{IsFirstPass};
-ghost use Rattle.mk_heap_tests.specs.Passes.{AreOfTwo, HoldsNull, IsPassFor, StaysNull};
+ghost use Rattle.mk_run.specs.Below.Heaps.Hosts.{IsFirstPass};
+ghost use Rattle.mk_heap_tests.specs.HeldObjects.{AreOfTwo, HoldsNull, IsPassFor, StaysNull};
 
 use crate::beginnings::{TwoCallers, close};
 use mk_run::lower::callers::{Caller, Refusal};

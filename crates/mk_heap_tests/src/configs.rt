@@ -1,6 +1,6 @@
 //! The heaps on which the tests run.
 ghost use Rattle.std.specs.Prelude.{◌≡◌, IfOk};
-ghost use Rattle.mk_heap_tests.specs.Configs.{one_page};
+ghost use Rattle.mk_heap_tests.specs.HeldObjects.{one_page};
 
 use mk_core::{Config, GlobalTable};
 use mk_never::{Kind, NoMemory, TypeTable};

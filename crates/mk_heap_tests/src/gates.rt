@@ -1,7 +1,7 @@
 //! A gate that the host holds: its caller's call is refused, and that of another caller is made.
 ghost use Rattle.std.specs.Prelude.{◌≡◌, true};
-ghost use Rattle.mk_run.specs.Below.Heaps.Clients.{IsPassOf};
-ghost use Rattle.mk_heap_tests.specs.Passes.{AreOfTwo, IsHostsPass};
+ghost use Rattle.mk_run.specs.Below.Heaps.Hosts.{IsPassOf};
+ghost use Rattle.mk_heap_tests.specs.HeldObjects.{AreOfTwo, IsHostsPass};
 
 use crate::beginnings::Split;
 use mk_run::lower::callers::Caller;

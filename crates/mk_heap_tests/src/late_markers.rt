@@ -1,9 +1,9 @@
 //! A marker that comes before a cycle, to a cycle that is on, and when all is over. All is done on one thread.
 ghost use Rattle.std.specs.Prelude.{◌≡◌, ◌<◌, length, true, false, IfOk, IfSome};
-ghost use Rattle.mk_core.specs.Config.{IsWithinLimits};
+ghost use Rattle.mk_core.specs.Moments.{IsWithinLimits};
 ghost use Rattle.mk_run.specs.Below.Markers.Markers.{attends};
-ghost use Rattle.mk_run.specs.Below.Heaps.Crews.{IsFirstPass};
-ghost use Rattle.mk_heap_tests.specs.Passes.{HostIsMarking, IsHostsPass, IsMarkerOut};
+ghost use Rattle.mk_run.specs.Below.Heaps.Hosts.{IsFirstPass};
+ghost use Rattle.mk_heap_tests.specs.HeldObjects.{HostIsMarking, IsHostsPass, IsMarkerOut};
 
 use crate::beginnings::Split;
 use crate::objects::make;

@@ -1,7 +1,8 @@
 //! Objects of two words that callers make and free by direct calls, on one page of 32 cells.
 ghost use Rattle.std.specs.Prelude.{◌≡◌, ◌<◌};
 ghost use Rattle.mk_run.specs.Below.Heaps.Hosts.{first_host, with_caller_made};
-ghost use Rattle.mk_heap_tests.specs.{HeldObjects.{BothGoOn, BothMayAllocate, GoesOn, MayAllocate}, Passes.AreOfTwo};
+ghost use Rattle.mk_heap_tests.specs.HeldObjects.{BothGoOn, BothMayAllocate, GoesOn, MayAllocate};
+ghost use Rattle.mk_heap_tests.specs.HeldObjects.{AreOfTwo};
 
 use crate::beginnings::{TwoCallers, close};
 use mk_run::lower::callers::Caller;

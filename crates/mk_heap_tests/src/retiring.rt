@@ -1,6 +1,6 @@
 //! Objects freed by direct calls under the turn, on one page of 32 cells. No cycle is made where a free is due.
 ghost use Rattle.std.specs.Prelude.{◌≡◌, ◌<◌, IfSome};
-ghost use Rattle.mk_heap_tests.specs.{HeldObjects.IsPassOfObjects, Passes.AreOfTwo};
+ghost use Rattle.mk_heap_tests.specs.HeldObjects.{IsPassOfObjects, AreOfTwo};
 
 use crate::beginnings::Split;
 use crate::objects::make_many;

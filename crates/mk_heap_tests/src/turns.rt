@@ -1,9 +1,9 @@
 //! Calls under the turn, one step at a time: objects are placed until no place is left, and who finds the turn taken,
 //! or its gate held, is told so.
 ghost use Rattle.std.specs.Prelude.{◌≡◌, ◌<◌, length, IfSome};
-ghost use Rattle.mk_core.specs.Config.{IsWithinLimits};
+ghost use Rattle.mk_core.specs.Moments.{IsWithinLimits};
 ghost use Rattle.mk_run.specs.Below.Words.Steps.{IsEnabledTo};
-ghost use Rattle.mk_heap_tests.specs.{Passes.IsPassFor, Taken.IsTaken};
+ghost use Rattle.mk_heap_tests.specs.HeldObjects.{IsPassFor, IsTaken};
 ghost use Rattle.mk_core.specs.declared.events.Step.TheVariants as step;
 
 use crate::beginnings::split_callers;

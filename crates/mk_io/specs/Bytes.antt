@@ -1,7 +1,7 @@
 -- The bytes that a source has left, and those that a sink has taken. `None` stands for one that
 -- does not tell them: of it these words claim nothing.
 use Rattle.std.specs.Prelude.{◌≡◌, ℕ, Bool, true, ◌+◌, ◌<◌, ◌≤◌, List, [], ◌++◌, length, take, drop, Some, IfSome}
-use Rattle.std.specs.declared.option.Option.{Option}
+use Rattle.std.specs.{Prelude.{false, None, if◌then◌else◌}, declared.option.Option.Option}
 
 -- how many bytes an input may have: one MiB
 abbrev pub longest_input : ℕ
@@ -41,3 +41,22 @@ AppendsPart old new bytes = (n : ℕ) × (n < length bytes) × Appends old new (
 -- a sink that had room for more than these bytes has room for the rest
 abbrev pub KeepsRoom : (ℕ → Bool) → (ℕ → Bool) → ℕ → Type 0
 KeepsRoom old new n = (more : ℕ) → old (n + more) ≡ true → new more ≡ true
+
+-- The bytes that the reader has left or that the writer holds, if it says so, whether the stream tells them, and how
+-- many calls failed, which stops at 2^64 - 1.
+pub record Stream : Type 0 where
+  pub known : Option (List ℕ)
+  pub tells : Bool
+  pub faults : ℕ
+
+-- a stream before its first call that tells nothing
+abbrev pub new_stream : Option (List ℕ) → Stream
+new_stream known = record { known = known; tells = false; faults = 0 }
+
+-- a stream before its first call that tells what its reader or writer does
+abbrev pub telling_stream : Option (List ℕ) → Stream
+telling_stream known = record { known = known; tells = true; faults = 0 }
+
+-- the bytes that a stream tells
+abbrev pub told : Stream → Option (List ℕ)
+told s = if s.tells then s.known else None

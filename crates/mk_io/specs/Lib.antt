@@ -1,5 +1,2 @@
 pub mod Bytes
-pub mod Faults
-pub mod MemSink
-pub mod MemSource
-pub mod Stream
+pub mod Memory

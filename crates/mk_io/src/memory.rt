@@ -1,9 +1,9 @@
 // Sources and sinks in memory, whose calls move few bytes and fail as they are told.
 ghost use Rattle.std.specs.Prelude.{◌≡◌, ℕ, ◌<◌, ◌≤◌, max, length, take, Some, true, false, IfOk, OnOk, OnErr};
 ghost use Rattle.std.specs.Result.{result_ok};
-ghost use Rattle.mk_io.specs.{Bytes.{Appends, Takes, IsAtEnd, KeepsRoom}, Faults.{Rose, saturating_next, fails_next}};
-ghost use Rattle.mk_io.specs.MemSink.{new_sink, count_written, after_write, sink_has_room};
-ghost use Rattle.mk_io.specs.MemSource.{new_source, count_read, after_read, source_never_fails};
+ghost use Rattle.mk_io.specs.{Bytes.{Appends, Takes, IsAtEnd, KeepsRoom}, Memory.{Rose, saturating_next, fails_next}};
+ghost use Rattle.mk_io.specs.Memory.{new_sink, count_written, after_write, sink_has_room};
+ghost use Rattle.mk_io.specs.Memory.{new_source, count_read, after_read, source_never_fails};
 
 use crate::sinks::Sink;
 use crate::sources::Source;
@@ -60,7 +60,7 @@ pub struct MemSource {
 
 impl Model for MemSource {
     ghost use Rattle.std.specs.Prelude.{◌≤◌, drop, vec_len};
-    ghost use Rattle.mk_io.specs.MemSource.{SourceState};
+    ghost use Rattle.mk_io.specs.Memory.{SourceState};
 
     ghost Value = { SourceState };
 
@@ -140,7 +140,7 @@ pub struct MemSink {
 
 impl Model for MemSink {
     ghost use Rattle.std.specs.Prelude.{◌+◌, ◌≤◌, vec_len, vec_capacity};
-    ghost use Rattle.mk_io.specs.MemSink.{SinkState};
+    ghost use Rattle.mk_io.specs.Memory.{SinkState};
 
     ghost Value = { SinkState };
 

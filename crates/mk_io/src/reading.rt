@@ -1,6 +1,6 @@
 // Reading all bytes of a source.
 ghost use Rattle.std.specs.Prelude.{◌≡◌, ◌≢◌, ◌+◌, ◌≤◌, vec_len, false, IfOk};
-ghost use Rattle.mk_io.specs.{Bytes.{TakesAll, TakesCount, TakesAtMost, longest_input}, Faults.Rose};
+ghost use Rattle.mk_io.specs.{Bytes.{TakesAll, TakesCount, TakesAtMost, longest_input}, Memory.Rose};
 
 use crate::sources::Source;
 use std::alloc::Global;

@@ -1,7 +1,7 @@
 // What bytes are written to.
 ghost use Rattle.std.specs.Prelude.{◌≡◌, ℕ, Bool, List, ◌<◌, ◌≤◌, length, take, false, IfOk, OnOk, OnErr};
 ghost use Rattle.std.specs.declared.option.Option.{Option};
-ghost use Rattle.mk_io.specs.{Bytes.{Appends, KeepsRoom}, Faults.Rose};
+ghost use Rattle.mk_io.specs.{Bytes.{Appends, KeepsRoom}, Memory.Rose};
 
 use crate::Failed;
 

@@ -1,7 +1,7 @@
 // What bytes are read from.
 ghost use Rattle.std.specs.Prelude.{◌≡◌, ℕ, Bool, List, ◌<◌, ◌≤◌, length, take, true, false, IfOk, OnOk, OnErr};
 ghost use Rattle.std.specs.declared.option.Option.{Option};
-ghost use Rattle.mk_io.specs.{Bytes.{Takes, IsAtEnd}, Faults.Rose};
+ghost use Rattle.mk_io.specs.{Bytes.{Takes, IsAtEnd}, Memory.Rose};
 
 use crate::Failed;
 

@@ -1,8 +1,8 @@
 // Sources and sinks over the readers and writers of std, as a program's standard input and output.
 ghost use Rattle.std.specs.Prelude.{◌≡◌, ◌<◌, ◌≤◌, length, take, false, IfOk, OnErr, IsSome, is_err, if◌then◌else◌};
 ghost use Rattle.std.specs.Io.KnownBytes.{ReadConsumes, WriteAppends};
-ghost use Rattle.mk_io.specs.{Bytes.{Appends, IsAtEnd, Takes}, Faults.{Rose, saturating_next}};
-ghost use Rattle.mk_io.specs.Stream.{new_stream, telling_stream, told};
+ghost use Rattle.mk_io.specs.{Bytes.{Appends, IsAtEnd, Takes}, Memory.{Rose, saturating_next}};
+ghost use Rattle.mk_io.specs.Bytes.{new_stream, telling_stream, told};
 
 use crate::Failed;
 use crate::sinks::Sink;
@@ -24,7 +24,7 @@ pub struct StdinSource<T: Read> {
 
 impl<T: Read> Model for StdinSource<T> {
     ghost use Rattle.std.specs.Prelude.{◌≡◌, true, IsSome};
-    ghost use Rattle.mk_io.specs.Stream.{Stream};
+    ghost use Rattle.mk_io.specs.Bytes.{Stream};
 
     ghost Value = { Stream };
 
@@ -104,7 +104,7 @@ pub struct StdoutSink<T: Write> {
 
 impl<T: Write> Model for StdoutSink<T> {
     ghost use Rattle.std.specs.Prelude.{◌≡◌, true, IsSome};
-    ghost use Rattle.mk_io.specs.Stream.{Stream};
+    ghost use Rattle.mk_io.specs.Bytes.{Stream};
 
     ghost Value = { Stream };
 

@@ -1,6 +1,6 @@
 // Writing all bytes to a sink.
 ghost use Rattle.std.specs.Prelude.{◌≡◌, ◌≤◌, length, false, OnOk, OnErr};
-ghost use Rattle.mk_io.specs.{Bytes.{Appends, AppendsPart}, Faults.Rose};
+ghost use Rattle.mk_io.specs.{Bytes.{Appends, AppendsPart}, Memory.Rose};
 
 use crate::Failed;
 use crate::sinks::Sink;

@@ -2,7 +2,7 @@
 use Rattle.std.proofs.Common.{ap₂}
 use Rattle.mk_laws.proofs.Vocabulary.{List, NeverState, Null, Ptr, Value, allocation_at, ap, get_or, inl, inr}
 use Rattle.mk_laws.proofs.Vocabulary.{number_of, refl, subst, sym, word_at, words_of, ℕ, [], ◌∙◌, ◌∷◌, ◌≡◌, ◌≢◌, ◌⊎◌}
-use Rattle.mk_jobs.specs.{Keeping.{Public, World}, Laws.IsOneOf, Linked.{AreLinked, numbers_in}}
+use Rattle.mk_jobs.specs.{Keeping.{Public, World}, Laws.IsOneOf, Jobs.{AreLinked, numbers_in}}
 
 -- Words that are the same are so one by one.
 pub word_of : (n m : NeverState) (a i : ℕ) → words_of m a ≡ words_of n a → word_at m a i ≡ word_at n a i

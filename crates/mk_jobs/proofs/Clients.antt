@@ -5,7 +5,7 @@ use Rattle.mk_laws.proofs.Vocabulary.{refl, register_at, subst, sym, true, word_
 use Rattle.mk_laws.proofs.Vocabulary.{eqb-true, ltb-true, ◌≤◌, ◌⊎◌}
 use Rattle.mk_never.specs.{Laws.StoresTo, NeverHeap.{Allocation, after_op, reply_of}, Types.zero_words}
 use Rattle.mk_never.specs.declared.operations.Reply.{Reply}
-use Rattle.mk_jobs.specs.{Jobs.{Asks, number_replied}, Laws.is_pointer_to, Plans.{Hold, Plan}, Typing.hold_of}
+use Rattle.mk_jobs.specs.{Jobs.{Asks, number_replied}, Laws.is_pointer_to, Typing.{Hold, Plan, hold_of}}
 use Rattle.mk_jobs.specs.Keeping.{Covers, Decides, Gone, IsOf, IsShown, IsThere, Moves, Private, Public, TakesPublic}
 use Rattle.mk_jobs.{specs.Keeping.{Unborn, World, after, is_owed}, proofs.Operations.{stores_register, was_same}}
 use Rattle.mk_jobs.proofs.{Asked.{new_ways, one_way, two_ways}, Covering.{by_free, by_grant, by_look, by_own_write}}

@@ -7,15 +7,15 @@ use Rattle.mk_jobs.proofs.{RunVocabulary.{pass_for, replied_to}, JobRuns.are_job
 use Rattle.mk_jobs.{proofs.JoinedJobs.{exact_on, next_unasked, still_have}, specs.Runs.{AreExplainedJobs, IsRun}}
 use Rattle.mk_laws.proofs.Vocabulary.{Bool, List, ℕ, ap, arith, false, Option, is_one_of, length, subst, sym, true}
 use Rattle.mk_laws.proofs.Vocabulary.{true≢false, [], ◌++◌, ◌+◌, ◌<◌, ◌∙◌, ◌∷◌, ◌≡◌, ◌≤◌}
-use Rattle.mk_heap.proofs.{Below.Objects.Bounds.quarantines_are_bounded, Below.Words.Seats.others_own}
+use Rattle.mk_heap.proofs.Below.{Objects.Bounds.quarantines_are_bounded, Words.Seats.others_own}
 use Rattle.mk_heap.proofs.{Below.Objects.EndedCycles.{others_at, others_behind}, HostTurns.{comes_last, still_last}}
 use Rattle.mk_heap.proofs.Below.Objects.ListParts.{InFirst, InSecond, stands}
-use Rattle.mk_heap.specs.{Below.Words.Seats.has_over, Crews.JoinsMarkers, Ending.CallersAreJoined}
-use Rattle.mk_heap.specs.{Hosts.{AllAreJoined, with_seen}, LastTurns.{BeginsAsAsked, CallersAreStill}}
-use Rattle.mk_heap.specs.{Reports.{HasCounts, IsWhole}, Below.Objects.Bounds.HostBeginsLast, HostTurns.HostComesLast}
-use Rattle.mk_jobs.specs.{declared.runs.Outcome.Outcome, declared.working.Ended.Ended, Laws.IsAlwaysExplained}
+use Rattle.mk_heap.specs.{Below.Words.States.has_over, Hosts.JoinsMarkers, Ending.CallersAreJoined}
+use Rattle.mk_heap.specs.{Hosts.{AllAreJoined, with_seen}, Ending.{BeginsAsAsked, CallersAreStill}}
+use Rattle.mk_heap.specs.{Hosts.{HasCounts, IsWhole}, Below.Objects.Bounds.HostBeginsLast, Ending.HostComesLast}
+use Rattle.mk_jobs.specs.{declared.{runs.Outcome.Outcome, working.Ended.Ended}, Laws.IsAlwaysExplained}
 use Rattle.mk_jobs.specs.{Jobs.{IsEnd, IsFounding}, Joining.{HaveEnded, HaveFoundedAndWorked}, Passes.Founds}
-use Rattle.mk_heap.specs.Reports as report
+use Rattle.mk_heap.specs.Hosts as report
 
 -- Where the host comes last, so does each of its cycles.
 host_begins_last : (c : Config) {with_cycle : Bool} {es : List Event} → HostComesLast c.callers with_cycle es

@@ -2,7 +2,7 @@
 use Rattle.mk_laws.proofs.Vocabulary.{List, Op, ap, inl, inr, subst, sym, [], ◌∙◌, ◌∷◌, ◌≡◌}
 use Rattle.mk_never.specs.declared.operations.Reply.{Reply}
 use Rattle.mk_heap.specs.Below.Words.States.{PassState}
-use Rattle.mk_jobs.specs.{Jobs.{Asks, Leads, Replied}, Passes.DoesJob, Plans.Plan, declared.steps.Step.{Step}}
+use Rattle.mk_jobs.specs.{Jobs.{Asks, Leads, Replied}, Passes.DoesJob, Typing.Plan, declared.steps.Step.{Step}}
 
 module _ {Job Done Point Kind : Type 0} (p : Plan Job Done Point) (kind : Point → Kind)
     (stays : (s t : Point) (o : Op) (r : Reply) → Asks p.with_number (p.step s) o r t → kind t ≡ kind s) where

@@ -1,7 +1,7 @@
 -- A caller does one job more of its list.
 use Rattle.std.proofs.lemmas.List.{take_more}
 use Rattle.mk_jobs.proofs.RunVocabulary.{AreJobRuns, DoesJob, DoesJobs, JobRun, PassState, Plan, Replied, all_of}
-use Rattle.mk_jobs.{proofs.RunVocabulary.{replied_to}, specs.{JobLists.{dones_of, jobs_of}, Jobs.IsJobRun}}
+use Rattle.mk_jobs.{proofs.RunVocabulary.{replied_to}, specs.{Runs.{dones_of, jobs_of}, Jobs.IsJobRun}}
 use Rattle.mk_laws.proofs.Vocabulary.{List, ℕ, ap, append-nil, append_assoc, get_or, length, refl, sym, take, [], ◌++◌}
 use Rattle.mk_laws.proofs.Vocabulary.{◌+◌, ◌<◌, ◌∙◌, ◌∷◌, ◌≡◌}
 

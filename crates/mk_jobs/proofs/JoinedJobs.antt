@@ -1,6 +1,6 @@
 -- Callers that did their jobs, as the host joins them.
 use Rattle.std.proofs.{Common.{Err, IfOk, IsOk, Ok, OnOk, Result, slice_get}, lemmas.List.drop_more}
-use Rattle.std.proofs.{lemmas.Option.slice_get-get_or, lemmas.Result.IfOk-weaker}
+use Rattle.std.proofs.lemmas.{Option.slice_get-get_or, Result.IfOk-weaker}
 use Rattle.mk_jobs.proofs.RunVocabulary.{Caller, CallerState, Config, DoesJobs, Dones, Event, Grows, Has, HasDone}
 use Rattle.mk_jobs.proofs.RunVocabulary.{HasMade, HaveDone, HaveWorked, Host, HostState, IsAtHome, IsBetweenJobs}
 use Rattle.mk_jobs.proofs.RunVocabulary.{IsMadeFor, IsReady, Jobs, Joined, OwnAreExact, PassState, Plan, Replied, Seat}
@@ -11,9 +11,9 @@ use Rattle.mk_laws.proofs.Vocabulary.{Bool, List, Some, ℕ, ap, arith, caller_n
 use Rattle.mk_laws.proofs.Vocabulary.{sym, true, [], ◌++◌, ◌+◌, ◌<◌, ◌∙◌, ◌∷◌, ◌≡◌, ◌≤◌, ◌⊎◌, inl, inr, suc}
 use Rattle.mk_never.specs.declared.never_heap.NoMemory.{NoMemory}
 use Rattle.mk_core.specs.History.{calls_from}
-use Rattle.mk_heap.proofs.{Below.Objects.ExactTurns.stay_exact_behind_others, Below.Words.Seats.{has_first, has_left}}
+use Rattle.mk_heap.proofs.Below.{Objects.ExactTurns.stay_exact_behind_others, Words.Seats.{has_first, has_left}}
 use Rattle.mk_heap.proofs.{Below.Words.Seats.{has_right, others_own}, HostTurns.{host_is_still, unseen_by_host}}
-use Rattle.mk_heap.specs.{Below.Callers.States.IsIdleCaller, Below.Words.Seats.has_over}
+use Rattle.mk_heap.specs.Below.{Callers.States.IsIdleCaller, Words.States.has_over}
 
 -- What a caller did stands where the list goes on by events of others.
 

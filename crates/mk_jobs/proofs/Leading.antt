@@ -8,8 +8,8 @@ use Rattle.mk_laws.proofs.Vocabulary.{word_at, ℕ, ◌*◌, ◌+◌, ◌<◌, �
 use Rattle.mk_never.specs.{Admitted.IsOfKind, NeverHeap.{after_op, global_at, reply_of}}
 use Rattle.mk_never.specs.declared.operations.Reply.{Reply}
 use Rattle.mk_heap.specs.Dispatching.{as_told}
-use Rattle.mk_jobs.specs.{Plans.{Hold, Anything, MayPoint, Points, Owns, Owes, Plan}, Jobs.{Asks, Has, number_replied}}
-use Rattle.mk_jobs.specs.{declared.steps.Step.Step, Advancing.{next_by, number_answered, op_of, says_yes}}
+use Rattle.mk_jobs.specs.{Typing.{Hold, Anything, MayPoint, Points, Owns, Owes, Plan}, Jobs.{Asks, Has, number_replied}}
+use Rattle.mk_jobs.specs.{declared.steps.Step.Step, Passes.{next_by, number_answered, op_of, says_yes}}
 use Rattle.mk_jobs.specs.Typing.{IsTypedStep, found, freed, global_type, hold_of, is_number_there, is_own, is_there}
 use Rattle.mk_jobs.specs.Typing.{kind_there, leads, leads_shared, loaded, may_go, may_set, taken, type_there, with_hold}
 use Rattle.mk_jobs.proofs.Holds.{HoldsIn, both, lead_so, pointer_may, same_so, set_so, share_so}

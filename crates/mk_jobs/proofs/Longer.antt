@@ -2,7 +2,7 @@
 use Rattle.std.proofs.Common.{ap₂}
 use Rattle.mk_laws.proofs.Vocabulary.{List, NeverState, Null, Ptr, Value, allocation_at, ap, cases_eq, inl, inr}
 use Rattle.mk_laws.proofs.Vocabulary.{number_of, refl, subst, sym, word_at, ℕ, [], ◌++◌, ◌∙◌, ◌∷◌, ◌≡◌, ◌≢◌, ◌⊎◌}
-use Rattle.mk_jobs.specs.{Keeping.{Private, Public, World}, Laws.IsOneOf, Linked.numbers_in}
+use Rattle.mk_jobs.specs.{Keeping.{Private, Public, World}, Laws.IsOneOf, Jobs.numbers_in}
 use Rattle.mk_jobs.proofs.{Chains.{IsChain, IsNotAmong, IsPart, numbers_stay, word_of}, Heaps.Stores, Puts.Puts}
 use Rattle.mk_jobs.proofs.Rows.{HasRow, not_root}
 

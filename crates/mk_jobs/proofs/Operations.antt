@@ -7,7 +7,7 @@ use Rattle.mk_laws.proofs.Vocabulary.{target_of, Option, true, with_register, wi
 use Rattle.mk_laws.proofs.Vocabulary.{◌<◌, ◌∙◌, ◌≡◌, ◌≢◌, ◌≤◌, nat_lt, ltb-true}
 use Rattle.mk_never.specs.{Laws.{Reaches, StoresTo}, NeverHeap.{Allocation, after_free, after_op, reply_of}}
 use Rattle.mk_never.{specs.declared.operations.Reply.{Reply}, proofs.Sameness.{equal_from_same, same_from_equal}}
-use Rattle.mk_jobs.specs.{Keeping.{IsThere, Unborn, World}, Plans.Plan}
+use Rattle.mk_jobs.specs.{Keeping.{IsThere, Unborn, World}, Typing.Plan}
 use Rattle.mk_jobs.proofs.Heaps.{Creates, Frees, Sets, Stores, creates, frees, global_set, sets, stores}
 
 bit_is_one : (b : Bool) → bit b ≡ 1 → b ≡ true

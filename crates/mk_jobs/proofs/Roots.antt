@@ -4,7 +4,7 @@ use Rattle.mk_laws.proofs.Vocabulary.{kinds_of, length, suc, zero, [], ◌∷◌
 use Rattle.mk_laws.proofs.Vocabulary.{subst, sym, ℕ, ◌∙◌, ◌≡◌, ◌≢◌, ◌⊎◌}
 use Rattle.mk_never.specs.{NeverHeap.{reply_of, start_of}, declared.operations.Reply.Reply}
 use Rattle.mk_jobs.specs.Keeping.{Covers, Gone, IsShown, IsThere, Moves, Public, Role, Unborn, World, after}
-use Rattle.mk_jobs.{specs.{Linked.node_kinds, Plans.Plan}, proofs.Having.{IsShownOf, not_null}}
+use Rattle.mk_jobs.{specs.{Jobs.node_kinds, Typing.Plan}, proofs.Having.{IsShownOf, not_null}}
 use Rattle.mk_jobs.proofs.Clients.{Client, by_load_global, by_null, decides_so, undecided, was_decided, when_null}
 use Rattle.mk_jobs.proofs.{Clients.when_some, Heaps.Frees, Puts.{Puts, PutsTwo}, Having.{HasRoot, IsFounder, IsPassed}}
 

@@ -4,7 +4,7 @@ use Rattle.std.proofs.Common.{ap₂}
 use Rattle.mk_laws.proofs.Vocabulary.{List, Null, Ptr, Value, allocation_at, ap, cases_eq, inl, inr, number_of, subst}
 use Rattle.mk_laws.proofs.Vocabulary.{sym, word_at, ℕ, [], ◌∙◌, ◌∷◌, ◌≡◌, ◌≢◌, ◌⊎◌}
 use Rattle.mk_jobs.specs.{Keeping.{Covers, IsShown, Private, Public, Role, Taken, World}, Laws.IsOneOf}
-use Rattle.mk_jobs.{specs.Linked.{numbers_in}, proofs.Puts.{Puts}}
+use Rattle.mk_jobs.{specs.Jobs.{numbers_in}, proofs.Puts.{Puts}}
 use Rattle.mk_jobs.proofs.Chains.{IsChain, IsNotAmong, IsPart, chain_stays, hidden, next_of, not_one_of, numbers_stay}
 use Rattle.mk_jobs.proofs.{Chains.{part_of, word_of}, Having.{PointsTo, not_null, part_is_shown}, Heaps.Stores}
 

@@ -14,9 +14,9 @@ pub use Rattle.mk_never.specs.NeverHeap.{Allocation, Call, NeverState, after_cal
 pub use Rattle.mk_never.specs.NeverHeap.{bit, global_at, is_same, is_unmapped, left_at, no_allocation, register_at}
 pub use Rattle.mk_never.specs.NeverHeap.{free_reply, lea_reply, reply_at, replies_of, reply_of, start_of, target_of}
 pub use Rattle.mk_never.specs.NeverHeap.{with_freed, with_global, with_new, with_register, with_word, word_at, words_of}
-pub use Rattle.mk_never.specs.{declared.operations.Op.Op, declared.operations.Reply.Reply, declared.types.Kind.Kind}
-pub use Rattle.mk_never.specs.{declared.values.Target.Target, declared.values.Target.TheVariants.{Nothing, Unmapped}}
-pub use Rattle.mk_never.specs.{declared.values.Target.TheVariants.WordOf, declared.values.Value.Value}
+pub use Rattle.mk_never.specs.declared.{operations.{Op.Op, Reply.Reply}, types.Kind.Kind}
+pub use Rattle.mk_never.specs.declared.values.Target.{Target, TheVariants.{Nothing, Unmapped}}
+pub use Rattle.mk_never.specs.declared.values.{Target.TheVariants.WordOf, Value.Value}
 pub use Rattle.mk_never.specs.declared.values.Value.TheVariants.{Null, Num, Ptr}
 pub use Rattle.mk_jobs.specs.Jobs.{AreBelow, AreJobRuns, Asks, Has, HoldsAt, IsInterleaved, IsJobRun, IsPointerTo}
 pub use Rattle.mk_jobs.specs.Jobs.{JobRun, Leads, Replied, all_of, jobs_of_first, number_replied, own_replied, IsClear}
@@ -24,11 +24,11 @@ pub use Rattle.mk_jobs.specs.Keeping.{Decides, Fits, Gone, IsOf, IsShown, IsTher
 pub use Rattle.mk_jobs.specs.Keeping.{Taken, TakesPublic, Unborn, Waits, World, after, first_world, is_held_no_more}
 pub use Rattle.mk_jobs.specs.Keeping.{is_owed, is_private, nothing, role_after, settles, Covers}
 pub use Rattle.mk_jobs.specs.Laws.{IsAlwaysExplained, IsExplained, IsOneOf, LeaksNothing, NoneIsDouble, freed_by}
-pub use Rattle.mk_jobs.specs.{Laws.{is_done, is_pointer_to, times_freed}, Orders.{AreDecidedOnce, Ordered, left_by_all}}
-pub use Rattle.mk_jobs.specs.{Orders.{order_of, own_decisions}, Plans.{Anything, Hold, MayPoint, Owes, Owns, Plan}}
-pub use Rattle.mk_jobs.specs.{Plans.Points, declared.steps.Step.Step, Typing.{IsTyped, IsTypedStep, all_give, found}}
+pub use Rattle.mk_jobs.specs.{Laws.{is_done, is_pointer_to, times_freed}, Jobs.{AreDecidedOnce, Ordered, left_by_all}}
+pub use Rattle.mk_jobs.specs.{Jobs.{order_of, own_decisions}, Typing.{Anything, Hold, MayPoint, Owes, Owns, Plan}}
+pub use Rattle.mk_jobs.specs.{Typing.{Points, IsTyped, IsTypedStep, all_give, found}, declared.steps.Step.Step}
 pub use Rattle.mk_jobs.specs.Typing.{freed, gives, global_type, hold_of, is_number_there, is_own, is_there}
 pub use Rattle.mk_jobs.specs.Typing.{kind_of, kind_there, leads, leads_shared, loaded, may_go, may_set, shares, taken}
-pub use Rattle.mk_jobs.specs.{Typing.{there, type_there, with_hold}, Advancing.{AreClears, op_of}}
-pub use Rattle.mk_never.specs.{Typed.{IsSound, IsTyped as HasTypes, Suits}, Types.kinds_of}
+pub use Rattle.mk_jobs.specs.{Typing.{there, type_there, with_hold}, Passes.{AreClears, op_of}}
+pub use Rattle.mk_never.specs.{Admitted.{IsSound, IsTyped as HasTypes, Suits}, Types.kinds_of}
 pub use Rattle.mk_never.specs.declared.types.Kind.TheVariants.{Num as Number, To}

@@ -10,8 +10,8 @@ use Rattle.mk_jobs.specs.{Jobs.IsEnd, Typing.IsTyped}
 use Rattle.mk_laws.proofs.Vocabulary.{Bool, List, Option, Some, ℕ, ap, append-nil, append_assoc, arith, false, inl, inr}
 use Rattle.mk_laws.proofs.Vocabulary.{is_under_turn, refl, subst, sym, true, [], ◌++◌, ◌<◌, ◌∙◌, ◌∷◌, ◌≡◌}
 use Rattle.mk_laws.proofs.{CallSorts.flag_is, LastEvents.stands}
-use Rattle.mk_heap.specs.{Below.Callers.States.Admits, Below.Objects.TurnCalls.MayTakeTurns, Dispatching.unflagged}
-use Rattle.mk_never.specs.{Admitted.IsAdmitted, Typed.IsTyped as IsTypedState}
+use Rattle.mk_heap.specs.{Below.{Callers.States.Admits, Objects.TurnCalls.MayTakeTurns}, Dispatching.unflagged}
+use Rattle.mk_never.specs.Admitted.{IsAdmitted, IsTyped as IsTypedState}
 use Rattle.mk_jobs.specs.declared.steps.Step.TheVariants as step
 
 -- what holds of the operation that is asked

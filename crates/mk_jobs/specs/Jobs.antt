@@ -1,10 +1,12 @@
--- A job as operations of the heap that never reuses storage: which one comes next, by the replies so far.
+-- A job as operations of the heap that never reuses storage, and an order of jobs on a plain object of one thread.
 use Rattle.std.specs.Prelude.{◌≡◌, ◌⊎◌, ℕ, zero, suc, ◌<◌, ◌==◌, true, false, List, [], ◌∷◌, ◌++◌, if◌then◌else◌}
-use Rattle.mk_never.specs.{declared.operations.Op.Op, declared.operations.Reply.Reply, declared.values.Value.Value}
-use Rattle.mk_never.specs.{declared.values.Value.TheVariants.Ptr, declared.types.Kind.TheVariants.To, Admitted.IsOfKind}
-use Rattle.mk_never.specs.NeverHeap.{NeverState, Call, reply_of, after_op}
-use Rattle.mk_jobs.specs.{Plans.{Plan, Hold, Anything, MayPoint, Points, Owns, Owes}, declared.steps.Step.Step}
-use Rattle.mk_jobs.specs.Typing.{hold_of}
+use Rattle.std.specs.Prelude.{Option, Some, None, option_and_then, length, take, drop}
+use Rattle.mk_never.specs.declared.{operations.{Op.Op, Reply.Reply}, values.Value.Value}
+use Rattle.mk_never.specs.declared.{values.Value.TheVariants.{Ptr, Null}, types.Kind.TheVariants.To}
+use Rattle.mk_never.specs.{Admitted.IsOfKind, NeverHeap.{NeverState, Call, reply_of, after_op, number_of, word_at}}
+use Rattle.mk_never.specs.declared.types.Kind.{Kind}
+use Rattle.mk_jobs.specs.Typing.{Plan, Hold, Anything, MayPoint, Points, Owns, Owes, hold_of}
+use Rattle.mk_jobs.specs.declared.steps.Step.{Step}
 
 -- an operation, and what it was replied
 pub record Replied : Type 0 where
@@ -123,3 +125,53 @@ module _ {Job Done Point : Type 0} (p : Plan Job Done Point) where
     pub jobs : (k : ℕ) → AreJobRuns (runs k)
     pub own : (k : ℕ) → own_replied k n calls ≡ jobs_of_first k founding ++ all_of (runs k)
     pub exist : AreBelow callers calls
+
+-- a caller's job, and what became of it
+pub record Ordered (Job Done : Type 0) : Type 0 where
+  pub caller : ℕ
+  pub job : Job
+  pub done : Done
+
+module _ {Job Done State : Type 0} (left_by : State → Job → Done → Option State) where
+  -- what the jobs leave, one after the other
+  abbrev pub left_by_all : State → List (Ordered Job Done) → Option State
+  left_by_all x [] = Some x
+  left_by_all x (e ∷ es) = option_and_then (λ y. left_by_all y es) (left_by x e.job e.done)
+
+module _ {Job Done : Type 0} where
+  -- the jobs that are decided, in the order of their operations
+  abbrev pub order_of : List (Option (Ordered Job Done)) → List (Ordered Job Done)
+  order_of [] = []
+  order_of (None ∷ ds) = order_of ds
+  order_of (Some e ∷ ds) = e ∷ order_of ds
+
+  -- what a caller's own operations decide
+  abbrev pub own_decisions : ℕ → List Call → List (Option (Ordered Job Done)) → List (Option (Ordered Job Done))
+  own_decisions k [] ds = []
+  own_decisions k (x ∷ xs) [] = []
+  own_decisions k (x ∷ xs) (d ∷ ds) = if x.caller == k then d ∷ own_decisions k xs ds else own_decisions k xs ds
+
+  -- Each of the caller's jobs is decided by exactly one of its own operations, as what became of it.
+  abbrev pub AreDecidedOnce : ℕ → List (JobRun Job Done) → List (Option (Ordered Job Done)) → Type 0
+  AreDecidedOnce k [] ds = ds ≡ []
+  AreDecidedOnce k (r ∷ rs) ds =
+      (order_of (take (length r.all) ds) ≡ record { caller = k; job = r.job; done = r.done } ∷ [])
+      × AreDecidedOnce k rs (drop (length r.all) ds)
+
+-- a node of a number and a link
+abbrev pub node_kinds : List Kind
+node_kinds = Kind.Num ∷ Kind.To 0 0 ∷ []
+
+-- the type of the root
+abbrev pub root_type : ℕ
+root_type = 1
+
+-- From this pointer on, objects of type ty are linked by their word i. The last is linked to none.
+abbrev pub AreLinked : NeverState → ℕ → ℕ → Value → List ℕ → Type 0
+AreLinked n ty i v [] = v ≡ Null
+AreLinked n ty i v (a ∷ nodes) = (v ≡ Ptr a ty 0) × AreLinked n ty i (word_at n a i) nodes
+
+-- the number that each has in its word i
+abbrev pub numbers_in : NeverState → ℕ → List ℕ → List ℕ
+numbers_in n i [] = []
+numbers_in n i (a ∷ nodes) = number_of (word_at n a i) ∷ numbers_in n i nodes

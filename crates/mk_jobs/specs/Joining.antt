@@ -1,14 +1,29 @@
 -- Callers on threads of their own: what each hands back, and the host that has joined some of them.
 -- Private functions alone cite these words.
-use Rattle.std.specs.Prelude.{◌≡◌, ℕ, ◌+◌, ◌<◌, ◌≤◌, Bool, true, false, List, [], ◌∷◌, length, IfOk}
-use Rattle.mk_core.specs.{declared.config.Config.Config, declared.events.Event.Event, Growing.AreOfOthers}
+use Rattle.std.specs.Prelude.{◌≡◌, ℕ, ◌+◌, length, All, ◌<◌, ◌≤◌, Bool, true, false, List, [], ◌∷◌, IfOk}
+use Rattle.mk_core.specs.{declared.{config.Config.Config, events.Event.Event}, History.AreOfOthers}
 use Rattle.mk_core.specs.declared.events.Seat.TheVariants.{Caller, Host}
-use Rattle.mk_heap.specs.{Below.Words.Seats.{Has, has_over}, Below.Words.States.{WordsState, PassState}}
-use Rattle.mk_heap.specs.{Below.Callers.States.IsIdleCaller, Below.Objects.Laws.OwnAreExact, Hosts.HostState}
-use Rattle.mk_heap.specs.{Below.Objects.TurnCycles.TurnsOfAreExact, HostTurns.HostComesLast}
-use Rattle.mk_jobs.specs.{Engines.AreEnginesFrom, JobLists.{HasDone, HaveDone}, Jobs.{IsFounding, Replied}, Plans.Plan}
-use Rattle.mk_jobs.specs.{declared.job_lists.Jobs.Jobs, declared.joining.Callers.Callers}
-use Rattle.mk_jobs.specs.{declared.joining.Joined.Joined, declared.joining.Worked.Worked, declared.working.Ended.Ended}
+use Rattle.mk_heap.specs.Below.{Words.States.{WordsState, Has, has_over, PassState}, Callers.States.IsIdleCaller}
+use Rattle.mk_heap.specs.{Below.Objects.TurnCalls.OwnAreExact, Hosts.HostState}
+use Rattle.mk_heap.specs.{Below.Objects.TurnCycles.TurnsOfAreExact, Ending.HostComesLast}
+use Rattle.mk_jobs.specs.declared.engines.{Engines.Engines, CallerEngines.CallerEngines}
+use Rattle.mk_jobs.specs.{Runs.{HasDone, HaveDone}, Jobs.{IsFounding, Replied}, Typing.Plan}
+use Rattle.mk_jobs.specs.declared.{job_lists.Jobs.Jobs, joining.Callers.Callers}
+use Rattle.mk_jobs.specs.declared.{joining.{Joined.Joined, Worked.Worked}, working.Ended.Ended}
+
+-- The engines of a run. Private functions alone cite these words.
+
+-- There is an engine for each caller from k on, made for the pages of the heap.
+pub record AreEnginesFrom {E : Type 0} (made_for : E → ℕ) (w : WordsState) (k : ℕ) (engines : CallerEngines E)
+    : Type 0 where
+  pub count : k + 1 + length engines.others.items ≡ w.config.callers
+  pub first : made_for engines.first ≡ w.config.pages
+  pub others : All (λ (engine : E). made_for engine ≡ w.config.pages) engines.others.items
+
+-- There is one for each caller, and one for the host.
+pub record AreEnginesOf {E : Type 0} (made_for : E → ℕ) (w : WordsState) (engines : Engines E) : Type 0 where
+  pub callers : AreEnginesFrom made_for w 0 engines.callers
+  pub host : made_for engines.host ≡ w.config.pages
 
 -- The pass of caller k between two jobs, which its own thread may take.
 pub record IsBetweenJobs (on : Bool) (w : WordsState) (k : ℕ) (p : PassState) : Type 0 where

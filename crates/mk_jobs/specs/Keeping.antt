@@ -2,8 +2,8 @@
 use Rattle.std.specs.Prelude.{◌≡◌, ◌&&◌, ◌||◌, ◌==◌, ◌<◌, ◌≤◌, ◌+◌, ◌*◌, ℕ, Bool, true, false, not, List, [], ◌∷◌}
 use Rattle.std.specs.Prelude.{length, Option, Some, None, if◌then◌else◌}
 use Rattle.mk_never.specs.{declared.operations.Op.Op, NeverHeap.{NeverState, after_op, allocation_at, global_at}}
-use Rattle.mk_never.specs.{NeverHeap.{register_at, reply_of, start_of, words_of}, Laws.StoresTo, Typed.IsTyped}
-use Rattle.mk_jobs.specs.{Plans.{Plan, Hold, Owns, Owes}, Jobs.{Asks, HoldsAt}, Typing.hold_of}
+use Rattle.mk_never.specs.{NeverHeap.{register_at, reply_of, start_of, words_of}, Laws.StoresTo, Admitted.IsTyped}
+use Rattle.mk_jobs.specs.{Typing.{Plan, Hold, Owns, Owes, hold_of}, Jobs.{Asks, HoldsAt}}
 use Rattle.mk_jobs.specs.{Laws.{IsOneOf, is_pointer_to}, declared.steps.Step.Step}
 
 -- who knows an allocation

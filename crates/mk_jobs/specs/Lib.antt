@@ -1,13 +1,7 @@
-pub mod Plans
-pub mod Typing
 pub mod Jobs
-pub mod Orders
-pub mod Laws
-pub mod Keeping
-pub mod Advancing
-pub mod Passes
-pub mod JobLists
-pub mod Engines
 pub mod Joining
+pub mod Keeping
+pub mod Laws
+pub mod Passes
 pub mod Runs
-pub mod Linked
+pub mod Typing

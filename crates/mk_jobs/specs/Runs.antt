@@ -1,14 +1,50 @@
--- What is promised of lists of jobs that callers did on an object of their own.
-use Rattle.std.specs.Prelude.{◌≡◌, ℕ, ◌<◌, Bool, true, false, List, length, slice_get, Option, Some}
+-- Lists of jobs that callers did on an object of their own, and what is promised of them.
+use Rattle.std.specs.Prelude.{◌≡◌, ℕ, ◌+◌, List, [], ◌∷◌, ◌++◌, map, ◌<◌, Bool, true, false, length, slice_get, Option}
+use Rattle.std.specs.Prelude.{Some}
 use Rattle.mk_never.specs.NeverHeap.{NeverState, start_of}
-use Rattle.mk_core.specs.{declared.config.Config.Config, declared.events.Event.Event, Decided.asked, History.calls}
+use Rattle.mk_core.specs.{declared.{config.Config.Config, events.Event.Event}, Calls.asked, History.calls}
 use Rattle.mk_core.specs.declared.events.Seat.TheVariants.{Caller}
-use Rattle.mk_heap.specs.{Below.Objects.Bounds.QuarantineIsBounded, Below.Objects.TurnCycles.TurnsOfAreExact}
-use Rattle.mk_heap.specs.{Below.Words.Seats.has_over, HostTurns.HostComesLast, Reports.{HasCounts, IsWhole}}
-use Rattle.mk_jobs.specs.{declared.job_lists.Dones.Dones, declared.job_lists.Jobs.Jobs, declared.runs.Outcome.Outcome}
-use Rattle.mk_jobs.specs.{JobLists.{dones_of, jobs_of}, Jobs.{IsInterleaved, JobRun, Replied}, Laws.IsExplained}
-use Rattle.mk_jobs.specs.Plans.{Plan}
-use Rattle.mk_heap.specs.Reports as report
+use Rattle.mk_heap.specs.Below.{Words.States.{PassState, has_over}, Objects.Bounds.QuarantineIsBounded}
+use Rattle.mk_heap.specs.{Below.Objects.TurnCycles.TurnsOfAreExact, Ending.HostComesLast, Hosts.{HasCounts, IsWhole}}
+use Rattle.mk_jobs.specs.{declared.job_lists.{Dones.Dones, Jobs.Jobs}, Typing.Plan}
+use Rattle.mk_jobs.specs.{Jobs.{AreJobRuns, JobRun, Replied, all_of, IsInterleaved}, Passes.{replied_in, replied_to}}
+use Rattle.mk_jobs.specs.{declared.runs.Outcome.Outcome, Laws.IsExplained}
+use Rattle.mk_heap.specs.Hosts as report
+
+-- the jobs of these runs
+abbrev pub jobs_of : {Job Done : Type 0} → List (JobRun Job Done) → List Job
+jobs_of runs = map (λ r. r.job) runs
+
+-- what became of them
+abbrev pub dones_of : {Job Done : Type 0} → List (JobRun Job Done) → List Done
+dones_of runs = map (λ r. r.done) runs
+
+module _ {Job Done Point : Type 0} (p : Plan Job Done Point) where
+  -- The pass has seen more, in which its caller did these jobs, one after the other, and this became of each.
+  pub record DoesJobs (q : PassState) (jobs : List Job) (dones : List Done) (q' : PassState) : Type 0 where
+    pub is : q' ≡ record q { seen = q'.seen }
+    pub runs : List (JobRun Job Done)
+    pub are_runs : AreJobRuns p runs
+    pub same_jobs : jobs_of runs ≡ jobs
+    pub same_dones : dones_of runs ≡ dones
+    pub did : replied_to q' ≡ replied_to q ++ all_of runs
+
+  -- In this history caller k did these operations first, and then these jobs, one after the other, and this became of
+  -- each.
+  pub record HasDone (c : Config) (es : List Event) (first : List Replied) (k : ℕ) (jobs : List Job)
+      (dones : List Done) : Type 0 where
+    pub runs : List (JobRun Job Done)
+    pub are_runs : AreJobRuns p runs
+    pub same_jobs : jobs_of runs ≡ jobs
+    pub same_dones : dones_of runs ≡ dones
+    pub own : replied_in c k es ≡ first ++ all_of runs
+
+  -- Caller k, after these operations, and each caller after it did a list of jobs.
+  abbrev pub HaveDone : Config → List Event → List Replied → ℕ → List (Jobs Job) → List (Dones Done) → Type 0
+  HaveDone c es first k [] [] = Unit {0}
+  HaveDone c es first k (jobs ∷ lists) (dones ∷ all) =
+      HasDone c es first k jobs.list.items dones.list.items × HaveDone c es [] (k + 1) lists all
+  HaveDone c es first k _ _ = ⊥
 
 -- The runs of caller k are its list of jobs, in order, and this became of each.
 abbrev pub AreRunsOf : {Job Done : Type 0} → List (Jobs Job) → List (Dones Done) → (ℕ → List (JobRun Job Done))

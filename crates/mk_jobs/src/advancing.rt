@@ -1,6 +1,6 @@
 //! The operation of a point, and where its answer leads.
 ghost use Rattle.std.specs.Prelude.{◌≡◌};
-ghost use Rattle.mk_jobs.specs.Advancing.{next_by, number_answered, op_of, says_full, says_yes};
+ghost use Rattle.mk_jobs.specs.Passes.{next_by, number_answered, op_of, says_full, says_yes};
 
 use crate::objects::Object;
 use crate::steps::Step;

@@ -1,9 +1,9 @@
 //! A caller goes from point to point of a job, and forgets what it held when the job has ended.
 ghost use Rattle.std.specs.Prelude.{◌≡◌, ◌<◌, ◌≤◌, Bool, false, true};
 ghost use Rattle.mk_core.specs.Calls.{is_under_turn};
-ghost use Rattle.mk_heap.specs.Below.{Callers.States.{caller_of_pass, value_of}, Objects.Laws.OwnAreExact};
+ghost use Rattle.mk_heap.specs.Below.{Callers.States.{caller_of_pass, value_of}, Objects.TurnCalls.OwnAreExact};
 ghost use Rattle.mk_heap.specs.Dispatching.{Answers, StaysAdmitted};
-ghost use Rattle.mk_jobs.specs.{Advancing.Clears, Jobs.HoldsAt};
+ghost use Rattle.mk_jobs.specs.{Passes.Clears, Jobs.HoldsAt};
 ghost use Rattle.mk_jobs.specs.Passes.{Founds, GoesToEnd, HasDone, IsReady};
 
 use crate::advancing::{next_by, op_of};

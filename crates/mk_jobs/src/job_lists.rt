@@ -1,7 +1,7 @@
 //! Lists of jobs, each done by a caller of its own.
 ghost use Rattle.std.specs.Prelude.{◌≡◌, IfOk};
-ghost use Rattle.mk_heap.specs.Below.Objects.Laws.{OwnAreExact};
-ghost use Rattle.mk_jobs.specs.{JobLists.DoesJobs, Passes.IsReady};
+ghost use Rattle.mk_heap.specs.Below.Objects.TurnCalls.{OwnAreExact};
+ghost use Rattle.mk_jobs.specs.{Runs.DoesJobs, Passes.IsReady};
 
 use crate::going::do_job;
 use crate::objects::Object;

@@ -1,6 +1,6 @@
 //! Callers on threads of their own, and the host that joins them.
 ghost use Rattle.std.specs.{Prelude.{◌≡◌, ◌+◌, ◌<◌, ◌∷◌, [], drop, slice_get, IfSome, List, ℕ}, Thread.IsSync};
-ghost use Rattle.mk_heap.specs.{Below.Callers.States.IsIdleCaller, Crews.HasMade};
+ghost use Rattle.mk_heap.specs.{Below.Callers.States.IsIdleCaller, Hosts.HasMade};
 ghost use Rattle.mk_jobs.specs.{Jobs.Replied, Joining.{AreCallersFrom, HasWorked, HaveWorked, IsBetweenJobs}};
 ghost use Rattle.mk_jobs.specs.Passes.{IsMadeFor, replied_to};
 ghost use denote.Param.Send.{IsSend};

@@ -1,7 +1,7 @@
 //! What is proved of every object.
 ghost use Rattle.std.specs.Prelude.{◌≡◌, ℕ, List, Option};
 ghost use Rattle.mk_never.specs.NeverHeap.{NeverState};
-ghost use Rattle.mk_jobs.specs.{Keeping.{World, Keeps}, Laws.IsAlwaysExplained, Plans.Plan, Typing.IsTyped};
+ghost use Rattle.mk_jobs.specs.{Keeping.{World, Keeps}, Laws.IsAlwaysExplained, Typing.{Plan, IsTyped}};
 
 /// What a client states and shows of its object.
 pub trait Kept {

@@ -1,6 +1,6 @@
 //! Objects of a root and of nodes. A node has a number and a link to a node, and the root has pointers to nodes.
 ghost use Rattle.std.specs.Prelude.{◌≡◌, ◌∷◌, [], IfOk};
-ghost use Rattle.mk_jobs.specs.Linked.{node_kinds, root_type};
+ghost use Rattle.mk_jobs.specs.Jobs.{node_kinds, root_type};
 
 use mk_core::GlobalTable;
 use mk_never::{Kind, NoMemory, TypeTable};

@@ -1,7 +1,7 @@
 //! An object that callers share: what its client states.
 ghost use Rattle.std.specs.Prelude.{◌≡◌, ℕ, IfOk, List, Option};
 ghost use Rattle.mk_never.specs.NeverHeap.{NeverState};
-ghost use Rattle.mk_jobs.specs.{Laws.IsAlwaysExplained, Plans.Plan, Typing.IsTyped};
+ghost use Rattle.mk_jobs.specs.{Laws.IsAlwaysExplained, Typing.{Plan, IsTyped}};
 
 use crate::steps::Step;
 use mk_core::GlobalTable;

@@ -1,7 +1,7 @@
 //! An object from first to last: callers do their jobs on it, each on a thread of its own.
 ghost use Rattle.std.specs.Prelude.{◌≡◌, length, IfOk};
-ghost use Rattle.mk_core.specs.Config.{IsWithinLimits};
-ghost use Rattle.mk_heap.specs.Reports.{history_of};
+ghost use Rattle.mk_core.specs.Moments.{IsWithinLimits};
+ghost use Rattle.mk_heap.specs.Hosts.{history_of};
 ghost use Rattle.mk_jobs.specs.Runs.{AreExplainedJobs, IsRun, object_config};
 
 use crate::engines::Engines;

@@ -1,7 +1,7 @@
 //! All that happens on an object, with markers beside it: it is made, and callers do their jobs.
 ghost use Rattle.std.specs.{Prelude.{◌≡◌, ◌<◌}, Thread.IsSync};
-ghost use Rattle.mk_heap.specs.{Crews.HasMade, Hosts.AllAreJoined};
-ghost use Rattle.mk_jobs.specs.{Engines.{AreEnginesFrom, AreEnginesOf}, Joining.{HaveEnded, HaveFoundedAndWorked}};
+ghost use Rattle.mk_heap.specs.Hosts.{HasMade, AllAreJoined};
+ghost use Rattle.mk_jobs.specs.Joining.{AreEnginesFrom, AreEnginesOf, HaveEnded, HaveFoundedAndWorked};
 ghost use Rattle.mk_jobs.specs.Passes.{IsMadeFor};
 ghost use denote.Param.Send.{IsSend};
 

@@ -10,7 +10,7 @@ use Rattle.mk_laws.proofs.Vocabulary.{suc, sym, true, true≢false, zero, [], �
 use Rattle.mk_laws.proofs.{Vocabulary.{◌≢◌, ◌≤◌, ◌⊎◌}, NextSteps.{at_no_take, at_take, is_take, of_turn}}
 use Rattle.mk_laws.proofs.{Standings.{is_astray, standing}, ProtocolMoves.OthersAreHeld, Stages.turns_stand}
 use Rattle.mk_laws.proofs.Views.{HoldsTurn, view_of}
-use Rattle.mk_core.specs.{Moments.none_is_held, Order.comes_next_to_host, StopConditions.may_close}
+use Rattle.mk_core.specs.{Moments.none_is_held, Conditions.comes_next_to_host, MarkingConditions.may_close}
 
 pub none_held : (c : Config) (w : Words) → none_is_held c.callers w ≡ true → (j : ℕ) → j < c.callers
     → slice_index w.gates j ≢ 2

@@ -11,15 +11,15 @@ use Rattle.mk_laws.proofs.{Vocabulary.{words_are_zero, ◌<◌, ◌≡◌, ◌�
 use Rattle.mk_laws.proofs.{AppliedTheorems.unmapped_is_settled, Releases.{no_others_release, releases_are_exact}}
 use Rattle.mk_laws.proofs.{Releases.releases_none_reached, FreeWords.unmapped_words_are_zero}
 use Rattle.mk_laws.proofs.{ReadingsStands.headers_and_quarantine_tell, ReleasedCycles.releases_are_of_cycles}
-use Rattle.mk_laws.{proofs.Settled.{unmapped_run}, specs.UnsetWords.{IsNeverSet}}
-use Rattle.mk_never.specs.Reach.{by_register, by_word}
+use Rattle.mk_laws.{proofs.Settled.{unmapped_run}, specs.WordLaws.{IsNeverSet}}
+use Rattle.mk_never.specs.Laws.{by_register, by_word}
 use Rattle.mk_core.proofs.EvaluatedCycles.{cycle_of_blackened, first_cycle, in_first_snapshot, not_in_first_snapshot}
 use Rattle.mk_core.proofs.EvaluatedHistories.{blackened_is_history, freed_is_history, marking_is_history}
 use Rattle.mk_core.proofs.Schedules.{blackened_before_the_move, freed_after_begin, host, m0, pointer_page}
 use Rattle.mk_core.proofs.{EvaluatedFreed.{third_cell, third_is_freed}, EventsAt.{at_number, events_from}}
 use Rattle.mk_core.proofs.MoreSchedules.{granted_while_marking, two_pages}
 use Rattle.mk_core.specs.{Cells.is_in_snapshot, Readings.SnapshotTells}
-use Rattle.mk_laws.specs.{UnmappedRuns.{IsOfUnmappedRun, is_resident_in}, Releases.allocation_behind}
+use Rattle.mk_laws.specs.{WordLaws.{IsOfUnmappedRun, is_resident_in}, Releases.allocation_behind}
 use Rattle.mk_laws.proofs.FreeWords as cells
 use Rattle.mk_laws.proofs.Snapshots as snapshots
 use Rattle.mk_laws.proofs.FreePages as pages

@@ -14,8 +14,8 @@ use Rattle.mk_laws.proofs.{Vocabulary.{◌∙◌, ◌≡◌, ◌⊎◌}, Actors.
 use Rattle.mk_laws.proofs.{OrderlyLists.not_astray, SameWords.Behind, Standings.{is_astray, standing_at}}
 use Rattle.mk_laws.proofs.Wells.{bare_guarded}
 use Rattle.mk_core.proofs.{RegisterAccesses.{LeavesTable, register_leaves, tally_leaves}, WordBits.has_bit_or_left}
-use Rattle.mk_core.specs.{StopConditions.{may_black, may_mark, may_undirty}, Accesses.scan_bit, Effects.hand_given}
-use Rattle.mk_core.specs.MarkerConditions.{may_mblack}
+use Rattle.mk_core.specs.{MarkingConditions.{may_black, may_mark, may_undirty}, Accesses.scan_bit, Effects.hand_given}
+use Rattle.mk_core.specs.MarkingConditions.{may_mblack}
 
 -- Bits are added to a word of a list, and no bit is cleared.
 

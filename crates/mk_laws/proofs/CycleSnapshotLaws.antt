@@ -1,7 +1,7 @@
 -- The snapshot's bits are those of the cycle's snapshot: the allocations that were freed and unreleased before its
 -- `begin`.
 use Rattle.std.specs.{Prelude.{◌≡◌, ℕ, true, false, List}, List.list_any}
-use Rattle.mk_core.specs.{declared.config.Config.Config, declared.events.Event.Event, Config.IsWithinLimits}
+use Rattle.mk_core.specs.{declared.{config.Config.Config, events.Event.Event}, Moments.IsWithinLimits}
 use Rattle.mk_core.specs.{Words.phase_of, Allocations.placed_at, Cycles.{At, is_begin, is_quarantined}}
 use Rattle.mk_core.specs.History.{first_world, left, AreEnabled}
 use Rattle.mk_laws.proofs.{Quarantine.{is_cycling, has_bit_of}, LayoutLaws.LayoutPremisesFrom}

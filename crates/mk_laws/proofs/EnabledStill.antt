@@ -21,9 +21,10 @@ use Rattle.mk_laws.proofs.{Tests.{some_on, without_on}, Actors.none_at, CoveredW
 use Rattle.mk_laws.proofs.{InvariantHistories.told_to_images, ProtocolFrames.{other_seat, others_leave}}
 use Rattle.mk_laws.proofs.RunsStill.{holder_finds}
 use Rattle.mk_core.proofs.{Conditions.meets_enabled, PageSteps.{gives_back_is, left_bits}}
-use Rattle.mk_core.specs.{StopConditions.{blackens, may_black, may_close}, TurnConditions.{are_wiped, is_in_gone_run}}
+use Rattle.mk_core.specs.MarkingConditions.{blackens, may_black, may_close}
+use Rattle.mk_core.specs.TurnConditions.{are_wiped, is_in_gone_run}
 use Rattle.mk_core.specs.{TurnConditions.{may_use, takes_snapshot}, Cells.are_left_unmarked, Frames.written_of}
-use Rattle.mk_core.specs.{NewPlaces.bits_made, Order.is_in_order}
+use Rattle.mk_core.specs.{NewPlaces.bits_made, Conditions.is_in_order}
 
 -- The gates that a step of the turn's holder asks for are as it asks, whatever others did since.
 

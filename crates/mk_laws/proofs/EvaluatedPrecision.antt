@@ -3,7 +3,7 @@ use Rattle.mk_laws.proofs.Vocabulary.{Cycle, Releasing, Seat, Step, Tally, all_b
 use Rattle.mk_laws.proofs.Vocabulary.{marked_in_stop, placed_at, pointed_cell, refl, small, stopped_cycle}
 use Rattle.mk_laws.proofs.Vocabulary.{stopped_is_history, storage_of, three_objects, through, through_release, true}
 use Rattle.mk_laws.proofs.{Vocabulary.{unreleased_storage, [], ◌∷◌, ◌≡◌}, PrecisionFreeing.frees_the_untouched}
-use Rattle.mk_laws.{proofs.PrecisionStopped.{releases_the_untouched}, specs.Precision.{CountsAsFree, through_end}}
+use Rattle.mk_laws.{proofs.PrecisionStopped.{releases_the_untouched}, specs.Releases.{CountsAsFree, through_end}}
 use Rattle.mk_core.proofs.EvaluatedTouched.{marking, third_is_in_snapshot, third_is_untouched}
 use Rattle.mk_core.{proofs.{EvaluatedCycles.{any_sweeps, none_sweeps}, SmallCycles.by_host}, specs.Cycles.{NoneSweeps}}
 

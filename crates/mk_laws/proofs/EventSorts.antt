@@ -25,7 +25,7 @@ use Rattle.mk_laws.proofs.{ImagesMoves.{Rests, Wipes}, NextSteps.{at_take, of_tu
 use Rattle.mk_laws.proofs.Stages.{is_turn_stage, new_stands}
 use Rattle.mk_never.specs.Types.{is_leaf, is_number}
 use Rattle.mk_core.proofs.{RegisterAccesses.{tally_leaves, tally_leaves_registers}, ListTests.list_all-at}
-use Rattle.mk_core.specs.ClosedMarks.{is_marked_allocation, is_scanned_allocation}
+use Rattle.mk_core.specs.Cycles.{is_marked_allocation, is_scanned_allocation}
 
 -- A caller whose gate is held is between calls.
 

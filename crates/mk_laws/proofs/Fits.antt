@@ -1,13 +1,13 @@
 -- What the place that first fit finds says of the pages, in words.
-use Rattle.std.proofs.{Common.leb-false, lemmas.Option.get_or_from_slice_get, lemmas.Option.slice_get_within}
+use Rattle.std.proofs.{Common.leb-false, lemmas.Option.{get_or_from_slice_get, slice_get_within}}
 use Rattle.mk_laws.proofs.Vocabulary.{Block, Bool, Free, Header, IsSized, LeafBlock, List, Object, Option, Page, Place}
 use Rattle.mk_laws.proofs.Vocabulary.{Some, ℕ, ap, arith, block_header, cases_Bool, cells_made, cells_of, class_made}
 use Rattle.mk_laws.proofs.Vocabulary.{false, free_page, header_made, header_of, header_on, inl, inr, is_small_object}
 use Rattle.mk_laws.proofs.Vocabulary.{leb-true, length, pages_made, place_on_pages, refl, resident_pages, small_cells}
 use Rattle.mk_laws.proofs.Vocabulary.{small_pages, sym, true, use_under, uses_of_pages, word_of, ◌+◌, ◌<◌, ◌∙◌, ◌≡◌}
 use Rattle.mk_laws.proofs.Vocabulary.{◌≤◌, ◌⊎◌}
-use Rattle.mk_geom.proofs.{FirstFit.cell_place_is, FirstFit.run_place_is, HeaderLemmas.word_of-header_of}
-use Rattle.mk_geom.specs.{PageUses.is_free_page, Places.MayTakeCell}
+use Rattle.mk_geom.proofs.{FirstFit.{cell_place_is, run_place_is}, HeaderLemmas.word_of-header_of}
+use Rattle.mk_geom.specs.PageUses.{is_free_page, MayTakeCell}
 use Rattle.mk_books.proofs.UsedBitLemmas.{length-bits_of}
 use Rattle.mk_core.proofs.{ObjectHeaders.small_header, Sizes.class_for_small}
 

@@ -18,8 +18,8 @@ use Rattle.mk_laws.proofs.{FramesHolders.{acts_as_holder, holds_is}, AdmittedAli
 use Rattle.mk_laws.proofs.{AdmittedAlike.shows_alike, LastEvents.{Stands, comes_last, goes_on_by, stands}}
 use Rattle.mk_laws.proofs.{OtherCalls.{never_continues, registers_are_left}, ProbesStill.probe_still}
 use Rattle.mk_laws.proofs.{ProtocolFrames.other_seat, Reaching.{events_reach_the_table, others_leave_accesses}}
-use Rattle.mk_core.{proofs.HistoryParts.{calls_in_parts}, specs.{Frames.CountsAreLeft, Growing.AreOfOthers}}
-use Rattle.mk_core.specs.{History.calls_from, LongerLists.LongerListsGoOn, Counts.releases, Effects.begins_where_free}
+use Rattle.mk_core.{proofs.HistoryParts.{calls_in_parts}, specs.{Frames.CountsAreLeft, History.AreOfOthers}}
+use Rattle.mk_core.specs.{History.calls_from, HistoryLaws.LongerListsGoOn, Counts.releases, Effects.begins_where_free}
 use Rattle.mk_laws.proofs.Vocabulary.{Meets as MeetsWord, Moment, NeverState, None, Op, Option, Seat, Some}
 
 -- The calls of one caller: events of others have none of them.

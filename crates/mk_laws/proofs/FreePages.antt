@@ -15,10 +15,10 @@ use Rattle.mk_laws.proofs.Basics.{at_its_stage, claimed_some, ends_on_pages, hol
 use Rattle.mk_laws.proofs.Basics.{known_world, mapped_stays, reg_table, tally_table, zero_unless, zero_where_none}
 use Rattle.mk_laws.proofs.InvariantHistories.{comes_last, histories_keep_the_invariant, told_to_zeros}
 use Rattle.mk_laws.proofs.Known.{Begins, CallStep, Comes, Ends, GoesOn, Refused, Stays, Stores, call_step}
-use Rattle.mk_laws.proofs.{Changes.is_dirty, CyclePhases.phase_asked, CyclePhases.phase_behind, CyclePhases.phase_moves}
-use Rattle.mk_laws.proofs.{ForImages.shown_claim, ForImages.standing, GuardStopped.no_call, GuardStopped.owes_in_call}
+use Rattle.mk_laws.proofs.{Changes.is_dirty, CyclePhases.{phase_asked, phase_behind, phase_moves}}
+use Rattle.mk_laws.proofs.{ForImages.{shown_claim, standing}, GuardStopped.{no_call, owes_in_call}}
 use Rattle.mk_laws.proofs.{LayoutReadings.free_unused, ReadingsKeptPlaces.put_step}
-use Rattle.mk_laws.specs.FreePages.{DirtyPagesHaveAllocations, FreePagesHaveNothing, HasNothing}
+use Rattle.mk_laws.specs.WordLaws.{DirtyPagesHaveAllocations, FreePagesHaveNothing, HasNothing}
 
 -- Which steps bring a call to where it owes a dirty mark: a store and an exchange.
 

@@ -13,11 +13,11 @@ use Rattle.mk_laws.proofs.Vocabulary.{pages_made, phase_of, placed_at, run_begin
 use Rattle.mk_laws.proofs.Vocabulary.{small_cells, small_words, storage_of, subst, suc, sym, true, typed_size}
 use Rattle.mk_laws.proofs.Vocabulary.{words_are_zero, words_made, zero, zero_scene_of, ◌%◌, ◌*◌, ◌+◌, ◌-◌, ◌/◌, ◌<◌}
 use Rattle.mk_laws.proofs.{Vocabulary.{◌==◌, ◌∙◌, ◌≡◌, ◌≢◌, ◌≤◌}, Basics.{KnownWorld, ends_on_pages, known_world}}
-use Rattle.mk_laws.{proofs.Basics.{mapped_stays, none_released, zero_unless}, specs.FreeWords.{words_in_cells}}
+use Rattle.mk_laws.{proofs.Basics.{mapped_stays, none_released, zero_unless}, specs.WordLaws.{words_in_cells}}
 use Rattle.mk_laws.proofs.{InvariantHistories.{histories_keep_the_invariant, told_to_images}, CoveredWords.has_cell}
 use Rattle.mk_laws.proofs.{ForImages.standing, ReadingsStands.not_releasing}
 use Rattle.mk_core.specs.Cells.{is_in_run}
-use Rattle.mk_laws.specs.FreeWords.{FreeCellsAreZero, UnmappedWordsAreZero, WordsBehindCellsAreZero, WordsOfNoneAreZero}
+use Rattle.mk_laws.specs.WordLaws.{FreeCellsAreZero, UnmappedWordsAreZero, WordsBehindCellsAreZero, WordsOfNoneAreZero}
 
 -- the unreleased allocation that has the word
 pub record IsOfOne (c : Config) (w : World) (x : ℕ) : Type 0 where

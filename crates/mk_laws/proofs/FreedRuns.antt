@@ -14,13 +14,13 @@ use Rattle.mk_laws.proofs.Vocabulary.{register_at, run_begins, run_headed, run_o
 use Rattle.mk_laws.proofs.Vocabulary.{slice_set, small_heads_none, still, subst, sym, true, typed_size, world_behind}
 use Rattle.mk_laws.proofs.Vocabulary.{◌%◌, ◌&&◌, ◌*◌, ◌+◌, ◌/◌, ◌<◌, ◌∙◌, ◌≡◌, ◌≢◌, ◌⊎◌}
 use Rattle.mk_never.specs.Laws.{AreNotBy}
-use Rattle.mk_core.specs.{Effects.holding_behind, Order.is_of_any_holder}
+use Rattle.mk_core.specs.{Effects.holding_behind, Conditions.is_of_any_holder}
 use Rattle.mk_laws.proofs.Basics.{HoldsTurn, InCall, KnownWorld, Meets, Orderly, Ready, Stands, View, actor_of, base_at}
 use Rattle.mk_laws.proofs.Basics.{flight, flight_in, not_astray, ready_of, standing, standing_at, stands_of, view_of}
 use Rattle.mk_laws.proofs.ProtocolMoves.{Enters, Gives, GoesOn, Holds, Leaves, Move as ProtocolMove, Takes, Works}
 use Rattle.mk_laws.proofs.{CallSorts.literal, FramesHolders.acts_as_holder, GrantMoves.pointer_cell}
-use Rattle.mk_laws.proofs.{ImagesBefore.page_in, ImagesMoves.IsLonger, Orderly.holders_flight, Orderly.same_holder}
-use Rattle.mk_laws.proofs.{Sorts.moves, Standings.Resting, Standings.Standing, Standings.UnderTurn}
+use Rattle.mk_laws.proofs.{ImagesBefore.page_in, ImagesMoves.IsLonger, Orderly.{holders_flight, same_holder}}
+use Rattle.mk_laws.proofs.{Sorts.moves, Standings.{Resting, Standing, UnderTurn}}
 use Rattle.mk_laws.proofs.Mirrors.{OwnsFreedRun, PointsAtRun}
 
 -- Only a Free that is decided unmaps a run, and that call holds the turn.

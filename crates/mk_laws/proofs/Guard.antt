@@ -1,12 +1,12 @@
 -- What stands while a cycle marks: the words of black cells are guarded, and what markers have scanned and seen goes
 -- on. And what stands from `close` to `release`: the marks are closed.
 use Rattle.std.specs.Prelude.{◌≡◌, ◌≢◌, ◌⊎◌, ℕ, ◌+◌, ◌<◌, ◌≤◌, true, false, slice_index, Option, Some}
-use Rattle.mk_geom.specs.{declared.addresses.Cell.Cell, Headers.header_of, Addresses.cell_at}
+use Rattle.mk_geom.specs.{declared.addresses.Cell.Cell, Addresses.{header_of, cell_at}}
 use Rattle.mk_core.specs.declared.{config.Config.Config, seats.{Scan.Scan, SeenHeader.SeenHeader, Marker.Marker}}
 use Rattle.mk_core.specs.{Words.{Words, phase_of, header_at}, Cells.{header_in, cells_under, words_under}}
 use Rattle.mk_core.specs.{Cells.{has_no_pointers, is_marked, first_word, cell_words}, Moments.{Moment, marker_of}}
-use Rattle.mk_core.specs.{StopConditions.is_attending, ClosedMarks.{IsGuarded, BlackIsGuarded}}
-use Rattle.mk_laws.specs.ClosedCells.{CellsAreClosed}
+use Rattle.mk_core.specs.{MarkingConditions.is_attending, Cycles.{IsGuarded, BlackIsGuarded}}
+use Rattle.mk_laws.specs.Theorems.{CellsAreClosed}
 
 -- One header word goes on as another: what the one shows of cells, the other shows too.
 pub record HeaderGoesOn (pages before after : ℕ) : Type 0 where

@@ -25,12 +25,12 @@ use Rattle.mk_laws.proofs.Scans.{claim_stands, idle_stands, load_stands, look_st
 use Rattle.mk_laws.proofs.{Scans.{seen_well, unscanning_stands, unseen_stands}, Actors.none_at}
 use Rattle.mk_laws.proofs.{CoveredWords.covered_word, IdleMarkers.work_attends, Known.along_enabled}
 use Rattle.mk_laws.proofs.{Phases.{is_phase_step, phase_stays}, Wells.{IsWell, bare_guarded}}
-use Rattle.mk_geom.specs.StorageWords.{cell_of_storage}
+use Rattle.mk_geom.specs.Storages.{cell_of_storage}
 use Rattle.mk_core.proofs.{PointedAllocations.marked_where_its_cell_is, WordBits.{bit_for_has, bit_of_cell}}
 use Rattle.mk_core.proofs.{WordBits.{bit_of_power, bits_added, more_bits}, PointedPages.cell_within}
 use Rattle.mk_core.{proofs.StandingAllocations.cell_is_known, specs.declared.seats.Presence.TheVariants.Out}
-use Rattle.mk_core.specs.{Accesses.scan_bit, Cells.words_point_well, ClosedMarks.is_marked_allocation}
-use Rattle.mk_core.specs.{MarkerConditions.is_markers_word, StopConditions.blackens}
+use Rattle.mk_core.specs.{Accesses.scan_bit, Cells.words_point_well, Cycles.is_marked_allocation}
+use Rattle.mk_core.specs.MarkingConditions.{is_markers_word, blackens}
 use Rattle.mk_laws.proofs.Kept.{CloseFindsMarksClosed, GuardPremisesAtFirst, MarkingGuards}
 use Rattle.mk_laws.proofs.{Kept.{MarksStandBehindLists, StandsMapped, StoppedMarksAreClosed}, Guard.Guard}
 use Rattle.mk_laws.proofs.Guard.{MarksStand}

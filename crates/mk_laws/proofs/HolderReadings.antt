@@ -1,6 +1,6 @@
 -- What a look at the turn, at a gate and at the phase says.
 use Rattle.std.specs.Prelude.{List}
-use Rattle.mk_core.specs.{declared.config.Config.Config, declared.events.Event.Event, Config.IsWithinLimits}
+use Rattle.mk_core.specs.{declared.{config.Config.Config, events.Event.Event}, Moments.IsWithinLimits}
 use Rattle.mk_core.{proofs.WhoHoldsWhat.WordsTellWhoHoldsWhat, specs.History.AreEnabled}
 
 -- So it is after every enabled list within limits, whether its calls are admitted or not.

@@ -1,8 +1,8 @@
 -- What holds of all histories, if the rest of the invariant holds after each front of them.
 use Rattle.std.specs.Prelude.{◌≡◌, ℕ, false, List, ◌++◌}
-use Rattle.mk_never.specs.Reach.{IsReachable}
-use Rattle.mk_core.specs.{declared.config.Config.Config, declared.events.Event.Event, Allocations.placed_at}
-use Rattle.mk_core.specs.{History.{left, never_behind, IsHistory, RefinesNever}, Exchanges.ExchangesCompareValues}
+use Rattle.mk_never.specs.Laws.{IsReachable}
+use Rattle.mk_core.specs.{declared.{config.Config.Config, events.Event.Event}, Allocations.placed_at}
+use Rattle.mk_core.specs.{History.{left, never_behind, IsHistory, RefinesNever}, HistoryLaws.ExchangesCompareValues}
 use Rattle.mk_laws.proofs.{ImagePremises.ImagePremises, Mirrors.Mirrors}
 
 -- The layout, the quarantine, the zero words and the marks are as they should be after each front.

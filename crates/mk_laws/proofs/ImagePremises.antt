@@ -1,15 +1,15 @@
 -- What the images need of the layout, of the quarantine, of the heap's zero words and of the marks, in one world.
 use Rattle.std.specs.Prelude.{◌≡◌, ◌≢◌, ◌⊎◌, ℕ, ◌+◌, ◌/◌, ◌<◌, ◌≤◌, true, false, slice_index, Option, Some}
-use Rattle.mk_geom.specs.{declared.addresses.Cell.Cell, declared.pages.Place.Place, Addresses.address_of}
-use Rattle.mk_geom.specs.StorageWords.{IsWordOf}
-use Rattle.mk_core.specs.{declared.config.Config.Config, declared.events.Seat.TheVariants.Caller}
-use Rattle.mk_core.specs.{declared.seats.Object.Object, declared.seats.Placing.TheVariants.Used}
+use Rattle.mk_geom.specs.{declared.{addresses.Cell.Cell, pages.Place.Place}, Addresses.address_of}
+use Rattle.mk_geom.specs.Storages.{IsWordOf}
+use Rattle.mk_core.specs.declared.{config.Config.Config, events.Seat.TheVariants.Caller}
+use Rattle.mk_core.specs.declared.seats.{Object.Object, Placing.TheVariants.Used}
 use Rattle.mk_core.specs.{declared.seats.RunPages.RunPages, Words.{Words, header_at, phase_of}, History.World}
 use Rattle.mk_core.specs.{Cells.{pointed_cell, is_freed, is_released_cell, is_in_run}, Moments.flight_of}
 use Rattle.mk_core.specs.NewPlaces.{object_made, pages_made, header_made, unmapped_header, base_made, place_stands}
-use Rattle.mk_core.specs.{NewPlaces.{is_run_gone, is_undecided_new, is_small_object}, ObjectHeaders.cells_made}
+use Rattle.mk_core.specs.{NewPlaces.{is_run_gone, is_undecided_new, is_small_object}, Allocations.cells_made}
 use Rattle.mk_core.specs.Allocations.{PlacedAllocation, placed_at, is_mapped, storage_of, cell_of_allocation}
-use Rattle.mk_core.specs.{StandingAllocations.{object_placed, StandsOnHeap, HasItsHeaders}, ClosedMarks.MarksAreClosed}
+use Rattle.mk_core.specs.{Allocations.{object_placed, StandsOnHeap, HasItsHeaders}, Cycles.MarksAreClosed}
 
 -- the pages of a large allocation
 abbrev pub run_of_allocation : Config → PlacedAllocation → RunPages

@@ -7,9 +7,9 @@ use Rattle.mk_never.specs.{declared.values.Value.TheVariants.{Num, Ptr}, NeverHe
 use Rattle.mk_never.specs.NeverHeap.{global_at, allocation_at, words_of, word_at, is_unmapped}
 use Rattle.mk_core.specs.{declared.seats.{Stage.Stage, Flight.Flight}, Calls.{at_rest, q_of}}
 use Rattle.mk_core.specs.declared.seats.Stage.TheVariants as stage
-use Rattle.mk_core.specs.{Calls.{p_of, r_of, d_of, i_of}, Image.image_of, Allocations.{PlacedAllocation, placed_at}}
+use Rattle.mk_core.specs.{Calls.{p_of, r_of, d_of, i_of}, History.image_of, Allocations.{PlacedAllocation, placed_at}}
 use Rattle.mk_core.specs.History.{World, bases_of}
-use Rattle.mk_laws.specs.LoadedRegisters.{has_q, has_some_q}
+use Rattle.mk_laws.specs.Theorems.{has_q, has_some_q}
 
 -- what the images read of a world
 pub record ImageScene : Type 0 where

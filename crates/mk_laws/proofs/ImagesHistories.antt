@@ -22,7 +22,7 @@ use Rattle.mk_laws.proofs.{CallSorts.{own_registers, there_is}, FreedRuns.{never
 use Rattle.mk_laws.proofs.ImagesKept.{freed_was, freed_words, fresh_one, images_kept, new_never, new_words, old_never}
 use Rattle.mk_laws.proofs.{ImagesKept.{old_placed, written_alike}, ImagesMoves.{IsLonger, Owes, SamePlaces, Shares}}
 use Rattle.mk_laws.proofs.{ImagesMoves.{Stores, bases_grow}, EventSorts.goes, Pairs.bare_carries}
-use Rattle.mk_never.{proofs.Parts.{admitted_split, after_append, replies_append}, specs.{Reach.LeadsTo, Types.zero_of}}
+use Rattle.mk_never.{proofs.Parts.{admitted_split, after_append, replies_append}, specs.{Laws.LeadsTo, Types.zero_of}}
 use Rattle.mk_never.proofs.{Sameness.{equal_from_same, same_from_equal}, Later.calls_stay, Reached.reached_is_in}
 use Rattle.mk_never.proofs.TypedCalls.{calls_keep, start_is_typed}
 use Rattle.mk_core.{proofs.{ChangedAllocations.granted_at, Histories.enabled_more}, specs.History.never_first}

@@ -1,11 +1,11 @@
 -- What the images tell the layout, the quarantine and the zero words, in one world.
 use Rattle.std.specs.Prelude.{◌≡◌, ◌⊎◌, ℕ, true, false, Some}
 use Rattle.mk_never.specs.{NeverHeap.NeverState, Admitted.AreAdmitted}
-use Rattle.mk_geom.specs.{declared.addresses.Cell.Cell, StorageWords.IsWordOf}
-use Rattle.mk_core.specs.{declared.config.Config.Config, declared.events.Seat.Seat}
-use Rattle.mk_core.specs.{declared.events.Seat.TheVariants.Caller, declared.events.Step.Step}
+use Rattle.mk_geom.specs.{declared.addresses.Cell.Cell, Storages.IsWordOf}
+use Rattle.mk_core.specs.declared.{config.Config.Config, events.Seat.Seat}
+use Rattle.mk_core.specs.declared.events.{Seat.TheVariants.Caller, Step.Step}
 use Rattle.mk_core.specs.{declared.seats.RunPages.RunPages, Words.phase_of, Calls.word_met, Cells.is_marked}
-use Rattle.mk_core.specs.{Moments.flight_of, NewPlaces.target, Enabled.IsEnabled, Decided.asked}
+use Rattle.mk_core.specs.{Moments.flight_of, NewPlaces.target, Enabled.IsEnabled, Calls.asked}
 use Rattle.mk_core.specs.Allocations.{placed_at, is_mapped, storage_of, cell_of_allocation}
 use Rattle.mk_core.specs.History.{World, call_decided}
 use Rattle.mk_core.specs.declared.events.Step.TheVariants as step

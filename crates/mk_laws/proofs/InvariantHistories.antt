@@ -14,7 +14,7 @@ use Rattle.mk_laws.proofs.Settled.{first_fit_is_the_place, headers_stand, unrele
 use Rattle.mk_laws.proofs.{Basics.{KnownWorld, holds_of_histories, known_world}, ForImages.say_to_images}
 use Rattle.mk_laws.proofs.{FreedRuns.never_after, RunGates.run_gates_behind, Saying.images_say, TellGuard.guard_in}
 use Rattle.mk_laws.proofs.{TellImages.images_tell_the_zeros, ZerosHistories.{zeros_at_first, zeros_behind}}
-use Rattle.mk_core.specs.{Exchanges.ExchangesCompareValues, History.RefinesNever}
+use Rattle.mk_core.specs.{HistoryLaws.ExchangesCompareValues, History.RefinesNever}
 use Rattle.mk_laws.specs.Theorems.{AllocationsAreDisjoint, AllocationsStand, ClosesFindMarksClosed}
 use Rattle.mk_laws.proofs.InvariantLaws.{EventsKeepTheInvariant, InvariantAtFirst}
 use Rattle.mk_laws.specs.Theorems.{FirstFitFindsThePlace, GuardsBlackCells}

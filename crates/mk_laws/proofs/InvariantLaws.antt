@@ -1,7 +1,7 @@
 -- The invariant holds at first, events keep it, and what it says that is no promise of its own.
 use Rattle.std.specs.{Prelude.{◌≡◌, ℕ, false, List, [], ◌∷◌, ◌++◌, true}, List.list_any}
 use Rattle.mk_core.specs.{declared.{config.Config.Config, events.Event.Event}, Allocations.placed_at}
-use Rattle.mk_core.specs.{ClosedMarks.MarksAreClosed, History.{IsHistory, first_world, left, never_behind}}
+use Rattle.mk_core.specs.{Cycles.MarksAreClosed, History.{IsHistory, first_world, left, never_behind}}
 use Rattle.mk_core.specs.{History.never_first, Words.phase_of, Cycles.{At, is_begin, is_quarantined}}
 use Rattle.mk_laws.proofs.{Quarantine.{has_bit_of, is_cycling}, Room.HasHeaderWords, Invariant.Invariant}
 

@@ -1,14 +1,14 @@
 -- What the guard asks of the layout and of zero words before each event, and what is proved of it.
 use Rattle.std.specs.Prelude.{⊤, ◌≡◌, ◌⊎◌, ℕ, ◌+◌, ◌*◌, ◌/◌, ◌<◌, ◌≤◌, true, false, List, [], ◌∷◌, slice_index, Some}
-use Rattle.mk_geom.specs.{declared.headers.Header.TheVariants.Run, declared.pages.Place.Place}
-use Rattle.mk_core.specs.{declared.config.Config.Config, declared.events.Event.Event, declared.events.Seat.Seat}
-use Rattle.mk_core.specs.{declared.seats.RunPages.RunPages, declared.seats.Object.Object, Config.IsWithinLimits}
+use Rattle.mk_geom.specs.declared.{headers.Header.TheVariants.Run, pages.Place.Place}
+use Rattle.mk_core.specs.declared.{config.Config.Config, events.{Event.Event, Seat.Seat}}
+use Rattle.mk_core.specs.{declared.seats.{RunPages.RunPages, Object.Object}, Moments.IsWithinLimits}
 use Rattle.mk_core.specs.{Words.{Words, header_at, phase_of}, Cells.{header_in, head_page}, Moments.{Moment, flight_of}}
 use Rattle.mk_core.specs.NewPlaces.{object_made, is_small_object, pages_made, header_made}
-use Rattle.mk_core.specs.{ObjectHeaders.{IsSized, IsHeaderOf}, TurnConditions.place_now}
+use Rattle.mk_core.specs.{Allocations.{IsSized, IsHeaderOf}, TurnConditions.place_now}
 use Rattle.mk_core.specs.Allocations.{PlacedAllocation, placed_at, is_mapped}
-use Rattle.mk_core.specs.StandingAllocations.{object_placed, StandsOnHeap}
-use Rattle.mk_core.specs.{ClosedMarks.{MarksAreClosed, MarkingIsGuarded}, History.{World, world_behind, first_world}}
+use Rattle.mk_core.specs.Allocations.{object_placed, StandsOnHeap}
+use Rattle.mk_core.specs.{Cycles.{MarksAreClosed, MarkingIsGuarded}, History.{World, world_behind, first_world}}
 use Rattle.mk_core.specs.History.{left, AreEnabled, IsEnabledBehind}
 use Rattle.mk_laws.proofs.Guard.{IsMarking, MarksStand}
 use Rattle.mk_core.specs.declared.events.Step.TheVariants as step

@@ -1,9 +1,9 @@
 -- The pages of a run: its head, and the later pages after it.
 use Rattle.std.specs.Prelude.{◌≡◌, ◌⊎◌, ℕ, ◌+◌, ◌<◌, ◌≤◌, Bool, true, List, length, Some}
-use Rattle.mk_geom.specs.{declared.pages.Page.Page, declared.headers.Header.TheVariants.Later}
+use Rattle.mk_geom.specs.declared.{pages.Page.Page, headers.Header.TheVariants.Later}
 use Rattle.mk_core.specs.{declared.config.Config.Config, Cells.heads_run, Moments.is_phase, History.World}
 use Rattle.mk_laws.proofs.LayoutScene.{Plot, InPlot, header_on, used_on, shows_on}
-use Rattle.mk_laws.specs.RunCounts.{run_count}
+use Rattle.mk_laws.specs.Theorems.{run_count}
 use Rattle.mk_laws.proofs.Terrain.{plot_of, object_now}
 
 -- The page so far after the head is a later one of the run. Before a New has used it, and while the phase is releasing,

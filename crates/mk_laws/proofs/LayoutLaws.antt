@@ -1,9 +1,9 @@
 -- What stands on the pages stays laid out after each event, and the quarantine with it.
 use Rattle.std.specs.Prelude.{List, Some, [], slice_index, true, ⊤, ◌∷◌, ◌≡◌, ◌≤◌}
-use Rattle.mk_geom.specs.{PageUses.resident_pages, PageWords.uses_of_pages, declared.addresses.Cell.Cell}
-use Rattle.mk_core.specs.{Bits.has_bit, Config.IsWithinLimits, History.{AreEnabled, World}}
+use Rattle.mk_geom.specs.{PageUses.{resident_pages, uses_of_pages}, declared.addresses.Cell.Cell}
+use Rattle.mk_core.specs.{Words.has_bit, Moments.IsWithinLimits, History.{AreEnabled, World}}
 use Rattle.mk_core.specs.{History.{first_world, left, world_behind}, Moments.{flight_of, is_phase}, NewPlaces.target}
-use Rattle.mk_core.specs.{declared.config.Config.Config, declared.events.Event.Event, declared.events.Seat.Seat}
+use Rattle.mk_core.specs.declared.{config.Config.Config, events.{Event.Event, Seat.Seat}}
 use Rattle.mk_core.specs.declared.seats.RunPages.{RunPages}
 use Rattle.mk_laws.proofs.{Quarantine.{FreedCellsAreKnown, IsQuarantined, KeepsSnapshot}, Room.HasHeaderWords}
 use Rattle.mk_laws.proofs.Room.{HasRoom}

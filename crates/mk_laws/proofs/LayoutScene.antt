@@ -2,11 +2,11 @@
 use Rattle.std.specs.Prelude.{◌≡◌, ◌≢◌, ◌⊎◌, ℕ, ◌+◌, ◌-◌, ◌<◌, ◌≤◌, Bool, true, false, ◌&&◌, not, List, [], ◌∷◌}
 use Rattle.std.specs.Prelude.{length, slice_index, slice_index_or, Option, Some}
 use Rattle.mk_geom.specs.declared.{pages.Page.Page, headers.Header.{Header, TheVariants.Later}}
-use Rattle.mk_geom.specs.{Addresses.head_page_under, Headers.header_of, Storages.free_page}
-use Rattle.mk_core.specs.{declared.seats.Object.Object, Bits.has_bit, Cells.cells_under, NewPlaces.is_small_object}
-use Rattle.mk_core.specs.{NewPlaces.{pages_made, header_made, unmapped_header}, ObjectHeaders.{IsSized, cells_made}}
-use Rattle.mk_core.specs.ObjectHeaders.{IsHeaderOf}
-use Rattle.mk_laws.specs.RunCounts.{run_count}
+use Rattle.mk_geom.specs.{Addresses.{head_page_under, header_of}, Storages.free_page}
+use Rattle.mk_core.specs.{declared.seats.Object.Object, Words.has_bit, Cells.cells_under, NewPlaces.is_small_object}
+use Rattle.mk_core.specs.{NewPlaces.{pages_made, header_made, unmapped_header}, Allocations.{IsSized, cells_made}}
+use Rattle.mk_core.specs.Allocations.{IsHeaderOf}
+use Rattle.mk_laws.specs.Theorems.{run_count}
 
 -- how far a large object's pages are unmapped
 pub data Mode : Type 0 where

@@ -1,7 +1,7 @@
 -- What the events of others leave to a marker that attends, and to the turn's holder, while a cycle marks.
 use Rattle.std.specs.Prelude.{◌≡◌, ℕ, true, List, [], ◌∷◌, ◌++◌}
-use Rattle.mk_core.specs.{declared.config.Config.Config, declared.events.Event.Event, declared.events.Seat.Seat}
-use Rattle.mk_core.specs.{Config.IsWithinLimits, Cells.points_well, Readings.Holds, Growing.AreOfOthers}
+use Rattle.mk_core.specs.declared.{config.Config.Config, events.{Event.Event, Seat.Seat}}
+use Rattle.mk_core.specs.{Moments.IsWithinLimits, Cells.points_well, Readings.Holds, History.AreOfOthers}
 use Rattle.mk_core.specs.{Frames.{Attends, HeadersAreLeft}, History.{left, AreEnabled}}
 use Rattle.mk_laws.proofs.Kept.{GuardPremisesFrom}
 

@@ -4,7 +4,7 @@ use Rattle.mk_laws.proofs.Vocabulary.{World, ap, append_assoc, false, first_worl
 use Rattle.mk_laws.proofs.Vocabulary.{list_any, list_any-append, refl, sym, true, world_behind, [], ◌&&◌, ◌++◌, ◌||◌}
 use Rattle.mk_laws.proofs.Vocabulary.{◌∙◌, ◌∷◌, ◌≡◌}
 use Rattle.mk_core.specs.Placement.{FirstServed, NoneServesFrom, event_serves}
-use Rattle.mk_core.specs.{Cycles.Next, Cycles.is_give, Growing.is_same_seat}
+use Rattle.mk_core.specs.{Cycles.{Next, is_give}, History.is_same_seat}
 
 -- Cycles in lists that go on.
 

@@ -15,7 +15,7 @@ use Rattle.mk_laws.proofs.{Worlds.{comes_back, headers, sized, stands}, GuardHis
 use Rattle.mk_geom.proofs.PointedCells.{address_points_into}
 use Rattle.mk_core.proofs.{WordBits.{bit_of_cell, bit_of_power, more_bits}, ChangedAllocations.granted_at}
 use Rattle.mk_core.proofs.{RegisterAccesses.register_is_small, ServingSteps.place_marked}
-use Rattle.mk_core.specs.StopConditions.{marks_by_hand}
+use Rattle.mk_core.specs.MarkingConditions.{marks_by_hand}
 
 -- The allocation that a grant adds is touched: its caller's register points to it at the moment after.
 

@@ -7,7 +7,7 @@ use Rattle.mk_laws.proofs.Vocabulary.{refl, subst, sym, through, world_behind, [
 use Rattle.mk_laws.proofs.{Basics.{Meets, WorldBehind, begin_is, known_world}, OneStep.{precise_begun, precise_behind}}
 use Rattle.mk_laws.proofs.{Precise.{IsClosedIn, IsPrecise, Steps}, InvariantHistories.histories_keep_the_invariant}
 use Rattle.mk_laws.proofs.{PhaseSteps.marking_goes_on, Worlds.Told}
-use Rattle.mk_core.specs.Touched.{IsTouched, LeadsToMoment, by_global, by_register, by_word}
+use Rattle.mk_core.specs.Cycles.{IsTouched, LeadsToMoment, by_global, by_register, by_word}
 use Rattle.mk_core.specs.Cycles.{NoneSweepsFrom, sweeps}
 
 -- what is known after a history

@@ -1,7 +1,7 @@
 -- A world mirrors the heap that never reuses storage: the group of facts that each admitted event keeps.
 use Rattle.std.specs.Prelude.{◌≡◌, ℕ, ◌*◌, true, length, Some}
-use Rattle.mk_never.specs.{declared.values.Value.TheVariants.Ptr, NeverHeap.{NeverState, register_at}, Typed.IsTyped}
-use Rattle.mk_core.specs.{declared.config.Config.Config, declared.events.Seat.TheVariants.Caller}
+use Rattle.mk_never.specs.{declared.values.Value.TheVariants.Ptr, NeverHeap.{NeverState, register_at}, Admitted.IsTyped}
+use Rattle.mk_core.specs.declared.{config.Config.Config, events.Seat.TheVariants.Caller}
 use Rattle.mk_core.specs.{declared.seats.RunPages.RunPages, Calls.p_of, Moments.flight_of, Allocations.placed_at}
 use Rattle.mk_core.specs.History.{World}
 use Rattle.mk_laws.proofs.{Protocol.is_decided_free, Images.{image_scene_of, AreImages, AreTwins}}

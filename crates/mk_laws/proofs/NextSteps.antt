@@ -1,7 +1,7 @@
 -- Which stage of a call each step comes at.
 use Rattle.mk_laws.proofs.Vocabulary.{Bool, Group, None, Op, Some, Stage, Step, arith, comes_next, false, group_of}
 use Rattle.mk_laws.proofs.{Vocabulary.{is_under_turn, not, not-true, true, ◌≡◌}, Stages.{is_reg_stage, is_turn_stage}}
-use Rattle.mk_core.specs.{Calls.is_same_stage, Order.{is_of_any_holder, may_decide_new}}
+use Rattle.mk_core.specs.{Calls.is_same_stage, Conditions.{is_of_any_holder, may_decide_new}}
 
 abbrev pub is_take : Step → Bool
 is_take (Step.Take o) = true

@@ -15,7 +15,7 @@ use Rattle.mk_laws.proofs.{MarkSteps.{marked_behind, points_behind}, MarkerSteps
 use Rattle.mk_laws.proofs.{Pairs.shows_plain, Precise.{IsPrecise, MarkerIsPrecise, PointsOnlyInto, PrecisionScene}}
 use Rattle.mk_laws.proofs.Precise.{Steps, precision_scene_of}
 use Rattle.mk_core.specs.Effects.{hand_given, hand_of_cell, is_in_stop, is_mapped_cell}
-use Rattle.mk_core.specs.{declared.seats.Source.TheVariants.{Marked, Root, Unmarked}, Touched.PointsIntoAllocation}
+use Rattle.mk_core.specs.{declared.seats.Source.TheVariants.{Marked, Root, Unmarked}, Cycles.PointsIntoAllocation}
 
 -- What the turn holder's hand holds is touched: a root's image, or a word of a marked cell that is scanned.
 

@@ -4,7 +4,7 @@ use Rattle.mk_laws.proofs.Vocabulary.{None, Option, Run, Some, World, ℕ, ap, a
 use Rattle.mk_laws.proofs.Vocabulary.{header_at, header_in, if◌then◌else◌, inl, inr, is_phase, nat_le, page_at_address}
 use Rattle.mk_laws.proofs.Vocabulary.{run_count, subst, sym, true, true≢false, ◌-◌, ◌<◌, ◌∙◌, ◌≡◌}
 use Rattle.mk_geom.proofs.{ClassTable.some_cells, HeaderLemmas.word_of-header_of}
-use Rattle.mk_geom.specs.{Addresses.{cell_under, run_of_page, word_at_address}, Headers.IsInRange}
+use Rattle.mk_geom.specs.Addresses.{cell_under, run_of_page, word_at_address, IsInRange}
 use Rattle.mk_core.{proofs.PointedPages.{LiesUnder, found_under, lies_under}, specs.Cells.{pointed_cell}}
 
 -- a header that heads a run has one cell

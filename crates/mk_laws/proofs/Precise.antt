@@ -5,7 +5,7 @@ use Rattle.mk_laws.proofs.Vocabulary.{has_no_pointers, header_of, image_of, is_l
 use Rattle.mk_laws.proofs.Vocabulary.{marker_of, placed_at, shows_on, slice_index, slice_index_or, storage_of}
 use Rattle.mk_laws.proofs.{Vocabulary.{storage_words, true, ◌/◌, ◌<◌, ◌≡◌, ◌≢◌}, Basics.{Came, Meets, WorldBehind}}
 use Rattle.mk_laws.proofs.{Ground.{AreOfOne, allocation_step, came}, Worlds.Told}
-use Rattle.mk_core.specs.{Cycles.sweeps, Touched.IsWordOfAllocation}
+use Rattle.mk_core.specs.Cycles.{sweeps, IsWordOfAllocation}
 use Rattle.mk_laws.proofs.Vocabulary.{Config, Hand, IsMarking, IsWordOf, List, MarkerState as Marker, NeverState, Null}
 
 -- The value points into no unreleased allocation but the set's.

@@ -16,7 +16,7 @@ use Rattle.mk_laws.proofs.{Precise.{same_word, same_words}, ProtocolStepKinds.en
 use Rattle.mk_geom.proofs.{Standing.{has_words, large_is_run, stands_parts}, ListSearch.{find_cases, list_any_found}}
 use Rattle.mk_geom.specs.Storages.{IsRun, is_cell_taken}
 use Rattle.mk_core.specs.Cycles.{before_begin, before_end}
-use Rattle.mk_laws.specs.Precision.{CountsAsFree, FreesTheUntouched, through_end}
+use Rattle.mk_laws.specs.Releases.{CountsAsFree, FreesTheUntouched, through_end}
 
 -- Storage of which no other has a word counts as free.
 

@@ -12,8 +12,8 @@ use Rattle.mk_laws.proofs.{Marking.{marked_at_close, one_more, told}, Stretches.
 use Rattle.mk_laws.proofs.{Stretches.{at_release, history_through, none_joined}, Worlds.{headers, stands}}
 use Rattle.mk_laws.proofs.{CyclePhases.none_is_released, GuardStopped.leaves_closed, PhaseSteps.stopped_waits}
 use Rattle.mk_laws.proofs.{Precise.came_behind, ProtocolStepKinds.close_is, Quarantines.snapshot_is_the_cycles}
-use Rattle.mk_core.specs.{Cycles.NoneSweeps, Touched.IsTouched}
-use Rattle.mk_laws.specs.Precision.{KeepsOnlyTheTouched, ReleasesTheUntouched}
+use Rattle.mk_core.specs.Cycles.{NoneSweeps, IsTouched}
+use Rattle.mk_laws.specs.Releases.{KeepsOnlyTheTouched, ReleasesTheUntouched}
 
 -- All that is marked is of the set.
 abbrev pub IsMarkedOnly : Config → World → (ℕ → Type 0) → Type 0

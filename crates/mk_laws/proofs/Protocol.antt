@@ -7,11 +7,11 @@ use Rattle.mk_core.specs.declared.{config.Config.Config, events.{Seat.TheVariant
 use Rattle.mk_core.specs.declared.seats.{Stage.Stage, Flight.Flight, Placing.Placing}
 use Rattle.mk_core.specs.declared.seats.Stage.TheVariants as stage
 use Rattle.mk_core.specs.declared.seats.{Placing.TheVariants.Granted, Marker.Marker, RunPages.RunPages}
-use Rattle.mk_core.specs.{Config.IsWithinLimits, Words.phase_of, Calls.{has_operands, steps_of, is_same_stage}}
+use Rattle.mk_core.specs.{Moments.IsWithinLimits, Words.phase_of, Calls.{has_operands, steps_of, is_same_stage}}
 use Rattle.mk_core.specs.{NewPlaces.is_undecided_new, Moments.{Moment, flight_of, marker_of, nothing_done}}
-use Rattle.mk_core.specs.{StopConditions.is_attending, History.{left, AreEnabled}, Readings.{is_in_call, is_in_turn}}
+use Rattle.mk_core.specs.{MarkingConditions.is_attending, History.{left, AreEnabled}, Readings.{is_in_call, is_in_turn}}
 use Rattle.mk_core.specs.Readings.{is_in}
-use Rattle.mk_laws.specs.SettledPages.{has_place}
+use Rattle.mk_laws.specs.Theorems.{has_place}
 
 -- The operation has a stage. A refused Lea stores null, at a stage that it hasn't else.
 abbrev pub has_stage : Op → Stage → Bool

@@ -19,7 +19,7 @@ use Rattle.mk_laws.proofs.{OthersMoves.{OthersMove, gate_one, others_move}, Prot
 use Rattle.mk_laws.proofs.{Protocols.protocol_of, Standings.{InCall, in_call_is}}
 use Rattle.mk_core.proofs.{Histories.calls_append, RegisterAccesses.tally_leaves_registers}
 use Rattle.mk_core.specs.Frames.{Attends, CountsAreLeft, HoldsAll, IsIn, OwnIsLeft, written_of}
-use Rattle.mk_core.specs.{Growing.is_same_seat, Readings.is_in_call}
+use Rattle.mk_core.specs.{History.is_same_seat, Readings.is_in_call}
 
 -- What an event may do to registers: each caller's are its own.
 

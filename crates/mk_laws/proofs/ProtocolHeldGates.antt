@@ -5,7 +5,7 @@ use Rattle.mk_laws.proofs.Vocabulary.{get_or-set_other, get_or-set_same, if◌th
 use Rattle.mk_laws.proofs.Vocabulary.{length, ne_eqb, not, not-true, refl, reg_access, register_met, set_past}
 use Rattle.mk_laws.proofs.Vocabulary.{slice_index, slice_set, sym, true, world_behind, [], ◌==◌, ◌↔◌, ◌∙◌, ◌∷◌, ◌≡◌}
 use Rattle.mk_laws.proofs.{Vocabulary.◌≢◌, Basics.{Behind, at_first, reg_keeps, tally_keeps}}
-use Rattle.mk_core.specs.HeldGates.{changes_gate, is_gate_held, is_gate_held_from, is_hold_of}
+use Rattle.mk_core.specs.History.{changes_gate, is_gate_held, is_gate_held_from, is_hold_of}
 
 -- a gate that changes has the value that was set
 unchanged : (gs : List ℕ) (i : ℕ) → not (slice_index gs i == slice_index gs i) ≡ true → ⊥

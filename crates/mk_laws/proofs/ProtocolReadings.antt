@@ -2,7 +2,7 @@
 use Rattle.mk_laws.proofs.Vocabulary.{Caller, Config, Event, Holds, Host, List, Moment, Presence, Protocol, Seat, ℕ}
 use Rattle.mk_laws.proofs.Vocabulary.{arith, cases_Bool, cases_eq, cases_lt, false, get_or_past, inl, inr, is_attending}
 use Rattle.mk_laws.proofs.Vocabulary.{is_in, left, marker_of, not, true, ◌-◌, ◌/◌, ◌<◌, ◌≡◌, ◌≤◌}
-use Rattle.mk_core.specs.MarkerConditions.{is_out}
+use Rattle.mk_core.specs.MarkingConditions.{is_out}
 use Rattle.mk_core.proofs.WhoHoldsWhat.{GateTells, PhaseTells, TurnTells}
 use Rattle.mk_laws.proofs.{Orderly.count_in-at, ProtocolHeldGates.gates_tell_holds, Protocols.lists_keep_the_protocol}
 use Rattle.mk_laws.proofs.HolderReadings.{WordsTell}

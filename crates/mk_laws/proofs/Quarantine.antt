@@ -1,9 +1,9 @@
 -- The quarantine: what the freed cells of the pages and their snapshot say of the allocations.
 use Rattle.std.specs.Prelude.{Bool, List, false, nat_le, not, slice_index, true, ℕ, ◌&&◌, ◌<◌, ◌^◌, ◌≡◌, ◌⊎◌}
 use Rattle.mk_geom.specs.declared.pages.Place.{Place}
-use Rattle.mk_core.specs.{Allocations.{PlacedAllocation, cell_of_allocation, placed_at}, Bits.has_bit}
+use Rattle.mk_core.specs.{Allocations.{PlacedAllocation, cell_of_allocation, placed_at}, Words.has_bit}
 use Rattle.mk_core.specs.{Cells.{cells_under, header_in}, History.World, Moments.is_phase, Words.phase_of}
-use Rattle.mk_core.specs.{declared.config.Config.Config, declared.seats.Placing.TheVariants.Used}
+use Rattle.mk_core.specs.declared.{config.Config.Config, seats.Placing.TheVariants.Used}
 use Rattle.mk_laws.proofs.{LayoutScene.is_released_in, Grounds.{Ground, ground_of}}
 
 -- The cell is that of an unreleased allocation that is freed.

@@ -1,8 +1,8 @@
 -- Which word an enabled event reaches, and how.
 use Rattle.std.specs.Prelude.{◌≡◌, List, [], ◌∷◌, ◌++◌}
-use Rattle.mk_core.specs.{declared.config.Config.Config, declared.events.Event.Event, Config.IsWithinLimits}
+use Rattle.mk_core.specs.{declared.{config.Config.Config, events.Event.Event}, Moments.IsWithinLimits}
 use Rattle.mk_core.specs.{Layout.IsOfTable, Accesses.{word_accessed, access}, History.{left, AreEnabled}}
-use Rattle.mk_core.specs.{History.IsEnabledBehind, Growing.AreOfOthers}
+use Rattle.mk_core.specs.History.{IsEnabledBehind, AreOfOthers}
 
 -- The word is one of the table,
 abbrev pub EventsReachTheTable : Type 0

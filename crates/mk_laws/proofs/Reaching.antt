@@ -3,10 +3,10 @@ use Rattle.mk_laws.proofs.Vocabulary.{Config, Flight, Marker, Moment, Seat, Step
 use Rattle.mk_laws.proofs.Vocabulary.{caller_number, enabled_meets, flight_of, is_number_of, ltb-true, marker_at}
 use Rattle.mk_laws.proofs.Vocabulary.{nat_lt, not, outside, page_met, refl, seat_exists, true, word_accessed, word_met}
 use Rattle.mk_laws.proofs.Vocabulary.{◌&&◌, ◌*◌, ◌<◌, ◌≡◌, ◌≤◌}
-use Rattle.mk_core.specs.{Layout.IsOfTable, Layout.NamesWord, Ranges.is_word, Ranges.is_word_met}
+use Rattle.mk_core.specs.{Layout.{IsOfTable, NamesWord}, Conditions.{is_word, is_word_met}}
 use Rattle.mk_laws.proofs.Basics.{Known, Meets, is_grant, known_left, operands_of, register_small}
 use Rattle.mk_laws.proofs.ScansInHeap.{MarkerFits, next_in_heap, nothing_fits, scan_page_in_heap, seen_page_in_heap}
-use Rattle.mk_laws.proofs.{InHeap.InHeap, InHeap.in_heap_left, Known.Operands, ProtocolFrames.others_leave}
+use Rattle.mk_laws.proofs.{InHeap.{InHeap, in_heap_left}, Known.Operands, ProtocolFrames.others_leave}
 use Rattle.mk_laws.proofs.ReachedWords.{EventsReachTheTable, OthersLeaveAccesses}
 
 -- what is known of a seat

@@ -6,8 +6,8 @@ use Rattle.mk_laws.proofs.Vocabulary.{is_released_in, left, ne_eqb, not-true, ph
 use Rattle.mk_laws.proofs.Vocabulary.{run_headed, stands_in_its_cell, sym, true, true≢false, typed_size, ◌-◌, ◌<◌, ◌∙◌}
 use Rattle.mk_laws.proofs.Vocabulary.{◌≡◌, ◌≢◌}
 use Rattle.mk_core.{proofs.PointedAllocations.taken_cell_is, specs.Readings.WordsTellWhatStands}
-use Rattle.mk_laws.{proofs.Basics.KnownWorld, proofs.Basics.known_world, proofs.ForImages.standing}
-use Rattle.mk_laws.{proofs.InvariantHistories.histories_keep_the_invariant, specs.WordReadings.HeadersAndQuarantineTell}
+use Rattle.mk_laws.proofs.{Basics.{KnownWorld, known_world}, ForImages.standing}
+use Rattle.mk_laws.{proofs.InvariantHistories.histories_keep_the_invariant, specs.WordLaws.HeadersAndQuarantineTell}
 
 -- a header that heads a run of more pages than this
 run_there : (x : Option Header) (page distance : ℕ) → distance < run_count x

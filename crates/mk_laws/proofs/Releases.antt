@@ -12,7 +12,7 @@ use Rattle.mk_laws.proofs.CyclePhases.{marking_goes_on, moves_phase, none_is_rel
 use Rattle.mk_laws.proofs.{InvariantHistories.{allocations_stand, reach_is_kept}, Quarantines.snapshot_is_the_cycles}
 use Rattle.mk_laws.proofs.{ReadingsKeptPlaces.stays_put, Snapshots.{enabled_at, unreleased_cycles}}
 use Rattle.mk_laws.{proofs.Stretches.{at_release, history_through}, specs.Releases.{allocation_behind}}
-use Rattle.mk_never.specs.Reach.{IsReachable}
+use Rattle.mk_never.specs.Laws.{IsReachable}
 use Rattle.mk_core.specs.Allocations.{allocations_by}
 use Rattle.mk_laws.specs.Releases.{NoOthersRelease, ReleasesAreExact, ReleasesNoneReached, allocation_before}
 

@@ -7,7 +7,7 @@ use Rattle.mk_laws.proofs.Vocabulary.{ltb-true, nat_le, nat_lt, object_now, or_c
 use Rattle.mk_laws.proofs.Vocabulary.{resident_pages, set_by, shows_on, slice_index_or, suc, sym, true, true≢false}
 use Rattle.mk_laws.proofs.Vocabulary.{use_under, used_on, uses_of_pages, zero, ◌&&◌, ◌+◌, ◌-◌, ◌<◌, ◌||◌, ◌∙◌, ◌∷◌, ◌≡◌}
 use Rattle.mk_laws.proofs.{Vocabulary.{◌≢◌, ◌≤◌}, Basics.{with_header_on, with_used_on}}
-use Rattle.mk_geom.specs.{PageWords.use_of_page, StorageWords.page_in}
+use Rattle.mk_geom.specs.{PageUses.use_of_page, Storages.page_in}
 use Rattle.mk_books.proofs.PlaceLemmas.{count_by-map}
 use Rattle.mk_laws.proofs.Room.{HasRoom, in_plot, is_taken_page}
 

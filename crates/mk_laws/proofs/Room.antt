@@ -1,7 +1,7 @@
 -- Header words, and how many pages are resident.
 use Rattle.std.specs.Prelude.{ℕ, zero, suc, ◌+◌, ◌≤◌, Bool, false, ◌&&◌, ◌||◌, nat_le, nat_lt, List, if◌then◌else◌}
-use Rattle.mk_geom.specs.{declared.pages.Page.Page, Headers.IsHeaderWord, PageUses.is_resident_page}
-use Rattle.mk_geom.specs.{PageWords.use_of_page, StorageWords.page_in}
+use Rattle.mk_geom.specs.{declared.pages.Page.Page, Addresses.IsHeaderWord, PageUses.is_resident_page}
+use Rattle.mk_geom.specs.{PageUses.use_of_page, Storages.page_in}
 use Rattle.mk_core.specs.{declared.config.Config.Config, Words.header_at, NewPlaces.pages_made, History.World}
 use Rattle.mk_laws.proofs.{LayoutScene.{Plot, NoPlot, Plotted}, Terrain.{plot_of, object_now}}
 

@@ -7,7 +7,7 @@ use Rattle.mk_laws.proofs.Vocabulary.{object_made, pages_made, place_now, refl, 
 use Rattle.mk_laws.proofs.Vocabulary.{slice_index_or, slice_set, true, unmapped_header, unmaps, word_of, ◌*◌, ◌+◌, ◌-◌}
 use Rattle.mk_laws.proofs.{Vocabulary.{◌<◌, ◌∙◌, ◌≡◌, ◌≤◌}, Ground.{Carves, Empties, GivesBack, GroundStep, TakesCell}}
 use Rattle.mk_laws.proofs.{Ground.Unmaps, HeaderSteps.used_set, NewPlace.PlaceFits}
-use Rattle.mk_geom.{proofs.{ClassTable.class_for-some, HeaderLemmas.word_of-header_of}, specs.Classes.{class_for}}
+use Rattle.mk_geom.{proofs.{ClassTable.class_for-some, HeaderLemmas.word_of-header_of}, specs.Addresses.{class_for}}
 
 -- what a header word at a page shows ends in the heap
 abbrev pub RunFits : Config → ℕ → ℕ → Type 0

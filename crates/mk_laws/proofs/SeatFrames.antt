@@ -10,12 +10,12 @@ use Rattle.mk_laws.proofs.Vocabulary.{never_behind, not, not-true, placed_at, pr
 use Rattle.mk_laws.proofs.Vocabulary.{sym, true, [], ◌*◌, ◌++◌, ◌+◌, ◌/◌, ◌<◌, ◌∙◌, ◌∷◌, ◌≡◌, ◌≢◌}
 use Rattle.mk_laws.proofs.InvariantHistories.{reach_is_kept, told_to_guard, told_to_images}
 use Rattle.mk_laws.proofs.{LastEvents.{Stands, comes_last, stands}, OtherCalls.{call_not_by, registers_are_left}}
-use Rattle.mk_laws.{proofs.OthersLeave.{others_leave_headers, others_leave_wells}, proofs.RunsStill.{holder_finds}}
+use Rattle.mk_laws.proofs.{OthersLeave.{others_leave_headers, others_leave_wells}, RunsStill.holder_finds}
 use Rattle.mk_laws.proofs.{ProtocolFrames.{in_call_stands, left_after, other_seat, others_leave}, Basics.{Known, Meets}}
 use Rattle.mk_laws.proofs.Basics.{along_others, base_at, exists_placed, others_held, pointed_word, unmapped_is}
 use Rattle.mk_laws.proofs.{EventSorts.held_idle, FramesLongerLists.begins_nothing, FreedRuns.never_after}
 use Rattle.mk_laws.proofs.{ImagesHistories.one_event, ImagesMoves.IsLonger, ProbesStill.{pages_tell, ready}}
-use Rattle.mk_never.specs.Reach.{LeadsTo, by_register}
+use Rattle.mk_never.specs.Laws.{LeadsTo, by_register}
 use Rattle.mk_core.specs.{Frames.{AdmittedOthersLeave, HeapIsLeft, HoldsAll, TargetsAreLeft}, Readings.is_in_call}
 
 -- An allocation to which a caller's register leads stays unreleased if it is so, and in a call of the caller mapped.

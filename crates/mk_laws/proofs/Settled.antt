@@ -6,7 +6,7 @@ use Rattle.mk_laws.proofs.Vocabulary.{append-nil, claim_of, claims_of, claims_pl
 use Rattle.mk_laws.proofs.Vocabulary.{histories_keep_lengths, is_run_gone, is_run_unmapped, left, length, object_now}
 use Rattle.mk_laws.proofs.{Vocabulary.{placed_at, plot_of, refl, sym, true, ◌++◌, ◌∙◌, ◌≡◌}, Basics.{Laid, all_stand}}
 use Rattle.mk_laws.proofs.{Basics.{apart_left, claim_among, gone_terrain, own_claim}, Apart.Rests}
-use Rattle.mk_laws.{proofs.{ForImages.numbers_apart, HeadersStand.pages_stand}, specs.SettledPages.is_freed_unmapped}
+use Rattle.mk_laws.{proofs.{ForImages.numbers_apart, HeadersStand.pages_stand}, specs.Theorems.is_freed_unmapped}
 use Rattle.mk_geom.proofs.Bridge.{same_places}
 use Rattle.mk_laws.proofs.SettledLaws.{FirstFitIsThePlace, HeadersStand, UnreleasedAreApart, UnreleasedStand}
 

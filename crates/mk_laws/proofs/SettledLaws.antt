@@ -2,10 +2,10 @@
 use Rattle.std.specs.Prelude.{◌≡◌, ℕ, false, List}
 use Rattle.mk_geom.specs.Storages.{PagesStandFor}
 use Rattle.mk_core.specs.declared.{config.Config.Config, events.Event.Event, seats.Object.Object}
-use Rattle.mk_core.specs.{Config.IsWithinLimits, NewPlaces.place_on_pages, Allocations.placed_at}
+use Rattle.mk_core.specs.{Moments.IsWithinLimits, NewPlaces.place_on_pages, Allocations.placed_at}
 use Rattle.mk_core.specs.{Allocations.{cell_of_allocation, unreleased_storage, place_among_allocations}, History.left}
 use Rattle.mk_laws.proofs.Terrain.{LayoutStands}
-use Rattle.mk_laws.specs.SettledPages.{StandsUsed, IsSettled}
+use Rattle.mk_laws.specs.Theorems.{StandsUsed, IsSettled}
 
 -- Each unreleased allocation of a world that is laid out stands on the heap, with its headers and its used bit,
 abbrev pub UnreleasedStand : Type 0

@@ -18,7 +18,7 @@ use Rattle.mk_laws.proofs.{CyclePhases.{phase_asked, phase_moves}, QuarantineByK
 use Rattle.mk_laws.proofs.{QuarantineChanges.{FreesHere, before_change, free_halves}, ForImages.numbers_apart}
 use Rattle.mk_laws.proofs.{Granted.{pushed_any, pushed_at}, LayoutByKind.{fresh_cells, off_at}}
 use Rattle.mk_laws.proofs.{QuarantineSteps.and_both, Released.{left_is, place_index}, Quarantine.HasSnapshot}
-use Rattle.mk_core.specs.StopConditions.{may_begin}
+use Rattle.mk_core.specs.MarkingConditions.{may_begin}
 
 -- What is fresh and what is in the snapshot, after a `quar`.
 

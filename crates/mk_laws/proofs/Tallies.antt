@@ -17,7 +17,7 @@ use Rattle.mk_laws.proofs.{LayoutHolders.giver_has_turn, Settled.gone_is_unmappe
 use Rattle.mk_geom.proofs.HeldWords.{pages_hold_mapped_words}
 use Rattle.mk_core.{proofs.Histories.{calls_more}, specs.Readings.{TalliesTell}}
 use Rattle.mk_core.specs.{Allocations.held_by_allocations, Counts.{TalliesAreExact, full_answers, releases}}
-use Rattle.mk_laws.specs.ExactTallies.{TalliesAreExactAtGives}
+use Rattle.mk_laws.specs.WordLaws.{TalliesAreExactAtGives}
 
 -- The fresh count of the moment is that of the allocations, after every history.
 

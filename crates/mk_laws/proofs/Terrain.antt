@@ -1,13 +1,13 @@
 -- The scene of a world: what the allocations, the place of a New and the run of a Free claim.
 use Rattle.std.specs.Prelude.{◌≡◌, ℕ, ◌-◌, ◌/◌, ◌<◌, Bool, true, false, ◌&&◌, not, ◌==◌, List, [], ◌∷◌, ◌++◌, length}
 use Rattle.std.specs.Prelude.{Option, Some, None, if◌then◌else◌}
-use Rattle.mk_geom.specs.{declared.addresses.Cell.Cell, declared.pages.Place.Place}
-use Rattle.mk_core.specs.{declared.config.Config.Config, declared.events.Seat.TheVariants.Caller}
-use Rattle.mk_core.specs.{declared.seats.Object.Object, declared.seats.Placing.Placing}
-use Rattle.mk_core.specs.{declared.seats.Placing.TheVariants.{Chosen, Used}, declared.seats.RunPages.RunPages}
+use Rattle.mk_geom.specs.declared.{addresses.Cell.Cell, pages.Place.Place}
+use Rattle.mk_core.specs.declared.{config.Config.Config, events.Seat.TheVariants.Caller}
+use Rattle.mk_core.specs.declared.seats.{Object.Object, Placing.Placing}
+use Rattle.mk_core.specs.declared.seats.{Placing.TheVariants.{Chosen, Used}, RunPages.RunPages}
 use Rattle.mk_core.specs.{Moments.{Moment, flight_of, is_phase}, NewPlaces.{object_made, is_small_object, pages_made}}
 use Rattle.mk_core.specs.Allocations.{PlacedAllocation, placed_at, cell_of_allocation}
-use Rattle.mk_core.specs.{StandingAllocations.{object_placed, BeginsAtCell}, History.World}
+use Rattle.mk_core.specs.{Allocations.{object_placed, BeginsAtCell}, History.World}
 use Rattle.mk_laws.proofs.{Grounds.{Ground, ground_of}, LayoutScene.{Mode, Mapped, Unmapping, Unmapped, Claim, Among}}
 use Rattle.mk_laws.proofs.LayoutScene.{Plot, NoPlot, Plotted, LayoutScene, IsLaidOn}
 

@@ -13,7 +13,7 @@ use Rattle.mk_laws.proofs.Basics.{Table, claim_among, gone_terrain, known_world,
 use Rattle.mk_laws.proofs.{ForImages.{gone_is, shown_claim, standing}, ResidentPages.{is_resident, resident_gone}}
 use Rattle.mk_laws.proofs.ResidentPages.{resident_other, resident_used, unmapped_use}
 use Rattle.mk_laws.proofs.InvariantHistories.{histories_keep_the_invariant}
-use Rattle.mk_laws.specs.UnmappedRuns.{IsOfUnmappedRun, UnmappedRunsTakeNoMemory, gives_header, is_resident_in}
+use Rattle.mk_laws.specs.WordLaws.{IsOfUnmappedRun, UnmappedRunsTakeNoMemory, gives_header, is_resident_in}
 
 -- A page stays out of memory at each step that gives it no header.
 

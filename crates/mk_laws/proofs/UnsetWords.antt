@@ -3,9 +3,9 @@ use Rattle.mk_laws.proofs.Vocabulary.{Bool, Config, Event, Flight, Invariant, Le
 use Rattle.mk_laws.proofs.Vocabulary.{OfHistories, Seat, Step, World, ℕ, ap, append_assoc, arith, at_rest, false}
 use Rattle.mk_laws.proofs.Vocabulary.{flight_of, g_of, get_or-set_other, get_or_past, left, left_from, left_more, refl}
 use Rattle.mk_laws.proofs.Vocabulary.{shown, slice_index, sym, true, [], ◌%◌, ◌*◌, ◌++◌, ◌+◌, ◌/◌, ◌∙◌, ◌∷◌, ◌≡◌}
-use Rattle.mk_laws.proofs.{Basics.Behind, Basics.KeptByEvents, Basics.KnownWorld, Basics.at_first}
-use Rattle.mk_laws.proofs.{Basics.holds_of_histories, Basics.reg_table, Basics.tally_table, FreeWords.of_worlds}
-use Rattle.mk_laws.specs.UnsetWords.{IsNeverSet, RegistersOfNoCallerAreZero, UnsetGlobalsAreZero}
+use Rattle.mk_laws.proofs.Basics.{Behind, KeptByEvents, KnownWorld, at_first}
+use Rattle.mk_laws.proofs.{Basics.{holds_of_histories, reg_table, tally_table}, FreeWords.of_worlds}
+use Rattle.mk_laws.specs.WordLaws.{IsNeverSet, RegistersOfNoCallerAreZero, UnsetGlobalsAreZero}
 
 no_caller : {c : Config} {w : World} {n : NeverState} → KnownWorld c w → Invariant c w n
     → RegistersOfNoCallerAreZero c w

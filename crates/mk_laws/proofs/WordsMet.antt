@@ -10,8 +10,8 @@ use Rattle.mk_laws.proofs.Vocabulary.{sees_double, stage_behind, steps_of, still
 use Rattle.mk_laws.proofs.{Vocabulary.{◌∙◌, ◌≢◌, [], ◌*◌, ◌+◌, ◌<◌, ◌∷◌, ◌≡◌}, OrderlyLists.at_first}
 use Rattle.mk_laws.proofs.Basics.{Behind, Meets, at_its_stage, at_reg, base_at, is_astray, not_astray, standing_at}
 use Rattle.mk_laws.proofs.{ProbesStill.ready, Stages.{behind_reg, is_reg_stage}}
-use Rattle.mk_laws.specs.LoadedRegisters.{has_q, has_some_q}
-use Rattle.mk_core.specs.{Calls.{is_same_stage, progress_reg}, Ranges.is_word_met}
+use Rattle.mk_laws.specs.Theorems.{has_q, has_some_q}
+use Rattle.mk_core.specs.{Calls.{is_same_stage, progress_reg}, Conditions.is_word_met}
 use Rattle.mk_laws.proofs.Vocabulary.{IsHistory, IsSafe, IsSound, IsWithinLimits, List, Meets as MeetsWord, Moment}
 use Rattle.mk_laws.proofs.{CallSorts.{access_meets, at_probe}, Known.along_enabled, LastEvents.{Stands, stands}}
 

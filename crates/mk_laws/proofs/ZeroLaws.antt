@@ -1,11 +1,11 @@
 -- The words of the heap that may not hold values are 0 after each event.
 use Rattle.std.specs.Prelude.{◌≡◌, Bool, true, false, List, [], ◌∷◌, ⊤, Some}
 use Rattle.mk_geom.specs.declared.addresses.Cell.{Cell}
-use Rattle.mk_core.specs.{declared.config.Config.Config, declared.events.Step.Step, declared.events.Event.Event}
+use Rattle.mk_core.specs.declared.{config.Config.Config, events.{Step.Step, Event.Event}}
 use Rattle.mk_core.specs.{Calls.word_met, Moments.flight_of, NewPlaces.target}
 use Rattle.mk_core.specs.History.{World, world_behind}
 use Rattle.mk_laws.proofs.{Terrain.{IsCellOf, LayoutStands}}
-use Rattle.mk_laws.specs.FreeWords.{IsWordOfMapped}
+use Rattle.mk_laws.specs.WordLaws.{IsWordOfMapped}
 use Rattle.mk_core.specs.declared.events.Step.TheVariants as step
 
 -- the step of a caller that stores to the heap

@@ -1,11 +1,11 @@
 -- Which words of the heap may hold values: all others are 0.
 use Rattle.std.specs.Prelude.{◌≡◌, ◌≢◌, ℕ, ◌+◌, ◌*◌, ◌<◌, ◌≤◌, Bool, true, ◌&&◌, List, slice_index, Option, Some}
 use Rattle.mk_geom.specs.{declared.{addresses.Cell.Cell, pages.Page.Page}, Addresses.address_of}
-use Rattle.mk_core.specs.{declared.{config.Config.Config, seats.RunPages.RunPages}, Bits.{has_bit, without}}
+use Rattle.mk_core.specs.{declared.{config.Config.Config, seats.RunPages.RunPages}, Words.{has_bit, without}}
 use Rattle.mk_core.specs.{Cells.{pointed_cell, words_under, is_in_run}, Moments.is_phase}
 use Rattle.mk_core.specs.{Allocations.PlacedAllocation, History.World}
 use Rattle.mk_laws.proofs.LayoutScene.{shows_on, used_on}
-use Rattle.mk_laws.specs.FreeWords.{IsWordOfMapped}
+use Rattle.mk_laws.specs.WordLaws.{IsWordOfMapped}
 
 -- what the zero words read of a world
 pub record ZeroScene : Type 0 where

@@ -1,8 +1,8 @@
 -- What the zero words tell the images and the guard, and what the images tell the zero words, each in its own terms.
 use Rattle.std.specs.Prelude.{◌≢◌, ℕ, slice_index, List}
 use Rattle.mk_never.specs.{NeverHeap.NeverState, Admitted.AreAdmitted}
-use Rattle.mk_core.specs.{declared.config.Config.Config, declared.events.Event.Event, Config.IsWithinLimits}
-use Rattle.mk_core.specs.{Enabled.IsEnabled, Decided.asked, History.{World, left, AreEnabled, call_decided}}
+use Rattle.mk_core.specs.{declared.{config.Config.Config, events.Event.Event}, Moments.IsWithinLimits}
+use Rattle.mk_core.specs.{Enabled.IsEnabled, Calls.asked, History.{World, left, AreEnabled, call_decided}}
 use Rattle.mk_laws.proofs.{Terrain.LayoutStands, ImagePremises.MayHoldWords, ImagesSay.ImagesSay, Zeros.HasZeros}
 use Rattle.mk_laws.proofs.ZeroLaws.{ZeroPremises}
 use Rattle.mk_laws.proofs.Kept as guard

@@ -1,17 +1,18 @@
 -- What is promised of every history of a heap, in whatever order callers, markers and the turn's holder step. Each
 -- field is one promise.
 use Rattle.std.specs.Prelude.{◌≡◌, List, ◌++◌}
-use Rattle.mk_core.specs.{declared.config.Config.Config, declared.events.Event.Event, Exchanges.ExchangesCompareValues}
+use Rattle.mk_core.specs.declared.{config.Config.Config, events.Event.Event}
+use Rattle.mk_core.specs.HistoryLaws.{ExchangesCompareValues}
 use Rattle.mk_core.specs.{History.RefinesNever, Placement.{FullsFitNowhere, GrantsStandAtTheirPlaces}}
 use Rattle.mk_core.specs.Readings.{SnapshotsTell}
 use Rattle.mk_laws.specs.Theorems.{AllocationsAreDisjoint, AllocationsStand, ClosesFindMarksClosed, FewPagesAreResident}
 use Rattle.mk_laws.specs.Theorems.{FirstFitFindsThePlace, GuardsBlackCells, KeepsTheReach, PagesShowTheStorage}
-use Rattle.mk_laws.specs.{ExactTallies.TalliesAreExactAtGives, Precision.{FreesTheUntouched, ReleasesTheUntouched}}
-use Rattle.mk_laws.specs.FreePages.{DirtyPagesHaveAllocations, FreePagesHaveNothing}
-use Rattle.mk_laws.specs.FreeWords.{FreeCellsAreZero, Leaves, WordsBehindCellsAreZero}
-use Rattle.mk_laws.specs.{WordReadings.HeadersAndQuarantineTell, Releases.{NoOthersRelease, ReleasesAreExact}}
-use Rattle.mk_laws.specs.{Releases.{ReleasesAreOfCycles, ReleasesNoneReached}, UnmappedRuns.UnmappedRunsTakeNoMemory}
-use Rattle.mk_laws.specs.{UnsetWords.{RegistersOfNoCallerAreZero, UnsetGlobalsAreZero}, Waiting.NobodyEverWaitsInARing}
+use Rattle.mk_laws.specs.{WordLaws.TalliesAreExactAtGives, Releases.{FreesTheUntouched, ReleasesTheUntouched}}
+use Rattle.mk_laws.specs.WordLaws.{DirtyPagesHaveAllocations, FreePagesHaveNothing}
+use Rattle.mk_laws.specs.WordLaws.{FreeCellsAreZero, Leaves, WordsBehindCellsAreZero}
+use Rattle.mk_laws.specs.{WordLaws.HeadersAndQuarantineTell, Releases.{NoOthersRelease, ReleasesAreExact}}
+use Rattle.mk_laws.specs.{Releases.{ReleasesAreOfCycles, ReleasesNoneReached}, WordLaws.UnmappedRunsTakeNoMemory}
+use Rattle.mk_laws.specs.{WordLaws.{RegistersOfNoCallerAreZero, UnsetGlobalsAreZero}, Waiting.NobodyEverWaitsInARing}
 
 -- It holds after each front of the list.
 abbrev pub AtEachMoment : (Config → List Event → Type 0) → Config → List Event → Type 0

@@ -2,11 +2,11 @@
 use Rattle.std.specs.Prelude.{◌≡◌, ◌≢◌, ◌⊎◌, ℕ, suc, zero, ◌<◌, Bool, true, false, not, List, ◌∷◌, [], ◌++◌, Option}
 use Rattle.std.specs.{Prelude.slice_index, List.list_any}
 use Rattle.mk_never.specs.{declared.operations.Op.Op, Admitted.IsAdmitted}
-use Rattle.mk_core.specs.{declared.config.Config.Config, declared.events.Event.Event, declared.events.Seat.Seat}
-use Rattle.mk_core.specs.{declared.events.Seat.TheVariants.{Caller, Marker}, declared.events.Step.Step}
-use Rattle.mk_core.specs.{declared.seats.Stage.Stage, Calls.{at_rest, is_same_stage}, Growing.AreOfOthers}
-use Rattle.mk_core.specs.{History.{IsHistory, left, never_behind}, Order.{group_of, is_in_order, is_open_to}}
-use Rattle.mk_core.specs.{Order.seat_exists, Moments.{Moment, flight_of, marker_at, marker_of, outside}}
+use Rattle.mk_core.specs.declared.{config.Config.Config, events.{Event.Event, Seat.Seat}}
+use Rattle.mk_core.specs.declared.events.{Seat.TheVariants.{Caller, Marker}, Step.Step}
+use Rattle.mk_core.specs.{declared.seats.Stage.Stage, Calls.{at_rest, is_same_stage}, History.AreOfOthers}
+use Rattle.mk_core.specs.{History.{IsHistory, left, never_behind}, Conditions.{group_of, is_in_order, is_open_to}}
+use Rattle.mk_core.specs.{Conditions.seat_exists, Moments.{Moment, flight_of, marker_at, marker_of, outside}}
 use Rattle.mk_core.specs.Readings.{Holds, is_in, is_in_call}
 
 -- The seat is in the middle of nothing: it has no call in flight, and as a marker it is out.

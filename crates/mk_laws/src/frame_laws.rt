@@ -1,7 +1,7 @@
 //! What the steps of others leave of each seat's own, and what may come next after longer lists: facts only, with no
 //! code.
 
-ghost use Rattle.mk_core.specs.{Frames.AdmittedOthersLeave, LongerLists.LongerListsGoOn};
+ghost use Rattle.mk_core.specs.{Frames.AdmittedOthersLeave, HistoryLaws.LongerListsGoOn};
 
 /// What the events of other seats leave to a seat in a history, by what it is in the middle of.
 #[tactic(auto, using(crate::proofs::SeatFrames::admitted_others_leave))]

@@ -2,7 +2,7 @@
 //! no code.
 
 ghost use Rattle.mk_core.specs.{Placement.{FullsFitNowhere, GrantsStandAtTheirPlaces}, Readings.TalliesTell};
-ghost use Rattle.mk_laws.specs.{Theorems.OfHistories, ExactTallies.TalliesAreExactAtGives};
+ghost use Rattle.mk_laws.specs.{Theorems.OfHistories, WordLaws.TalliesAreExactAtGives};
 
 /// Each object is granted at its place by first fit, before the call's first step that serves it.
 #[tactic(auto, using(crate::proofs::PlacementTheorems::grants_stand_at_their_places))]

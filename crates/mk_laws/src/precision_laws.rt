@@ -1,7 +1,7 @@
 //! Precision, over all histories: what a cycle releases, and that its storage is then free. Facts only, with no code.
 
 ghost use Rattle.mk_laws.specs.Theorems.{OfHistories};
-ghost use Rattle.mk_laws.specs.Precision.{FreesTheUntouched, KeepsOnlyTheTouched, ReleasesTheUntouched};
+ghost use Rattle.mk_laws.specs.Releases.{FreesTheUntouched, KeepsOnlyTheTouched, ReleasesTheUntouched};
 
 /// A cycle without a sweeping mark releases each allocation of its snapshot that isn't touched. What it keeps is
 /// touched.

@@ -2,13 +2,13 @@
 //! with no code.
 
 ghost use Rattle.mk_core.specs.Readings.{SnapshotsTell};
-ghost use Rattle.mk_laws.specs.{Theorems.OfHistories, FreeWords.{FreeCellsAreZero, Leaves, UnmappedWordsAreZero}};
-ghost use Rattle.mk_laws.specs.FreeWords.{WordsBehindCellsAreZero, WordsOfNoneAreZero};
-ghost use Rattle.mk_laws.specs.FreePages.{DirtyPagesHaveAllocations, FreePagesHaveNothing};
-ghost use Rattle.mk_laws.specs.{WordReadings.HeadersAndQuarantineTell, Releases.{NoOthersRelease, ReleasesAreExact}};
+ghost use Rattle.mk_laws.specs.{Theorems.OfHistories, WordLaws.{FreeCellsAreZero, Leaves, UnmappedWordsAreZero}};
+ghost use Rattle.mk_laws.specs.WordLaws.{WordsBehindCellsAreZero, WordsOfNoneAreZero};
+ghost use Rattle.mk_laws.specs.WordLaws.{DirtyPagesHaveAllocations, FreePagesHaveNothing};
+ghost use Rattle.mk_laws.specs.{WordLaws.HeadersAndQuarantineTell, Releases.{NoOthersRelease, ReleasesAreExact}};
 ghost use Rattle.mk_laws.specs.Releases.{ReleasesAreOfCycles, ReleasesNoneReached};
-ghost use Rattle.mk_laws.specs.UnmappedRuns.{UnmappedRunsTakeNoMemory};
-ghost use Rattle.mk_laws.specs.UnsetWords.{RegistersOfNoCallerAreZero, UnsetGlobalsAreZero};
+ghost use Rattle.mk_laws.specs.WordLaws.{UnmappedRunsTakeNoMemory};
+ghost use Rattle.mk_laws.specs.WordLaws.{RegistersOfNoCallerAreZero, UnsetGlobalsAreZero};
 
 /// What a look at a header word and at the freed bits of a quarantine word says.
 #[tactic(auto, using(crate::proofs::ReadingsStands::headers_and_quarantine_tell))]

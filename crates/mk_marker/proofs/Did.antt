@@ -1,9 +1,9 @@
 -- What is done in parts.
 use Rattle.mk_words.proofs.Below.Laws.Vocabulary.{Event, List, ap, append-nil, append_assoc, arith, refl, subst, sym}
 use Rattle.mk_words.proofs.{Below.Laws.Vocabulary.{[], ◌++◌, ◌∙◌, ◌≡◌}, Doing.{done_in_parts, own_or_others_in_parts}}
-use Rattle.mk_words.specs.Doing.{AreOwnOrOfOthers, done_in}
-use Rattle.mk_core.specs.Growing.{Finding, own_from}
-use Rattle.mk_marker.specs.{Doing.Did, Steps.IsOf}
+use Rattle.mk_words.specs.Steps.{AreOwnOrOfOthers, done_in}
+use Rattle.mk_core.specs.History.{Finding, own_from}
+use Rattle.mk_marker.specs.{Markers.Did, Steps.IsOf}
 use Rattle.mk_words.specs.States.{PassState, WordsState}
 
 then_at : (p : PassState) (more : List Event) (xs ys : List Finding) → AreOwnOrOfOthers p.seat p.seats more

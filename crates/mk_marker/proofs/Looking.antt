@@ -5,14 +5,14 @@ use Rattle.mk_words.proofs.Below.Laws.Vocabulary.{None, Option, Seat, SeenHeader
 use Rattle.mk_words.proofs.Below.Laws.Vocabulary.{append_assoc, arith, cells_under, has_bit, has_bit_without, header_at}
 use Rattle.mk_words.proofs.Below.Laws.Vocabulary.{header_of, inl, inr, is_attending, marker_at, marker_behind, not}
 use Rattle.mk_words.proofs.Below.Laws.Vocabulary.{not-true, refl, subst, sym, true, without, [], ◌++◌, ◌+◌, ◌<◌, ◌∙◌}
-use Rattle.mk_words.proofs.{Below.Laws.Vocabulary.{◌∷◌, ◌≡◌, ◌≢◌, ◌≤◌, ◌⊎◌}, Below.Laws.Known.{Known, known_left}}
+use Rattle.mk_words.proofs.Below.Laws.{Vocabulary.{◌∷◌, ◌≡◌, ◌≢◌, ◌≤◌, ◌⊎◌}, Known.{Known, known_left}}
 use Rattle.mk_words.proofs.Doing.{of_kinds_in_parts}
-use Rattle.mk_core.specs.{Growing.Finding, Words.named_word}
+use Rattle.mk_core.specs.{History.Finding, Words.named_word}
 use Rattle.mk_marker.proofs.{Did.{did_nothing, did_then, seat_kept}, MarkedCells.marks_are_of_cells}
-use Rattle.mk_marker.specs.{Doing.{Did, finding, is_markers_look, looking}, Markers.{IsBetweenScans, attends}}
+use Rattle.mk_marker.specs.Markers.{Did, finding, is_markers_look, looking, IsBetweenScans, attends}
 use Rattle.mk_marker.specs.{Markers.between_scans, Steps.{IsMarkedIn, LooksInVain, MovesMarker, SeesCell}}
-use Rattle.mk_marker.specs.{Working.{SeesACell, SeesNoWork}, declared.cells.MarkedCell.MarkedCell}
-use Rattle.mk_words.specs.{Markers.marker_in, States.{PassState, now_of}}
+use Rattle.mk_marker.specs.{Markers.{SeesACell, SeesNoWork}, declared.cells.MarkedCell.MarkedCell}
+use Rattle.mk_words.specs.{Steps.marker_in, States.{PassState, now_of}}
 
 -- one more step
 pub did_more : {p : PassState} {xs : List Finding} {q : PassState} {s : Step} {n : ℕ} {r : PassState} → Did p xs q

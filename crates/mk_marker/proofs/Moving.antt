@@ -8,16 +8,16 @@ use Rattle.mk_words.proofs.Below.Laws.Vocabulary.{slice_set, subst, sym, true, w
 use Rattle.mk_words.proofs.Below.Laws.Vocabulary.{◌++◌, ◌+◌, ◌-◌, ◌<◌, ◌∙◌, ◌∷◌, ◌≡◌, ◌≤◌}
 use Rattle.mk_words.proofs.{Below.Laws.Changes.marks_kind, Doing.{done_in_parts, none_own, others_are_so}}
 use Rattle.mk_words.proofs.Doing.{own_or_others_in_parts}
-use Rattle.mk_words.specs.Doing.{AreOwnOrOfOthers}
+use Rattle.mk_words.specs.Steps.{AreOwnOrOfOthers}
 use Rattle.mk_core.proofs.{Conditions.meets_enabled, WordBits.{bit_for_has, bits_added}}
-use Rattle.mk_core.specs.{Accesses.scan_bit, Bits.bit_for, Cells.words_scanned, Frames.{Attends, ScanIsLeft}}
-use Rattle.mk_core.specs.Growing.{own_from}
+use Rattle.mk_core.specs.{Accesses.scan_bit, Words.bit_for, Cells.words_scanned, Frames.{Attends, ScanIsLeft}}
+use Rattle.mk_core.specs.History.{own_from}
 use Rattle.mk_core.specs.{Words.named_word, declared.seats.Presence.TheVariants.Attending}
 use Rattle.mk_marker.specs.Steps.{ClaimsMarked, IsMarkedIn, IsOf, IsScanning, IsScanOf, MarksGrow, Moved, MovesMarker}
-use Rattle.mk_marker.specs.{Steps.words_left, Doing.finding, Markers.{attends, between_scans}}
-use Rattle.mk_marker.specs.{Working.IsBlackIn, declared.cells.MarkedCell.MarkedCell}
+use Rattle.mk_marker.specs.{Steps.words_left, Markers.{finding, attends, between_scans}}
+use Rattle.mk_marker.specs.{Markers.IsBlackIn, declared.cells.MarkedCell.MarkedCell}
 use Rattle.mk_words.proofs.{Made.{made, own_before}, Seats.same_self}
-use Rattle.mk_words.specs.{Markers.{Marks, marker_in}, Seats.Has, States.{PassState, WordsState, event_of, now_of}}
+use Rattle.mk_words.specs.{Steps.{Marks, marker_in}, States.{Has, PassState, WordsState, event_of, now_of}}
 use Rattle.mk_words.specs.Steps.{Finds, IsEnabledTo, Makes, found_by}
 
 -- one own event

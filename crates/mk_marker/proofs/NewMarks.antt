@@ -15,13 +15,13 @@ use Rattle.mk_words.proofs.Below.Laws.Vocabulary.{pointed_cell, refl, seen_bit, 
 use Rattle.mk_words.proofs.Below.Laws.Vocabulary.{true, true≢false, ◌+◌, ◌-◌, ◌<◌, ◌==◌, ◌^◌, ◌∙◌, ◌≡◌, ◌⊎◌}
 use Rattle.mk_words.proofs.Below.Laws.Changes.{reg_table, tally_table}
 use Rattle.mk_words.proofs.Below.Laws.LayoutHolders.{first_header, holding_object, new_has_turn}
-use Rattle.mk_words.proofs.{Below.Laws.Actors.Meets, Below.Laws.Behind.object_kind, Below.Laws.Known.Known}
-use Rattle.mk_words.proofs.{Below.Laws.OthersMoves.WorldBehind, Below.Laws.Serving.placed_claim}
+use Rattle.mk_words.proofs.Below.Laws.{Actors.Meets, Behind.object_kind, Known.Known}
+use Rattle.mk_words.proofs.Below.Laws.{OthersMoves.WorldBehind, Serving.placed_claim}
 use Rattle.mk_words.proofs.Below.Laws.PointedCells.{found_is_cell, pointed_is_cell}
 use Rattle.mk_marker.proofs.MarkBits.{IsCell}
 use Rattle.mk_core.proofs.{WordBits.{bit_is_one, bit_of_cell, bit_of_power, more_bits}, PlacesNow.PlacedNow}
 use Rattle.mk_core.proofs.ServingSteps.{MarksPlace}
-use Rattle.mk_core.specs.{NewPlaces.bits_made, StopConditions.{is_bit_of, marks_by_hand}}
+use Rattle.mk_core.specs.{NewPlaces.bits_made, MarkingConditions.{is_bit_of, marks_by_hand}}
 
 -- no other kind changes the marks while a cycle marks
 abbrev pub is_marking_step : Step → Bool

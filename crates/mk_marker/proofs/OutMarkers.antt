@@ -1,10 +1,10 @@
 -- A marker that is out is in the middle of nothing.
 use Rattle.mk_words.proofs.Below.Laws.Vocabulary.{Config, IsHistory, IsIdle, MarkerState, Seat, ap, arith, false}
 use Rattle.mk_words.proofs.Below.Laws.Vocabulary.{is_attending, left, marker_at, marker_of, outside, subst, true, ◌∙◌}
-use Rattle.mk_words.proofs.{Below.Laws.Vocabulary.◌≡◌, Below.Laws.Known.known_left, Below.Laws.Protocols.protocol_of}
-use Rattle.mk_core.specs.MarkerConditions.{is_out}
+use Rattle.mk_words.proofs.Below.Laws.{Vocabulary.◌≡◌, Known.known_left, Protocols.protocol_of}
+use Rattle.mk_core.specs.MarkingConditions.{is_out}
 use Rattle.mk_marker.specs.Markers.{IsMarkers, IsOut}
-use Rattle.mk_words.specs.{Markers.marker_in, States.PassState, States.now_of}
+use Rattle.mk_words.specs.{Steps.marker_in, States.{PassState, now_of}}
 
 nothing_is : (x : MarkerState) → is_out x.presence ≡ true → (is_attending x.presence ≡ false → IsIdle x) → x ≡ outside
 nothing_is x out idle = grind arith

@@ -2,12 +2,13 @@
 use Rattle.std.proofs.lemmas.List.Sums.{sum_by-append}
 use Rattle.mk_words.proofs.Below.Laws.Vocabulary.{List, Seat, Step, ℕ, ap, arith, cond, false, refl, subst, true, []}
 use Rattle.mk_words.proofs.{Below.Laws.Vocabulary.{◌++◌, ◌+◌, ◌∙◌, ◌∷◌, ◌≡◌}, Doing.of_kinds_in_parts}
-use Rattle.mk_core.specs.Growing.{Finding}
+use Rattle.mk_core.specs.History.{Finding}
 use Rattle.mk_marker.{proofs.Did.{did_nothing, did_then, seat_kept}, specs.declared.cells.MarkedCell.{MarkedCell}}
-use Rattle.mk_marker.specs.{Doing.{Did, count_loads, finding, is_markers_load, is_of_scan}, Steps.{ClaimsMarked, Moved}}
+use Rattle.mk_marker.specs.Markers.{Did, count_loads, finding, is_markers_load, is_of_scan}
+use Rattle.mk_marker.specs.Steps.{ClaimsMarked, Moved}
 use Rattle.mk_marker.specs.Steps.{MovesMarker, ScansCell, ScansOn}
 use Rattle.mk_core.specs.Cells.{words_scanned}
-use Rattle.mk_geom.specs.Headers.{header_of}
+use Rattle.mk_geom.specs.Addresses.{header_of}
 use Rattle.mk_words.specs.States.{PassState}
 
 count_in_parts : (xs ys : List Finding) → count_loads (xs ++ ys) ≡ count_loads xs + count_loads ys

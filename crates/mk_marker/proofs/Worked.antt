@@ -1,11 +1,11 @@
 -- What a call did, from its parts.
 use Rattle.mk_words.proofs.Below.Laws.Vocabulary.{MarkerState, Seat, Step, Word, ℕ, ap, arith, subst, sym, ◌%◌, ◌∙◌}
 use Rattle.mk_words.proofs.Below.Laws.Vocabulary.{◌≡◌, ◌≢◌}
-use Rattle.mk_core.specs.{MarkerConditions.is_out, Phases.phase_number, declared.phases.Phase.Phase}
-use Rattle.mk_marker.proofs.{Did.did_then, Did.seat_kept, Looking.did_more}
+use Rattle.mk_core.specs.{MarkingConditions.is_out, Words.phase_number, declared.phases.Phase.Phase}
+use Rattle.mk_marker.proofs.{Did.{did_then, seat_kept}, Looking.did_more}
 use Rattle.mk_marker.specs.Steps.{LooksInVain, Moved, MovesMarker, ScansCell, SeesCell}
-use Rattle.mk_marker.specs.Working.{FindsNoWork, FindsPhase, IsBlackIn, ScansACell, SeesACell, SeesNoWork}
-use Rattle.mk_marker.specs.{Scanning.Scans, declared.cells.MarkedCell.MarkedCell}
+use Rattle.mk_marker.specs.Markers.{FindsNoWork, FindsPhase, IsBlackIn, ScansACell, SeesACell, SeesNoWork}
+use Rattle.mk_marker.specs.{Markers.Scans, declared.cells.MarkedCell.MarkedCell}
 use Rattle.mk_words.specs.States.{PassState}
 
 pub finds_phase : {p : PassState} {n : ℕ} (phase : Phase) {a : PassState} (q : PassState)

@@ -1,13 +1,13 @@
 -- A marker's pass on its way through a call: what one step leaves, and what a marker is at.
 use Rattle.std.specs.Prelude.{◌≡◌, ℕ, ◌-◌, ◌<◌, ◌≤◌, true, List, [], ◌∷◌, Option, Some, None, slice_index}
-use Rattle.mk_core.specs.{declared.events.Step.Step, declared.seats.Presence.TheVariants.Attending}
-use Rattle.mk_core.specs.{declared.seats.Scan.Scan, declared.seats.SeenHeader.SeenHeader}
-use Rattle.mk_core.specs.{Accesses.{scan_page, scan_bit}, Bits.{has_bit, bit_for}, Effects.marker_behind}
-use Rattle.mk_core.specs.{Frames.OnlyGrow, Growing.Finding, declared.seats.Marker.Marker as MarkerState}
-use Rattle.mk_words.specs.{States.{WordsState, PassState, IsPass, now_of}, Markers.marker_in, Doing.are_of}
+use Rattle.mk_core.specs.declared.{events.Step.Step, seats.Presence.TheVariants.Attending}
+use Rattle.mk_core.specs.declared.seats.{Scan.Scan, SeenHeader.SeenHeader}
+use Rattle.mk_core.specs.{Accesses.{scan_page, scan_bit}, Words.{has_bit, bit_for}, Effects.marker_behind}
+use Rattle.mk_core.specs.{Frames.OnlyGrow, History.Finding, declared.seats.Marker.Marker as MarkerState}
+use Rattle.mk_words.specs.{States.{WordsState, PassState, IsPass, now_of}, Steps.{marker_in, are_of}}
 use Rattle.mk_marker.specs.{declared.cells.MarkedCell.MarkedCell, Markers.{IsMarkers, IsBetweenScans, between_scans}}
-use Rattle.mk_marker.specs.{Markers.attends, Doing.{Did, finding, is_markers_look, is_of_scan, count_loads}}
-use Rattle.mk_marker.specs.{Scanning.Scans, Working.{SeesNoWork, SeesACell}}
+use Rattle.mk_marker.specs.Markers.{attends, Did, finding, is_markers_look, is_of_scan, count_loads}
+use Rattle.mk_marker.specs.Markers.{Scans, SeesNoWork, SeesACell}
 
 -- The pass is a marker's, of this table.
 pub record IsOf (w : WordsState) (p : PassState) : Type 0 where

@@ -1,6 +1,6 @@
 //! A marker finds the cells that are marked and not black by looking at mark and black words, page by page.
 ghost use Rattle.std.specs.Prelude.{◌≡◌, ◌≢◌, ◌+◌, ◌<◌, ◌≤◌, true, IfSome, IfNone};
-ghost use Rattle.mk_core.specs.Bits.{has_bit, without};
+ghost use Rattle.mk_core.specs.Words.{has_bit, without};
 ghost use Rattle.mk_marker.specs.{Markers.IsBetweenScans, Steps.{IsOf, LooksInVain, SeesCell}};
 
 use crate::steps::look;

@@ -57,7 +57,7 @@ fn first_page(pages: u64, number: u64) -> u64
 }
 
 impl<'h> Marker<'h> {
-    ghost use Rattle.mk_marker.specs.Working.{ComesIn, FindsPhase, GoesOut, WorksSo};
+    ghost use Rattle.mk_marker.specs.Markers.{ComesIn, FindsPhase, GoesOut, WorksSo};
 
     /// A marker that is out.
     pub fn new(words: &'h Words, pass: Pass) -> Marker<'h>

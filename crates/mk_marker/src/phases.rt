@@ -1,6 +1,6 @@
 //! What a marker reads off a phase word.
 ghost use Rattle.std.specs.Prelude.{◌≡◌, ◌≤◌, ◌%◌};
-ghost use Rattle.mk_core.specs.Phases.{phase_number};
+ghost use Rattle.mk_core.specs.Words.{phase_number};
 
 use mk_core::{Phase, phase_bits};
 

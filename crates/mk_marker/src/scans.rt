@@ -1,9 +1,9 @@
 //! The scan of a cell: each of its words is loaded, and what that points into is marked.
 ghost use Rattle.std.specs.Prelude.{◌≡◌, ◌+◌, ◌<◌, Some};
-ghost use Rattle.mk_geom.specs.{Headers.header_of, Addresses.page_at_address};
+ghost use Rattle.mk_geom.specs.Addresses.{header_of, page_at_address};
 ghost use Rattle.mk_core.specs.Cells.{cells_under};
-ghost use Rattle.mk_words.specs.Markers.{marker_in};
-ghost use Rattle.mk_marker.specs.{Markers.{between_scans, IsBetweenScans}, Working.IsBlackIn};
+ghost use Rattle.mk_words.specs.Steps.{marker_in};
+ghost use Rattle.mk_marker.specs.Markers.{between_scans, IsBetweenScans, IsBlackIn};
 ghost use Rattle.mk_marker.specs.Steps.{IsOf, IsMarkedIn, IsScanning, IsHolding, SameScan, ScansOn, ScansCell};
 ghost use Rattle.mk_marker.specs.Steps.{words_left};
 

@@ -1,10 +1,10 @@
 //! The steps of a marker, each with what it leaves.
 ghost use Rattle.std.specs.Prelude.{◌≡◌, ◌<◌, ◌≤◌, ◌%◌, ◌&&◌, true, false, Some};
-ghost use Rattle.mk_geom.specs.Headers.{header_of};
-ghost use Rattle.mk_core.specs.{Words.named_word, Ranges.is_word, MarkerConditions.{is_markers_word, is_out}};
-ghost use Rattle.mk_core.specs.{MarkerConditions.{may_mmark, may_mblack}, Cells.{cells_under, words_scanned}};
-ghost use Rattle.mk_words.specs.{States.now_of, Markers.marker_in};
-ghost use Rattle.mk_marker.specs.{Markers.{IsOut, attends, between_scans}, Working.IsBlackIn};
+ghost use Rattle.mk_geom.specs.Addresses.{header_of};
+ghost use Rattle.mk_core.specs.{Words.named_word, Conditions.is_word, MarkingConditions.{is_markers_word, is_out}};
+ghost use Rattle.mk_core.specs.{MarkingConditions.{may_mmark, may_mblack}, Cells.{cells_under, words_scanned}};
+ghost use Rattle.mk_words.specs.{States.now_of, Steps.marker_in};
+ghost use Rattle.mk_marker.specs.Markers.{IsOut, attends, between_scans, IsBlackIn};
 ghost use Rattle.mk_marker.specs.Steps.{IsOf, MovesMarker, Moved, IsMarkedIn, IsScanning, IsScanOf, ClaimsMarked};
 ghost use Rattle.mk_marker.specs.Steps.{words_left};
 ghost use Rattle.mk_core.specs.declared.events.Step.TheVariants as step;

@@ -2,8 +2,8 @@
 -- allocation ends the reach.
 use Rattle.std.proofs.Common.{Bool, ℕ, arith, false, get_or, refl, replicate, suc, true, zero, [], ◌∷◌, ◌≡◌}
 use Rattle.std.proofs.lemmas.Bool.{false≢true}
-use Rattle.mk_never.specs.Reach.{IsClosedUnderPointers, IsReachable, LeadsTo, ReachIsLeast, WordLeadsTo, by_global}
-use Rattle.mk_never.specs.{Reach.{by_register, by_word}, declared.values.Value.TheVariants.{Null, Num, Ptr}}
+use Rattle.mk_never.specs.Laws.{IsClosedUnderPointers, IsReachable, LeadsTo, ReachIsLeast, WordLeadsTo, by_global}
+use Rattle.mk_never.specs.{Laws.{by_register, by_word}, declared.values.Value.TheVariants.{Null, Num, Ptr}}
 use Rattle.mk_never.specs.NeverHeap.{NeverState}
 
 pub reach_is_closed : (n : NeverState) → IsClosedUnderPointers n (IsReachable n)

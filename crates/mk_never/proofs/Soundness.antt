@@ -2,8 +2,8 @@
 use Rattle.std.proofs.Common.{List, ℕ, arith, get_or, length, map, suc, zero, [], ◌<◌, ◌∷◌}
 use Rattle.mk_never.specs.{Admitted.{IsNumber, IsOfKind, IsPointer, Meets}, NeverHeap.{Allocation, NeverState}}
 use Rattle.mk_never.specs.{NeverHeap.{allocation_at, moved_on}, declared.values.Value.TheVariants.{Null, Num}}
-use Rattle.mk_never.specs.{Laws.Continues, Typed.{IsPlaceIn, IsSound, IsTypedAllocation, Suits}, Types.zero_of}
-use Rattle.mk_never.specs.{declared.types.Kind.Kind, declared.values.Value.Value}
+use Rattle.mk_never.specs.{Laws.Continues, Admitted.{IsPlaceIn, IsSound, IsTypedAllocation, Suits}, Types.zero_of}
+use Rattle.mk_never.specs.declared.{types.Kind.Kind, values.Value.Value}
 use Rattle.mk_never.specs.declared.types.Kind.TheVariants.{Num as Number, To}
 
 -- In a type that has words, a place is one of them.

@@ -3,11 +3,11 @@ use Rattle.std.proofs.Common.{Bool, IfSome, List, Option, ℕ, arith, get_or, re
 use Rattle.std.proofs.Common.{zero, [], ◌*◌, ◌+◌, ◌∷◌, ◌≡◌}
 use Rattle.mk_never.proofs.{Soundness.{moved_is_sound, number_suits, pointer_suits, suited_is_sound}, Edits.if_by}
 use Rattle.mk_never.proofs.Typing.{new_is_sound, typed_access, typed_free, typed_global, typed_new, typed_register}
-use Rattle.mk_never.{proofs.Typing.{typed_word}, specs.Typed.{IsSound, IsTyped, KeepsTyped, StaysTyped}}
+use Rattle.mk_never.{proofs.Typing.{typed_word}, specs.Admitted.{IsSound, IsTyped, KeepsTyped, StaysTyped}}
 use Rattle.mk_never.specs.Admitted.{AccessIsAdmitted, IsAdmitted, IsOfKind, OperandsAreInRange, StoreIsAdmitted}
 use Rattle.mk_never.specs.NeverHeap.{Call, NeverState, after_op, is_same, register_at, start_of, word_at}
 use Rattle.mk_never.specs.declared.operations.Op.TheVariants.{CasPtr, GetPtr, Lea, New, SetNum, SetPtr}
-use Rattle.mk_never.specs.{declared.types.Kind.TheVariants.To, declared.operations.Op.Op, declared.types.Kind.Kind}
+use Rattle.mk_never.specs.declared.{types.Kind.{TheVariants.To, Kind}, operations.Op.Op}
 use Rattle.mk_never.specs.declared.values.Value.TheVariants.{Null}
 
 module _ (listed : List ℕ) (n : NeverState) (c : ℕ) (typed : IsTyped listed n) where

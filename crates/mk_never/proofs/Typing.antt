@@ -5,10 +5,10 @@ use Rattle.mk_never.proofs.{Edits.{exists, if_by, push_by, set_by}, Later.{freed
 use Rattle.mk_never.proofs.{Later.{register_stays, word_stays}, Soundness.{allocation_kept, sound_kept, zero_suits}}
 use Rattle.mk_never.specs.NeverHeap.{Allocation, NeverState, after_free, allocation_at, left_at, no_allocation}
 use Rattle.mk_never.specs.NeverHeap.{target_of, with_global, with_new, with_register, with_word, words_of}
-use Rattle.mk_never.specs.Typed.{IsSound, IsTyped, IsTypedAllocation, Suits, kind_in}
+use Rattle.mk_never.specs.Admitted.{IsSound, IsTyped, IsTypedAllocation, Suits, kind_in}
 use Rattle.mk_never.specs.{declared.values.Value.TheVariants.{Null, Num, Ptr}, Admitted.{IsOfKind, Meets}}
 use Rattle.mk_never.specs.{Laws.Continues, Types.{kinds_of, zero_words}, declared.types.Kind.Kind}
-use Rattle.mk_never.specs.{declared.types.Kind.TheVariants.To, declared.values.Value.Value}
+use Rattle.mk_never.specs.declared.{types.Kind.TheVariants.To, values.Value.Value}
 
 module _ {listed : List ℕ} {n : NeverState} (typed : IsTyped listed n) where
   pub typed_register : (c d : ℕ) (v : Value) → IsSound n v → IsTyped listed (with_register n c d v)

@@ -5,14 +5,14 @@ use Rattle.std.proofs.lemmas.List.{get_or_past}
 use Rattle.mk_never.proofs.{Edits.{if_by, left_at_by, set_by}, Later.op_stays, Reached.reached_is_in}
 use Rattle.mk_never.specs.NeverHeap.{Allocation, Call, NeverState, after_free, after_op, allocation_at, grants_object}
 use Rattle.mk_never.specs.NeverHeap.{is_unmapped, left_at, moved_on, no_allocation, register_at, with_global, with_new}
-use Rattle.mk_never.{specs.NeverHeap.{with_register, with_word, word_at, words_of}, specs.declared.values.Value.{Value}}
-use Rattle.mk_never.specs.Reach.{AccessIsToReached, IsReachable, LeadsTo, ReachGrowsByGrants, UnreachedStays}
-use Rattle.mk_never.specs.{Reach.{WordLeadsTo, by_global, by_register, by_word}, Types.{kinds_of, zero_of, zero_words}}
-use Rattle.mk_never.specs.{declared.operations.Op.Op, declared.operations.Op.TheVariants.{CasPtr, Clear, Free}}
+use Rattle.mk_never.specs.{NeverHeap.{with_register, with_word, word_at, words_of}, declared.values.Value.Value}
+use Rattle.mk_never.specs.Laws.{AccessIsToReached, IsReachable, LeadsTo, ReachGrowsByGrants, UnreachedStays}
+use Rattle.mk_never.specs.{Laws.{WordLeadsTo, by_global, by_register, by_word}, Types.{kinds_of, zero_of, zero_words}}
+use Rattle.mk_never.specs.declared.operations.Op.{Op, TheVariants.{CasPtr, Clear, Free}}
 use Rattle.mk_never.specs.declared.operations.Op.TheVariants.{GetGlobal, GetPtr, Lea, Move, New, SetGlobal, SetNum}
-use Rattle.mk_never.specs.{declared.operations.Op.TheVariants.SetPtr, declared.values.Value.TheVariants.{Null, Num}}
-use Rattle.mk_never.specs.{declared.values.Value.TheVariants.Ptr, Laws.{Continues, Reaches}, declared.types.Kind.Kind}
-use Rattle.mk_never.specs.{declared.values.Target.Target, declared.values.Target.TheVariants.WordOf}
+use Rattle.mk_never.specs.declared.{operations.Op.TheVariants.SetPtr, values.Value.TheVariants.{Null, Num}}
+use Rattle.mk_never.specs.{declared.{values.Value.TheVariants.Ptr, types.Kind.Kind}, Laws.{Continues, Reaches}}
+use Rattle.mk_never.specs.declared.values.Target.{Target, TheVariants.WordOf}
 use Rattle.mk_never.specs.declared.types.Kind.TheVariants.{Num as Number, To}
 
 -- The value leads only to what is reached.

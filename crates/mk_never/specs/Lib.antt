@@ -1,6 +1,4 @@
-pub mod NeverHeap
 pub mod Admitted
-pub mod Types
 pub mod Laws
-pub mod Typed
-pub mod Reach
+pub mod NeverHeap
+pub mod Types

@@ -4,9 +4,9 @@ ghost use Rattle.std.specs.Prelude.{◌≡◌, ◌≢◌, ◌↔◌, ℕ, ◌<�
 ghost use Rattle.mk_never.specs.{NeverHeap.{NeverState, Call, start_of, after_calls, is_same}, Admitted.AreAdmitted};
 ghost use Rattle.mk_never.specs.Laws.{Continues, TypeStays, FreedStays, SameTells, NewAdds, AreByOthers, AreNotBy};
 ghost use Rattle.mk_never.specs.Laws.{KeepsRegisters, UnstoredStays, StoreIsInside, StoreLeaves, LoadGivesStored};
-ghost use Rattle.mk_never.specs.{Laws.{LeavesInParts, RepliesInParts, AdmittedInParts}, Typed.{IsTyped, KeepsTyped}};
-ghost use Rattle.mk_never.specs.{Typed.StaysTyped, Reach.{IsReachable, IsClosedUnderPointers, ReachIsLeast}};
-ghost use Rattle.mk_never.specs.Reach.{AccessIsToReached, ReachGrowsByGrants, UnreachedStays};
+ghost use Rattle.mk_never.specs.{Laws.{LeavesInParts, RepliesInParts, AdmittedInParts}, Admitted.{IsTyped, KeepsTyped}};
+ghost use Rattle.mk_never.specs.{Admitted.StaysTyped, Laws.{IsReachable, IsClosedUnderPointers, ReachIsLeast}};
+ghost use Rattle.mk_never.specs.Laws.{AccessIsToReached, ReachGrowsByGrants, UnreachedStays};
 
 use crate::{Kind, Op, Value};
 

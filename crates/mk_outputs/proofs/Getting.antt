@@ -5,7 +5,7 @@ use Rattle.clap.specs.{Matches.{first_value, one_text}, Values.bool_text, Walk.{
 use Rattle.mk_outputs.specs.{Commands.{gen_from, gen_of, markers_of, run_of, run_with}, Given.{Given, gens}}
 use Rattle.mk_outputs.specs.Given.{report_flag}
 use Rattle.mk_outputs.specs.{Given.{runs, sweep_flag, why_flag}, Told.HasGiven, declared.commands.Command.Command}
-use Rattle.mk_script.specs.Names.{number_of_word}
+use Rattle.mk_script.specs.Operands.{number_of_word}
 
 pub flag_is : (b r : Bool) (o : Option Text) → o ≡ Some (bool_text b) → (o ≡ Some (codes "true") → r ≡ true)
     → (o ≡ Some (codes "false") → r ≡ false) → r ≡ b

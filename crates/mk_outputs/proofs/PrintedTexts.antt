@@ -3,18 +3,19 @@ use Rattle.std.proofs.Common.{ap₂}
 use Rattle.std.specs.List.{flat_map, range_with_len}
 use Rattle.mk_laws.proofs.Vocabulary.{Config, Event, List, ℕ, ap, arith, false, if◌then◌else◌, length, refl}
 use Rattle.mk_laws.proofs.Vocabulary.{slice_index_or, suc, true, [], ◌++◌, ◌+◌, ◌<◌, ◌∙◌, ◌∷◌, ◌≡◌}
-use Rattle.mk_check.specs.{Declarations.config_of, Output.output, Output.text_behind, declared.text.Text.Text}
-use Rattle.mk_run.specs.Below.{Cycles.Roots.CyclesMarkRootsFirst, Heaps.Reports.{HasCounts, MarkersAreBelow}}
-use Rattle.mk_run.specs.Below.Cycles.Begun.{CyclesHoldGatesFirst}
+use Rattle.mk_check.specs.{Declarations.config_of, Feed.{output, text_behind}, declared.text.Text.Text}
+use Rattle.mk_run.specs.Below.{Cycles.Beside.CyclesMarkRootsFirst, Heaps.Hosts.{HasCounts, MarkersAreBelow}}
+use Rattle.mk_run.specs.Below.Cycles.BeginCycle.{CyclesHoldGatesFirst}
 use Rattle.mk_run.specs.{Below.Heaps.declared.reports.Report.Report, declared.outcomes.Outcome.Outcome}
 use Rattle.mk_run.specs.{Headline.{cycles_go_on, printed}, Running.IsRunOf, Below.Heaps.Unswept.IsUnswept}
-use Rattle.mk_run.specs.Said.{CyclesSweep}
+use Rattle.mk_run.specs.Keeping.{CyclesSweep}
 use Rattle.mk_run.specs.Below.Chains.declared.kept.Kept.{Kept}
-use Rattle.mk_run.specs.Below.Heaps.Reports as report
+use Rattle.mk_run.specs.Below.Heaps.Hosts as report
 use Rattle.mk_run.proofs.Headline.{runs_keep_their_promises, runs_print_their_texts}
 use Rattle.mk_run.proofs.Headline.{runs_stand_in_one_history}
-use Rattle.mk_outputs.specs.{Commands.{is_sweep, markers_beside}, KeptText.kept_text, declared.commands.Options.Options}
-use Rattle.mk_outputs.specs.{ReportText.{lines_of_report, report_text}, RunOutputs.{AreEntries, IsOutputOfRun}}
+use Rattle.mk_outputs.specs.{Commands.{is_sweep, markers_beside}, RunOutputs.kept_text}
+use Rattle.mk_outputs.specs.declared.commands.Options.{Options}
+use Rattle.mk_outputs.specs.RunOutputs.{lines_of_report, report_text, AreEntries, IsOutputOfRun}
 use Rattle.mk_replay.specs.Replays.{AreTextsOf}
 use Rattle.mk_script.specs.declared.items.Item.{Item}
 

@@ -1,12 +1,12 @@
 -- The lines of a script after its name line are read.
-use Rattle.std.proofs.{Common.{length-append, nat_eq, not, ◌&&◌}, lemmas.Fmt.length-decimal-le, lemmas.Bool.not-true}
+use Rattle.std.proofs.{Common.{length-append, nat_eq, not, ◌&&◌}, lemmas.{Fmt.length-decimal-le, Bool.not-true}}
 use Rattle.std.{proofs.{lemmas.List.Elements.All-weaker, lemmas.List.Sums.AllPass-from_list_all}, specs.List.{list_all}}
 use Rattle.mk_outputs.proofs.Vocabulary.{Bool, Item, List, Ok, Script, ℕ, and_parts, ap, append-nil, arith, body_lines}
 use Rattle.mk_outputs.proofs.Vocabulary.{checked_item, codes, decimal, false, leb-true, length, line_item, nat_le, refl}
 use Rattle.mk_outputs.proofs.Vocabulary.{script_body, sym, true, words_of_line, [], ◌++◌, ◌<◌, ◌^◌, ◌and◌, ◌∷◌, ◌≡◌}
 use Rattle.mk_outputs.proofs.{Vocabulary.◌≤◌, ReadLines.{AreRead, IsRead}}
 use Rattle.mk_script.proofs.LineWords.{AreWords, is_word-decimal, without_newline, words_of-joined}
-use Rattle.mk_script.{proofs.PrintedForms.{read_number}, specs.{Operands.item_from, Spaced.joined_words}}
+use Rattle.mk_script.{proofs.PrintedForms.{read_number}, specs.{Operands.item_from, Canonical.joined_words}}
 
 -- at most 40 bytes, without a newline
 abbrev pub is_plain : List ℕ → Bool

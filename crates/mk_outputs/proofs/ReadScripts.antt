@@ -1,13 +1,13 @@
 -- The scripts are read, each after those before it.
-use Rattle.std.proofs.{Common.{not, ◌&&◌, ◌/◌}, Math.Nat.mod-lt, lemmas.Bool.not-true, lemmas.List.Sums.fold-append}
+use Rattle.std.proofs.{Common.{not, ◌&&◌, ◌/◌}, Math.Nat.mod-lt, lemmas.{Bool.not-true, List.Sums.fold-append}}
 use Rattle.mk_outputs.proofs.Vocabulary.{Bool, Item, List, Ok, Script, ℕ, and_parts, ap, append-nil, arith, body_lines}
 use Rattle.mk_outputs.proofs.Vocabulary.{codes, draw, leb-true, length, line_item, lines_of_scripts, nat_le, next_state}
 use Rattle.mk_outputs.proofs.Vocabulary.{refl, script_body, scripts, sym, true, [], ◌++◌, ◌+◌, ◌<◌, ◌^◌, ◌and◌, ◌∷◌}
 use Rattle.mk_outputs.proofs.{Vocabulary.{◌≡◌, ◌≤◌}, ReadLines.{AreRead, AreRead-append, IsRead}}
 use Rattle.mk_outputs.proofs.{InScript.{AreRead-alike, alike_at_first}, ReadBody.{body_is_read, by_words}}
 use Rattle.mk_script.proofs.{PrintedForms.read_name, Pushed.names_of-append, Said.is_word-name}
-use Rattle.mk_script.specs.{Scopes.{open_blocks, script_names}, Lines.is_among, Names.is_name, Operands.item_from}
-use Rattle.mk_script.specs.ScopeOf.{has_lines}
+use Rattle.mk_script.specs.{Scopes.{open_blocks, script_names}, Lines.is_among, Operands.{is_name, item_from}}
+use Rattle.mk_script.specs.Lines.{has_lines}
 
 -- lines with these scripts, after which another may begin
 pub record AreReady (before : List Item) (names : List (List ℕ)) : Type 0 where

@@ -4,7 +4,7 @@ use Rattle.mk_outputs.proofs.Vocabulary.{declarations, lines_of_scripts, next_st
 use Rattle.mk_outputs.proofs.{Vocabulary.{turns_of, [], ◌++◌, ◌<◌, ◌^◌, ◌≡◌, ◌≤◌}, ReadLines.{AreRead, AreRead-append}}
 use Rattle.mk_outputs.proofs.{ReadLines.program_of-lines, ReadDeclarations.declarations_are_read}
 use Rattle.mk_outputs.proofs.ReadScripts.{draw-lt, scripts_are_read}
-use Rattle.mk_outputs.specs.{Generated.generated_program, GeneratedText.{generated_lines, generated_text}}
+use Rattle.mk_outputs.specs.Generated.{generated_program, generated_lines, generated_text}
 use Rattle.mk_script.specs.Grammar.{at_end}
 
 pub numbers_some : (start : ℕ) → 1 ≤ count_of_numbers start

@@ -3,23 +3,23 @@ use Rattle.std.proofs.Common.{Bool, IfSome, IsSomeAnd, List, None, Option, Some,
 use Rattle.std.proofs.Common.{refl, slice_index_or, subst, suc, sum_by, sym, true, zero, [], ◌++◌, ◌+◌, ◌<◌, ◌∙◌, ◌≡◌}
 use Rattle.std.proofs.{Common.if◌then◌else◌, lemmas.List.Sums.sum_by-cons}
 use Rattle.std.specs.{List.{flat_map, range_with_len}, Prelude.Ok as Accepted}
-use Rattle.mk_core.specs.{declared.config.Config.Config, declared.events.Answer.Answer, declared.events.Event.Event}
+use Rattle.mk_core.specs.declared.{config.Config.Config, events.{Answer.Answer, Event.Event}}
 use Rattle.mk_script.specs.{Grammar.program_of, Scopes.script_names, declared.items.Item.Item}
-use Rattle.mk_check.specs.{Declarations.config_of, Feed.is_refusal, Output.{answers_given, output}}
+use Rattle.mk_check.specs.{Declarations.config_of, Feed.{is_refusal, answers_given, output}}
 use Rattle.mk_check.specs.{Observed.told_to, Typing.{IsWellTyped, TypingFault, first_typing_fault}}
-use Rattle.mk_run.specs.Below.Heaps.{Reports.history_of, declared.reports.Report.Report}
-use Rattle.mk_run.specs.ObservedRuns.{TellsAsMuch}
+use Rattle.mk_run.specs.Below.Heaps.{Hosts.history_of, declared.reports.Report.Report}
+use Rattle.mk_run.specs.Headline.{TellsAsMuch}
 use Rattle.mk_run.specs.Below.Chains.declared.kept.Kept.{Kept}
 use Rattle.mk_run.proofs.ObservedRuns.{runs_can_be_observed}
-use Rattle.mk_outputs.specs.declared.{commands.Command.Command, commands.Options.Options, outputs.Output.Output}
-use Rattle.mk_outputs.specs.{declared.commands.TextCommand.TextCommand, declared.statuses.Status.Status}
-use Rattle.mk_outputs.specs.{Commands.{is_sweep, markers_beside}, KeptText.kept_text, Laws.OutputsAreSeen}
+use Rattle.mk_outputs.specs.declared.{commands.{Command.Command, Options.Options}, outputs.Output.Output}
+use Rattle.mk_outputs.specs.declared.{commands.TextCommand.TextCommand, statuses.Status.Status}
+use Rattle.mk_outputs.specs.{Commands.{is_sweep, markers_beside}, RunOutputs.kept_text, Laws.OutputsAreSeen}
 use Rattle.mk_outputs.specs.{Generated.generated_program, Outputs.{IsOutput, typed_or}}
 use Rattle.mk_outputs.specs.declared.commands.Request.{Request}
 use Rattle.mk_io.specs.Bytes.{TakesAll}
 use Rattle.mk_outputs.specs.RunOutputs.{AreEntries, IsOutputOfRun, IsSummaryOfRun}
-use Rattle.mk_outputs.specs.Seen.{BeginsWithRun, IsSeen, SumsUpRun}
-use Rattle.mk_outputs.specs.{ReportText.report_text, Summary.{line_of_script, script_line, summary_by, total_line}}
+use Rattle.mk_outputs.specs.Laws.{BeginsWithRun, IsSeen, SumsUpRun}
+use Rattle.mk_outputs.specs.RunOutputs.{report_text, line_of_script, script_line, summary_by, total_line}
 
 -- What a run writes begins with what its scripts print.
 

@@ -2,7 +2,7 @@
 use Rattle.mk_outputs.proofs.Vocabulary.{Item, List, None, Option, Script, ℕ, ap, append-nil, append_assoc, false≢true}
 use Rattle.mk_outputs.proofs.Vocabulary.{refl, subst, sym, this_script, this_script-push, true, [], ◌++◌, ◌+◌, ◌∙◌, ◌∷◌}
 use Rattle.mk_outputs.proofs.{Vocabulary.◌≡◌, InScript.is_inside}
-use Rattle.mk_check.specs.{Typing.{Around, TypingFault, at_line, fault_from, typing_fault}, Lookups.lines_behind}
+use Rattle.mk_check.specs.Typing.{Around, TypingFault, at_line, fault_from, typing_fault, lines_behind}
 use Rattle.mk_check.specs.declared.typing_faults.TypeKind.{TypeKind}
 
 -- a line of a script that is well typed, after these lines of it

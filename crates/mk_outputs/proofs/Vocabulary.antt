@@ -6,10 +6,10 @@ pub use Rattle.std.proofs.lemmas.Bool.{and_parts, false≢true}
 pub use Rattle.mk_core.proofs.EventsAt.{◌and◌}
 pub use Rattle.mk_script.proofs.Pushed.{this_script-push}
 pub use Rattle.mk_script.specs.{declared.items.TypeWord.TheVariants.Number, Grammar.program_of}
-pub use Rattle.mk_script.specs.{Lines.{checked_item, line_item}, Scopes.this_script, Words.words_of_line}
-pub use Rattle.mk_script.specs.{declared.items.Item.Item, declared.items.Item.TheVariants.Script}
+pub use Rattle.mk_script.specs.{Lines.{checked_item, line_item}, Scopes.this_script, Grammar.words_of_line}
+pub use Rattle.mk_script.specs.declared.items.Item.{Item, TheVariants.Script}
 pub use Rattle.mk_check.specs.Blocks.{blocks_from}
-pub use Rattle.mk_outputs.specs.{Draws.{draw, next_state}, Generated.{all_names, count_of_numbers, declarations}}
+pub use Rattle.mk_outputs.specs.Generated.{draw, next_state, all_names, count_of_numbers, declarations}
 pub use Rattle.mk_outputs.specs.Generated.{script_body, scripts, turns_of}
-pub use Rattle.mk_outputs.specs.GeneratedText.{body_lines, declaration_lines, generated_text, lines_of_scripts}
-pub use Rattle.mk_outputs.specs.GeneratedText.{text_of_lines}
+pub use Rattle.mk_outputs.specs.Generated.{body_lines, declaration_lines, generated_text, lines_of_scripts}
+pub use Rattle.mk_outputs.specs.Generated.{text_of_lines}

@@ -1,9 +1,9 @@
 -- The text that is written, script by script.
-use Rattle.std.proofs.{Common.Bor, Common.drop, Common.get_or, Common.map, lemmas.List.get_or-map}
+use Rattle.std.proofs.{Common.{Bor, drop, get_or, map}, lemmas.List.get_or-map}
 use Rattle.mk_outputs.proofs.Vocabulary.{List, ℕ, all_names, ap, append_assoc, body_lines, codes, count_of_numbers}
 use Rattle.mk_outputs.proofs.Vocabulary.{declaration_lines, draw, length, lines_of_scripts, next_state, refl, sym}
 use Rattle.mk_outputs.proofs.Vocabulary.{text_of_lines, turns_of, [], ◌++◌, ◌+◌, ◌<◌, ◌∙◌, ◌∷◌, ◌≡◌}
-use Rattle.mk_outputs.specs.GeneratedText.{generated_text}
+use Rattle.mk_outputs.specs.Generated.{generated_text}
 use Rattle.mk_script.proofs.Spacing.{drop_next}
 
 pub text_of_lines-append : (lines more : List (List ℕ))

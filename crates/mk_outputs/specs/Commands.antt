@@ -1,10 +1,10 @@
 -- The commands of the words.
 use Rattle.std.specs.Prelude.{ℕ, Bool, true, false, ◌<◌, ◌≤◌, ◌||◌, nat_lt, nat_le, List, [], ◌∷◌, Option, Some, None}
 use Rattle.std.specs.{Prelude.{option_and_then, option_map, if◌then◌else◌}, Str.bytes_eq}
-use Rattle.mk_script.specs.Names.{number_of_word}
-use Rattle.mk_outputs.specs.{declared.commands.Command.Command, declared.commands.Command.TheVariants.{OnText, Gen}}
-use Rattle.mk_outputs.specs.{declared.commands.Marking.Marking, declared.commands.Marking.TheVariants.{Stop, Beside}}
-use Rattle.mk_outputs.specs.{declared.commands.Marking.TheVariants.Sweep, declared.commands.TextCommand.TextCommand}
+use Rattle.mk_script.specs.Operands.{number_of_word}
+use Rattle.mk_outputs.specs.declared.commands.Command.{Command, TheVariants.{OnText, Gen}}
+use Rattle.mk_outputs.specs.declared.commands.Marking.{Marking, TheVariants.{Stop, Beside}}
+use Rattle.mk_outputs.specs.declared.commands.{Marking.TheVariants.Sweep, TextCommand.TextCommand}
 use Rattle.mk_outputs.specs.declared.commands.TextCommand.TheVariants.{Run, Check, Print, Replay, Trace}
 use Rattle.mk_outputs.specs.Given.{Given, Numbers, no_number, one_number, two_numbers, runs, gens, bare, given_by}
 use lib.Chars.{codes}

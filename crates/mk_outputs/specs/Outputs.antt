@@ -4,22 +4,23 @@ use Rattle.std.specs.Prelude.{IsSomeAnd, Ok as Accepted, Err as Refused}
 use Rattle.mk_core.specs.{declared.events.Event.Event, History.AreEnabled}
 use Rattle.mk_laws.specs.Promises.{KeepsAllPromises}
 use Rattle.mk_io.specs.declared.reading.ReadStop.{ReadStop}
-use Rattle.mk_script.specs.{declared.faults.Which.TheVariants.Bytes, declared.items.Item.Item}
+use Rattle.mk_script.specs.declared.{faults.Which.TheVariants.Bytes, items.Item.Item}
 use Rattle.mk_script.specs.{declared.faults.TextStop.TextStop, Grammar.program_of, Canonical.canonical_text}
 use Rattle.mk_check.specs.{declared.typing_faults.TypeStop.TypeStop, Typing.{TypingFault, first_typing_fault}}
-use Rattle.mk_check.specs.{Declarations.config_of, Output.output as output_behind}
+use Rattle.mk_check.specs.{Declarations.config_of, Feed.output as output_behind}
 use Rattle.mk_outputs.specs.{declared.commands.Command.Command, Generated.generated_program}
 use Rattle.mk_outputs.specs.declared.commands.TextCommand.{TextCommand}
 use Rattle.mk_outputs.specs.declared.commands.TextCommand.TheVariants.{Run, Check, Print, Replay, Trace}
-use Rattle.mk_outputs.specs.{declared.commands.Request.Request, declared.outputs.Output.Output, Commands.command_of}
-use Rattle.mk_outputs.specs.{declared.statuses.Status.Status, declared.statuses.Status.TheVariants.{Ok, NoMemory}}
+use Rattle.mk_outputs.specs.{declared.{commands.Request.Request, outputs.Output.Output}, Commands.command_of}
+use Rattle.mk_outputs.specs.declared.statuses.Status.{Status, TheVariants.{Ok, NoMemory}}
 use Rattle.mk_outputs.specs.declared.statuses.Status.TheVariants.{ReadFault, Text, IllTyped, Limit, NotEnabled}
 use Rattle.mk_outputs.specs.RunOutputs.{IsOutputOfRun, IsSummaryOfRun}
-use Rattle.mk_replay.specs.{declared.schedule.Entry.Entry, declared.replaying.ReplayStop.ReplayStop}
+use Rattle.mk_replay.specs.declared.{schedule.Entry.Entry, replaying.ReplayStop.ReplayStop}
 use Rattle.mk_replay.specs.{Schedules.replay_of, Replays.{history_of, refusal_of}}
-use Rattle.mk_trace.specs.{declared.faults.TraceStop.TraceStop, declared.peaks.Peaks.Peaks, Traces.{Contents, trace_of}}
-use Rattle.mk_trace.specs.{Playing.{IsPlayed, ArePeaks}, Printed.peaks_text}
-use Rattle.mk_run.specs.Below.Heaps.Reports.{history_of as history_of_report}
+use Rattle.mk_trace.specs.declared.{faults.TraceStop.TraceStop, peaks.Peaks.Peaks}
+use Rattle.mk_trace.specs.Grammar.{Contents, trace_of}
+use Rattle.mk_trace.specs.{Playing.{IsPlayed, ArePeaks}, Peaks.peaks_text}
+use Rattle.mk_run.specs.Below.Heaps.Hosts.{history_of as history_of_report}
 use lib.Chars.{codes}
 
 -- where a program is well typed, this status; else that of its least ill-typed line

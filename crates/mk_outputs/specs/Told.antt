@@ -1,10 +1,26 @@
--- What clap is told of the commands, and what its matches hold of the words. Private functions alone cite these.
-use Rattle.std.specs.Prelude.{◌≡◌, true, List, [], ◌∷◌, Some}
+-- What each command takes, and what clap is told of it. Private functions alone cite these.
+use Rattle.std.specs.Prelude.{Option, ◌≡◌, true, List, [], ◌∷◌, Some}
+use Rattle.mk_outputs.specs.declared.{commands.Command.Command, words.Named.Named}
+use Rattle.mk_outputs.specs.{declared.words.Named.TheVariants.{Run, Gen, Alone}, Commands.{run_of, gen_of, alone_of}}
+use Rattle.mk_outputs.specs.{Commands.{start_of, count_of}, Given.{Form, Given, runs, gens, bare, Flag, has_flag}}
+use Rattle.mk_outputs.specs.Given.{report_flag, sweep_flag, why_flag}
 use Rattle.clap.specs.{Values.bool_text, Walk.{Row, Rule, Text, first_of, one_of}, Simple.{App, Shape, new_rule}}
 use Rattle.clap.specs.{Simple.new_shape, declared.builder.action.ArgAction.TheVariants.{Set, SetTrue}}
-use Rattle.mk_outputs.specs.{Commands.{start_of, count_of}, Given.{Flag, Form, Given, bare, gens, has_flag}}
-use Rattle.mk_outputs.specs.Given.{report_flag, runs, sweep_flag, why_flag}
 use lib.Chars.{codes}
+
+-- What each command takes, and makes of what is given. Private functions alone cite these.
+
+-- the form of a command's words
+abbrev pub form_of : Named → Form
+form_of Run = runs
+form_of Gen = gens
+form_of (Alone command) = bare
+
+-- the command, with what was given
+abbrev pub made_of : Named → Given → Option Command
+made_of Run given = run_of given
+made_of Gen given = gen_of given
+made_of (Alone command) given = alone_of command given
 
 -- what clap is told of `--markers`
 abbrev pub markers_rule : Rule

@@ -1,6 +1,6 @@
 //! The numbers that the generator draws.
 ghost use Rattle.std.specs.Prelude.{◌≡◌, ◌<◌};
-ghost use Rattle.mk_outputs.specs.Draws.{next_state, draw};
+ghost use Rattle.mk_outputs.specs.Generated.{next_state, draw};
 
 use std::marker::Model;
 

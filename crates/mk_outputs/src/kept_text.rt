@@ -1,7 +1,7 @@
 //! The lines that report what the last cycle kept, and why.
 ghost use Rattle.std.specs.{Prelude.{◌≡◌, ◌++◌, [], ◌∷◌, List, OnOk}, Fmt.decimal};
 ghost use Rattle.mk_script.specs.Canonical.{line_text};
-ghost use Rattle.mk_outputs.specs.KeptText.{root_words, links_text, entry_text, kept_text};
+ghost use Rattle.mk_outputs.specs.RunOutputs.{root_words, links_text, entry_text, kept_text};
 ghost use lib.Chars.{codes};
 
 use crate::names::{global_name, register_name, script_name};

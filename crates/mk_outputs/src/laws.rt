@@ -3,7 +3,7 @@ ghost use Rattle.std.specs.Prelude.{ℕ, ◌≡◌, ◌≤◌, Ok};
 ghost use Rattle.mk_script.specs.Grammar.{program_of};
 ghost use Rattle.mk_check.specs.Laws.{IsChecked, IsScript};
 ghost use Rattle.mk_outputs.specs.Generated.{count_of_numbers, turns_of, generated_program};
-ghost use Rattle.mk_outputs.specs.{GeneratedText.generated_text, Laws.{DeclaresNodes, MakesTurns, OutputsAreSeen}};
+ghost use Rattle.mk_outputs.specs.{Generated.generated_text, Laws.{DeclaresNodes, MakesTurns, OutputsAreSeen}};
 
 /// What is written of a run, of a text's program or of a generated one, is of a run that can be observed.
 pub fn outputs_are_seen()

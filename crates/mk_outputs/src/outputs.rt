@@ -1,10 +1,10 @@
 //! What a command writes, or why it is refused.
 ghost use Rattle.std.specs.Prelude.{◌≡◌, ◌≢◌, ◌≤◌, ◌⊎◌, Ok, Err, Some, false, IfOk, IfErr, OnOk};
-ghost use Rattle.mk_io.specs.{Bytes.TakesAll, Faults.Rose};
+ghost use Rattle.mk_io.specs.{Bytes.TakesAll, Memory.Rose};
 ghost use Rattle.mk_script.specs.Grammar.{program_of};
 ghost use Rattle.mk_outputs.specs.Commands.{AreWithin, IsWithin, MarkersAreWithin};
 ghost use Rattle.mk_outputs.specs.Outputs.{IsOutputOfCommand, IsOutput, IsOutputOf, IsStatusOf, HasNoRead, status_on};
-ghost use Rattle.mk_outputs.specs.{Outputs.{status_of_program, status_of_text}, Seen.IsSeen};
+ghost use Rattle.mk_outputs.specs.{Outputs.{status_of_program, status_of_text}, Laws.IsSeen};
 ghost use Rattle.mk_outputs.specs.Statuses.{IsBeforeWriting, IsOfText};
 
 use crate::commands::{Command, Options, TextCommand};

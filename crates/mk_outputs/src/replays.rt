@@ -1,7 +1,7 @@
 //! What `replay` writes.
 ghost use Rattle.std.specs.Prelude.{◌≡◌, ◌⊎◌, IfOk, IfErr, OnOk};
 ghost use Rattle.mk_core.specs.History.{AreEnabled};
-ghost use Rattle.mk_check.specs.{Declarations.config_of, Output.output};
+ghost use Rattle.mk_check.specs.{Declarations.config_of, Feed.output};
 ghost use Rattle.mk_replay.specs.Replays.{history_of};
 ghost use Rattle.mk_laws.specs.Promises.{KeepsAllPromises};
 ghost use Rattle.mk_outputs.specs.{Outputs.{IsOutputOnSchedule, status_on, status_of_schedule}, Statuses.IsOfText};

@@ -1,6 +1,6 @@
 //! The lines of `--report`.
 ghost use Rattle.std.specs.{Prelude.{◌≡◌, ◌++◌, OnOk}};
-ghost use Rattle.mk_outputs.specs.ReportText.{count_line, lines_of_report};
+ghost use Rattle.mk_outputs.specs.RunOutputs.{count_line, lines_of_report};
 
 use crate::pieces::push_pieces;
 use itoa::Buffer;

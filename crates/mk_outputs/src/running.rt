@@ -1,13 +1,14 @@
 //! The run of a program on the heap.
 ghost use Rattle.std.specs.Prelude.{◌≡◌, ◌≤◌, ◌++◌, [], IfOk, OnOk, if◌then◌else◌, true, false};
 ghost use Rattle.mk_check.specs.Declarations.{config_of};
-ghost use Rattle.mk_run.specs.Below.Cycles.{Begun.{CyclesAreBegun, CyclesHoldGatesFirst}, Roots.CyclesMarkRootsFirst};
-ghost use Rattle.mk_run.specs.{Below.Heaps.Reports.{MarkersAreBelow, history_of}, Headline.cycles_go_on};
+ghost use Rattle.mk_run.specs.Below.Cycles.BeginCycle.{CyclesAreBegun, CyclesHoldGatesFirst};
+ghost use Rattle.mk_run.specs.Below.Cycles.Beside.{CyclesMarkRootsFirst};
+ghost use Rattle.mk_run.specs.{Below.Heaps.Hosts.{MarkersAreBelow, history_of}, Headline.cycles_go_on};
 ghost use Rattle.mk_run.specs.{Running.IsRunOf, Below.Heaps.Unswept.IsUnswept};
-ghost use Rattle.mk_run.specs.Said.{CyclesAreFinished, CyclesAreSaid, CyclesSweep};
+ghost use Rattle.mk_run.specs.Keeping.{CyclesAreFinished, CyclesAreSaid, CyclesSweep};
 ghost use Rattle.mk_outputs.specs.declared.commands.TextCommand.TheVariants as TextCommand;
 ghost use Rattle.mk_outputs.specs.Commands.{MarkersAreWithin, is_sweep, markers_beside};
-ghost use Rattle.mk_outputs.specs.{Outputs.IsOutputOf, ReportText.lines_of_report};
+ghost use Rattle.mk_outputs.specs.{Outputs.IsOutputOf, RunOutputs.lines_of_report};
 ghost use Rattle.mk_outputs.specs.RunOutputs.{AreEntries};
 
 use crate::commands::{Marking, Options};

@@ -2,9 +2,9 @@
 ghost use Rattle.std.specs.Prelude.{◌≡◌, ◌≤◌, ◌++◌, length, string_bytes, IfOk, IsSomeAnd, OnOk};
 ghost use Rattle.mk_outputs.specs.declared.commands.Command.TheVariants as Command;
 ghost use Rattle.mk_outputs.specs.{Generated.generated_program, Commands.IsWithin};
-ghost use Rattle.mk_run.specs.Below.Heaps.Reports.{history_of};
-ghost use Rattle.mk_outputs.specs.{RunOutputs.IsSummaryOfRun, Summary.total_line};
-ghost use Rattle.mk_outputs.specs.SummedTexts.{line_of_text, summary_of_texts, AreFew};
+ghost use Rattle.mk_run.specs.Below.Heaps.Hosts.{history_of};
+ghost use Rattle.mk_outputs.specs.RunOutputs.{IsSummaryOfRun, total_line};
+ghost use Rattle.mk_outputs.specs.RunOutputs.{line_of_text, summary_of_texts, AreFew};
 
 use crate::commands::{Marking, Options, Request};
 use crate::generating::generate;

@@ -1,6 +1,6 @@
 //! The texts of the generator's programs.
 ghost use Rattle.std.specs.{Prelude.{◌≡◌, ◌++◌, ◌∷◌, IfOk, OnOk}, String.string_bytes};
-ghost use Rattle.mk_outputs.specs.GeneratedText.{declaration_lines, body_lines, text_of_lines, generated_text};
+ghost use Rattle.mk_outputs.specs.Generated.{declaration_lines, body_lines, text_of_lines, generated_text};
 ghost use lib.Chars.{codes};
 
 use crate::draws::Draws;

@@ -1,10 +1,10 @@
 //! The commands of the words.
 ghost use Rattle.std.specs.Prelude.{Bool, ◌≡◌, IfOk, IfSome, Some, drop, map, option_and_then, string_bytes};
 ghost use Rattle.clap.specs.{Matches.one_text, Values.bool_text, Words.{app_of, first_value, found_of, rows_of}};
-ghost use Rattle.mk_script.specs.Names.{number_of_word};
+ghost use Rattle.mk_script.specs.Operands.{number_of_word};
 ghost use Rattle.mk_outputs.specs.Commands.{IsWithin, command_of, gen_from, markers_of, run_with};
 ghost use Rattle.mk_outputs.specs.Commands as spec;
-ghost use Rattle.mk_outputs.specs.{Given.{Given, given_by}, Naming.{form_of, made_of}, Told.{HasGiven, app_named}};
+ghost use Rattle.mk_outputs.specs.{Given.{Given, given_by}, Told.{form_of, made_of, HasGiven, app_named}};
 ghost use lib.Chars.{codes};
 
 use crate::arguments::{alone, found_in, generate, run};

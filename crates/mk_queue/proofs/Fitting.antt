@@ -2,7 +2,7 @@
 use Rattle.mk_laws.proofs.Vocabulary.{Bool, Op, Option, Some, arith, false, true, ℕ, ◌≡◌, ◌≢◌}
 use Rattle.mk_never.specs.declared.operations.Reply.{Reply}
 use Rattle.mk_jobs.specs.{Jobs.Asks, declared.steps.Step.Step}
-use Rattle.mk_queue.specs.{Points.{step_of, with_number}, declared.jobs.Done.Done, declared.jobs.Job.Job}
+use Rattle.mk_queue.specs.{Queue.{step_of, with_number}, declared.jobs.{Done.Done, Job.Job}}
 use Rattle.mk_queue.{specs.declared.points.Point.{Point}, proofs.Invariant.{job_at}}
 
 abbrev is_enqueue : Option Job → Bool

@@ -2,8 +2,8 @@
 use Rattle.mk_laws.proofs.Vocabulary.{List, None, Option, Some, inl, inr, refl, word_at, ℕ, [], ◌∙◌, ◌∷◌, ◌≡◌}
 use Rattle.mk_jobs.specs.{Keeping.{Keeps, Public, World}, Laws.{IsAlwaysExplained, IsOneOf}, declared.steps.Step.Step}
 use Rattle.mk_jobs.proofs.{Chains.linked, Explained.explained, Roots.unshared, Rows.part_role}
-use Rattle.mk_queue.specs.{Points.{queue_is_typed, queue_plan, step_of}, Queue.{HasNumbers, left_by}}
-use Rattle.mk_queue.specs.{declared.jobs.Done.Done, declared.jobs.Job.Job, declared.points.Point.Point}
+use Rattle.mk_queue.specs.Queue.{queue_is_typed, queue_plan, step_of, HasNumbers, left_by}
+use Rattle.mk_queue.specs.declared.{jobs.{Done.Done, Job.Job}, points.Point.Point}
 use Rattle.mk_queue.proofs.{Invariant.{Local, Rely, Shared, job_at}, Changing.covered, Moving.moves, Staying.stays}
 
 ends : (w : World) (k : ℕ) (s : Point) (u : Option Done) (d : Done) (j : Job) → Local w k s u → step_of s ≡ Step.End d

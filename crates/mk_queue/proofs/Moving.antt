@@ -11,7 +11,7 @@ use Rattle.mk_jobs.proofs.{Having.{points_stay, public_or_passed, root_stays}, O
 use Rattle.mk_jobs.proofs.{Puts.{puts_one, puts_two}, Relying.{onward_own, onward_taken, onward_two, relies_freed}}
 use Rattle.mk_jobs.proofs.{Relying.{relies_placed, relies_stored}, Roots.{by_checking, by_starting, dropped}}
 use Rattle.mk_jobs.proofs.Roots.{founded_still, none_passed, of_root, placed, shared_two, small_linked, unfounded}
-use Rattle.mk_queue.specs.{Points.{holds, queue_plan}, Queue.left_by, declared.jobs.Done.Done, declared.jobs.Job.Job}
+use Rattle.mk_queue.specs.{Queue.{holds, queue_plan, left_by}, declared.jobs.{Done.Done, Job.Job}}
 use Rattle.mk_queue.{specs.declared.points.Point.{Point}, proofs.Staying.{ends, enqueuing, followed, next, tail, taken}}
 use Rattle.mk_queue.proofs.{Invariant.{Local, Rely, Shared, done_without, job_at}, Changing.{covered, is_empty}}
 use Rattle.mk_queue.proofs.Changing.{link_of, queue_stored, rely_at, rely_founding, tail_moved}

@@ -1,9 +1,9 @@
 //! What a caller does with a queue, and a queue from first to last, with callers on threads of their own.
 ghost use Rattle.std.specs.Prelude.{◌≤◌, [], length, IfOk};
-ghost use Rattle.mk_core.specs.Config.{IsBetween};
-ghost use Rattle.mk_heap.specs.Reports.{history_of};
+ghost use Rattle.mk_core.specs.Moments.{IsBetween};
+ghost use Rattle.mk_heap.specs.Hosts.{history_of};
 ghost use Rattle.mk_jobs.specs.{Passes.{HasDone, IsReady}, Runs.{AreExplainedJobs, IsRun, object_config}};
-ghost use Rattle.mk_queue.specs.{Points.queue_plan, Queue.{HasNumbers, dequeued, enqueued, left_by}};
+ghost use Rattle.mk_queue.specs.Queue.{queue_plan, HasNumbers, dequeued, enqueued, left_by};
 
 use crate::jobs::{Done, Job};
 use crate::queues::Queue;

@@ -11,7 +11,7 @@
 //! since, from being released. So an enqueue may be Full while few numbers are queued.
 ghost use Rattle.std.specs.Prelude.{ℕ, List, []};
 ghost use Rattle.mk_never.specs.NeverHeap.{NeverState};
-ghost use Rattle.mk_queue.specs.{Points.{queue_is_typed, queue_plan}, Queue.{HasNumbers, left_by}};
+ghost use Rattle.mk_queue.specs.Queue.{queue_is_typed, queue_plan, HasNumbers, left_by};
 
 use crate::jobs::{Done, Job};
 use crate::points::Point;

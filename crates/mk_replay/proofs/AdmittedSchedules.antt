@@ -1,6 +1,6 @@
 -- The history that a schedule makes of a checked program asks for nothing that isn't admitted, so it is a history of
 -- the program's heap, and keeps all promises.
-use Rattle.std.proofs.{lemmas.List.Elements.{All-nil, All-push}, Common.All, lemmas.List.get_or-replicate}
+use Rattle.std.proofs.{lemmas.List.{Elements.{All-nil, All-push}, get_or-replicate}, Common.All}
 use Rattle.mk_replay.proofs.Vocabulary.{Answer, AreEnabled, Caller, Config, Decided, Entry, Event, Flight, Item, Moment}
 use Rattle.mk_replay.proofs.Vocabulary.{Op, Stage, Step, answer_decided, answers_given, asked, at_rest, calls}
 use Rattle.mk_replay.proofs.Vocabulary.{comes_next, config_of, ends_call, entry_of, event_of_entry, first_world}
@@ -17,7 +17,7 @@ use Rattle.mk_laws.specs.Promises.{KeepsAllPromises}
 use Rattle.mk_check.proofs.{AdmittedScripts.{first_are_noted, scripts_are_admitted}, GivenAnswers.{among_more, as_list}}
 use Rattle.mk_check.proofs.GivenAnswers.{counted, more_ended, other_number, same_number, serves}
 use Rattle.mk_check.proofs.ConfigLemmas.{config_within}
-use Rattle.mk_check.specs.{Feeding.next_op, Laws.{IsChecked, IsScript}, Output.{answers_among, ended_calls}}
+use Rattle.mk_check.specs.{Feeding.next_op, Laws.{IsChecked, IsScript}, Feed.{answers_among, ended_calls}}
 use Rattle.mk_replay.specs.Replays.{history_from, next_op_for, step_of}
 use Rattle.mk_script.{proofs.PassedLines.{is_whole}, specs.Scopes.{script_names}}
 

@@ -9,7 +9,7 @@ use Rattle.mk_laws.proofs.Vocabulary.{progress_reg, refl, still, subst, sym, tak
 use Rattle.mk_laws.proofs.Vocabulary.{◌≡◌, ◌≢◌, ◌≤◌}
 use Rattle.mk_check.proofs.GivenAnswers.{Serves, as_list, counted, serves}
 use Rattle.mk_check.proofs.AdmittedScripts.{answers_are_noted, others_are_ignored}
-use Rattle.mk_check.specs.{Feeding.next_op, Laws.AreNotedBy, Output.answers_among, Output.ended_calls}
+use Rattle.mk_check.specs.{Feeding.next_op, Laws.AreNotedBy, Feed.{answers_among, ended_calls}}
 
 -- the first step of a call
 abbrev pub begins_call : Step → Bool

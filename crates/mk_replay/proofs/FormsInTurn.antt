@@ -3,8 +3,9 @@ use Rattle.std.{proofs.lemmas.List.take_more, specs.declared.result.Result.Resul
 use Rattle.mk_replay.proofs.Vocabulary.{Bor, Ok, Step, form_of, texts_of}
 use Rattle.mk_laws.proofs.Vocabulary.{List, ℕ, ap, arith, get_or, length, map, map-append, sym, take, [], ◌++◌, ◌+◌}
 use Rattle.mk_laws.proofs.Vocabulary.{◌<◌, ◌∙◌, ◌∷◌, ◌≡◌}
-use Rattle.mk_replay.specs.{Entries.forms_with, Entries.with_form, Forms.both, Forms.worse_fault, Schedules.forms_of}
-use Rattle.mk_script.specs.{Words.words_of_line, declared.faults.TextKind.TextKind}
+use Rattle.mk_replay.specs.{Schedules.{forms_with, with_form}, Forms.{both, worse_fault}}
+use Rattle.mk_replay.specs.Schedules.{forms_of}
+use Rattle.mk_script.specs.{Grammar.words_of_line, declared.faults.TextKind.TextKind}
 
 worse_fault-in_turn : (a b c : TextKind) → worse_fault a (worse_fault b c) ≡ worse_fault (worse_fault a b) c
 worse_fault-in_turn a b c = grind arith

@@ -6,8 +6,8 @@ use Rattle.mk_laws.proofs.Vocabulary.{Bool, List, None, Option, Some, ℕ, ap, a
 use Rattle.mk_laws.proofs.Vocabulary.{true, [], ◌∙◌, ◌∷◌, ◌≡◌}
 use Rattle.mk_replay.specs.Forms.{both, forms_of_numbers, number, two_operands}
 use Rattle.mk_replay.specs.declared.forms.FormOfNumbers.TheVariants.{Black, Claim, Head, Mark, Quar, Used}
-use Rattle.mk_replay.specs.{Numbered.form_of_numbers, declared.forms.FormOfNumbers.FormOfNumbers}
-use Rattle.mk_script.specs.{Names.number_of_word, declared.faults.TextKind.TextKind}
+use Rattle.mk_replay.specs.{Forms.form_of_numbers, declared.forms.FormOfNumbers.FormOfNumbers}
+use Rattle.mk_script.specs.{Operands.number_of_word, declared.faults.TextKind.TextKind}
 
 by_test : {A B : Type 0} (b : Bool) (f : A → B) (x : A) (rest : Option A) (others : Option B)
     → others ≡ option_map f rest → (if b then Some (f x) else others) ≡ option_map f (if b then Some x else rest)

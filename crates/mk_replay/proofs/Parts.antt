@@ -3,9 +3,10 @@ use Rattle.std.{proofs.Common.{length-take}, specs.List.{drop-map, take-map}}
 use Rattle.mk_replay.proofs.{Vocabulary.{Bor, length-drop, take_all, text_length, texts_of}, ScriptPart.lines_before}
 use Rattle.mk_laws.proofs.Vocabulary.{List, ℕ, ap, arith, cond-true, drop, le-leb, length, sym, take, ◌+◌, ◌-◌, ◌∙◌}
 use Rattle.mk_laws.proofs.Vocabulary.{◌≡◌, ◌≤◌}
-use Rattle.mk_replay.specs.{Reading.StandsAt, Schedules.{entries_of_lines, replay_of, schedule_behind, schedule_lines}}
+use Rattle.mk_replay.specs.Schedules.{StandsAt}
+use Rattle.mk_replay.specs.Schedules.{entries_of_lines, replay_of, schedule_behind, schedule_lines}
 use Rattle.mk_replay.specs.Schedules.{script_lines, with_schedule}
-use Rattle.mk_script.specs.{Grammar.{items_of_lines, program_of}, Words.lines_of}
+use Rattle.mk_script.specs.Grammar.{items_of_lines, program_of, lines_of}
 
 not_too_long : (text : List ℕ) → length text ≤ 1048576 → program_of text ≡ items_of_lines (lines_of text)
 not_too_long text short = cond-true _ _ _ (le-leb _ _ short)

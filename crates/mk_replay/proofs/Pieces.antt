@@ -5,7 +5,7 @@ use Rattle.mk_laws.proofs.Vocabulary.{Bool, List, ℕ, ap, append-nil, append_as
 use Rattle.mk_laws.proofs.Vocabulary.{if◌then◌else◌, length, sym, take, true, [], ◌&&◌, ◌++◌, ◌+◌, ◌-◌, ◌<◌, ◌==◌, ◌∙◌}
 use Rattle.mk_laws.proofs.Vocabulary.{◌∷◌, ◌≡◌, ◌≤◌}
 use Rattle.mk_replay.proofs.Vocabulary.{length-drop, nat_tests, take_all}
-use Rattle.mk_replay.specs.{Entries.IsEndOfPiece, Schedules.{in_front, pieces_of}}
+use Rattle.mk_replay.specs.Schedules.{IsEndOfPiece, in_front, pieces_of}
 
 -- a text in front of the first piece
 abbrev pub glue : List ℕ → List (List ℕ) → List (List ℕ)

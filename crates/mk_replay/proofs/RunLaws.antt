@@ -10,11 +10,11 @@ use Rattle.mk_laws.proofs.Vocabulary.{enabled_meets, false, get_or, get_or-set_o
 use Rattle.mk_laws.proofs.Vocabulary.{get_or_append_left, inl, inr, length, refl, seat_exists, slice_index_or}
 use Rattle.mk_laws.proofs.Vocabulary.{slice_set, subst, sym, true, [], ◌++◌, ◌<◌, ◌∙◌, ◌∷◌, ◌≡◌, ◌≢◌}
 use Rattle.mk_core.proofs.Histories.{calls_more, last_enabled}
-use Rattle.mk_core.specs.{Enabled.failing, Standing.{CoreStandsFor, CoreState}}
+use Rattle.mk_core.specs.{Enabled.failing, History.{CoreStandsFor, CoreState}}
 use Rattle.mk_check.proofs.{FeedLaws.{feed_push, feed_push-ended}, GivenAnswers.same_number}
 use Rattle.mk_check.specs.{Feed.{feed, has_ended}, declared.text.Text.Text}
-use Rattle.mk_replay.specs.Players.{IsFed, IsRunAfter, PlayerTakesAnswer, Served, TakeEvent, TakesEntry, served_by}
-use Rattle.mk_replay.specs.{Replays.IsReplayedText, declared.players.Player.Player, declared.replaying.Run.Run}
+use Rattle.mk_replay.specs.Replays.{IsFed, IsRunAfter, PlayerTakesAnswer, Served, TakeEvent, TakesEntry, served_by}
+use Rattle.mk_replay.specs.{Replays.IsReplayedText, declared.{players.Player.Player, replaying.Run.Run}}
 use Rattle.mk_check.specs.Feeding.{FeedStandsFor, FeedState, TakesAnswer as FeedTakesAnswer}
 
 -- A feed that waits takes the answer.

@@ -2,7 +2,7 @@
 use Rattle.mk_replay.proofs.Vocabulary.{is_schedule_line, position_from}
 use Rattle.mk_laws.proofs.Vocabulary.{Bool, List, None, Some, ℕ, arith, cond, false, refl, subst, suc, sym, true, []}
 use Rattle.mk_laws.proofs.Vocabulary.{◌+◌, ◌∷◌, ◌≡◌}
-use Rattle.mk_replay.specs.{Reading.HasNone, Reading.StandsAt, Schedules.schedule_lines, Schedules.script_lines}
+use Rattle.mk_replay.specs.Schedules.{HasNone, StandsAt, schedule_lines, script_lines}
 
 -- where it is found, counted from a number on
 record IsFound (lines : List (List ℕ)) (from found : ℕ) : Type 0 where

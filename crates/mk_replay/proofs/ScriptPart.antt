@@ -6,7 +6,7 @@ use Rattle.mk_replay.proofs.Vocabulary.{length-append, text_length}
 use Rattle.mk_laws.proofs.Vocabulary.{Bool, List, ℕ, ap, arith, cases_lt, false, get_or, if◌then◌else◌, inl, inr}
 use Rattle.mk_laws.proofs.Vocabulary.{length, refl, subst, suc, sym, take, true, zero, [], ◌++◌, ◌+◌, ◌<◌, ◌==◌, ◌∙◌}
 use Rattle.mk_laws.proofs.Vocabulary.{◌∷◌, ◌≡◌, ◌≤◌}
-use Rattle.mk_script.specs.Words.{lines_of, without_empty_last}
+use Rattle.mk_script.specs.Grammar.{lines_of, without_empty_last}
 
 abbrev is_newline : ℕ → Bool
 is_newline byte = byte == 10

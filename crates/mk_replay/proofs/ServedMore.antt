@@ -5,8 +5,8 @@ use Rattle.mk_laws.proofs.Vocabulary.{Bool, List, None, Option, ℕ, append-nil,
 use Rattle.mk_laws.proofs.Vocabulary.{◌∷◌, ◌≡◌}
 use Rattle.mk_core.specs.History.{calls_from}
 use Rattle.mk_check.proofs.GivenAnswers.{given_by, given_more, waiting_by, waiting_more}
-use Rattle.mk_check.specs.Output.{answer_waiting}
-use Rattle.mk_replay.specs.Players.{Served, served_behind, served_by}
+use Rattle.mk_check.specs.Feed.{answer_waiting}
+use Rattle.mk_replay.specs.Replays.{Served, served_behind, served_by}
 
 both_by : (b b' : Bool) (decided : Option Answer) (xs answers : List Answer) (was kept : Option Answer)
     → answers ≡ xs ++ given_by b b' decided was → kept ≡ waiting_by b b' decided was

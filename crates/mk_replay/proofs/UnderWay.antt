@@ -5,10 +5,10 @@ use Rattle.mk_replay.proofs.Vocabulary.{history_of, length-append, nat_tests}
 use Rattle.mk_laws.proofs.Vocabulary.{List, None, Some, ℕ, ap, arith, drop, false, get_or, length, refl, subst, sym, []}
 use Rattle.mk_laws.proofs.Vocabulary.{◌++◌, ◌+◌, ◌<◌, ◌==◌, ◌∙◌, ◌∷◌, ◌≡◌, ◌≤◌}
 use Rattle.mk_check.{proofs.GivenAnswers.{few_answers}, specs.Feed.{is_refusal}}
-use Rattle.mk_replay.specs.Players.{EachHasRoom, IsNotEnabled, IsRunAfter, TakesEntry}
+use Rattle.mk_replay.specs.Replays.{EachHasRoom, IsNotEnabled, IsRunAfter, TakesEntry}
 use Rattle.mk_replay.specs.Replays.{failing_entry, history_from, refusal_from, refusal_of}
 use Rattle.mk_replay.specs.declared.replaying.ReplayStop.{ReplayStop}
-use Rattle.mk_replay.specs.{declared.replaying.ReplayStop.TheVariants.NotEnabled, declared.replaying.Run.Run}
+use Rattle.mk_replay.specs.declared.replaying.{ReplayStop.TheVariants.NotEnabled, Run.Run}
 
 -- the run after the first entries of a schedule
 pub record IsUnderWay (program : List Item) (schedule : List Entry) (count : ℕ) (run : Run) : Type 0 where

@@ -1,11 +1,13 @@
--- A text of a script part and a schedule: its program and the events, or its first fault.
+-- A text of a script part and a schedule: its program and the events, or its first fault; and how it is read.
 use Rattle.std.specs.Prelude.{ℕ, ◌+◌, Bool, false, ◌&&◌, nat_le, ◌==◌, if◌then◌else◌, List, [], ◌∷◌, ◌++◌, length, map}
-use Rattle.std.specs.{Prelude.{Option, Some, None, Ok, Err}, declared.result.Result.Result, Str.bytes_eq}
-use Rattle.mk_core.specs.{declared.events.Seat.Seat, declared.events.Step.Step}
-use Rattle.mk_script.specs.{declared.items.Item.Item, declared.faults.TextKind.TextKind}
-use Rattle.mk_script.specs.{declared.faults.TextStop.TextStop, Words.{lines_of, words_of_line}}
-use Rattle.mk_script.specs.Grammar.{fault_at, longest_text, too_long, items_of_lines}
+use Rattle.std.specs.{Prelude.{Option, Some, None, Ok, Err, ◌≡◌, ◌≤◌, take, drop, ◌<◌}, declared.result.Result.Result}
+use Rattle.std.specs.Str.{bytes_eq}
+use Rattle.mk_core.specs.declared.events.{Seat.Seat, Step.Step}
+use Rattle.mk_script.specs.declared.{items.Item.Item, faults.TextKind.TextKind}
+use Rattle.mk_script.specs.{declared.faults.TextStop.TextStop, Grammar.{lines_of, words_of_line, fault_at}}
+use Rattle.mk_script.specs.Grammar.{longest_text, too_long, items_of_lines}
 use Rattle.mk_replay.specs.{declared.schedule.Entry.Entry, Forms.{both, form_of, seat_of}}
+use Rattle.mk_replay.specs.declared.lines.LineStop.{LineStop, TheVariants.{Text, NoMemory}}
 use lib.Chars.{codes}
 
 -- a byte in front of the first piece
@@ -93,3 +95,59 @@ replay_of_lines lines =
 abbrev pub replay_of : List ℕ → Result (List Item × List Entry) TextStop
 replay_of text =
     if nat_le (length text) longest_text then replay_of_lines (lines_of text) else Err (fault_at 0 too_long)
+
+-- What reading a line gives, unless memory runs out.
+-- Private functions alone cite these words.
+
+-- the expected entries stand after the old ones
+pub record AddsEntries (expected : Result (List Entry) TextKind) (old new : List Entry) : Type 0 where
+  pub entries : List Entry
+  pub are : expected ≡ Ok entries
+  pub added : new ≡ old ++ entries
+
+-- the expected fault, or no memory
+abbrev pub IsStopOf : {A : Type 0} → Result A TextKind → LineStop → Type 0
+IsStopOf expected (Text kind) = expected ≡ Err kind
+IsStopOf expected NoMemory = Unit {0}
+
+-- a line's first piece ends there, and others follow
+pub record IsEndOfPiece (text : List ℕ) (end : ℕ) : Type 0 where
+  pub inside : end + 2 ≤ length text
+  pub pieces : pieces_of text ≡ take end text ∷ pieces_of (drop (end + 2) text)
+
+-- the forms of the pieces so far, or the fault that is to be named
+abbrev pub forms_so_far : Option TextKind → List Step → Result (List Step) TextKind
+forms_so_far None forms = Ok forms
+forms_so_far (Some fault) forms = Err fault
+
+-- one form more
+abbrev pub with_form : Result (List Step) TextKind → Result Step TextKind → Result (List Step) TextKind
+with_form forms form = both (λ before last. before ++ last ∷ []) forms form
+
+-- the forms of a line whose first piece's form is this, and whose other pieces are these
+abbrev pub forms_with : Result Step TextKind → List (List ℕ) → Result (List Step) TextKind
+forms_with first others = both (λ form forms. form ∷ forms) first (forms_of (map words_of_line others))
+
+-- What the reader of a whole text finds on its way.
+-- Private functions alone cite these words.
+
+-- The schedule line stands at this place of the lines.
+pub record StandsAt (lines : List (List ℕ)) (place : ℕ) : Type 0 where
+  pub inside : place < length lines
+  pub before : script_lines lines ≡ take place lines
+  pub behind : schedule_lines lines ≡ Some (drop (place + 1) lines)
+
+-- No line is the schedule line.
+pub record HasNone (lines : List (List ℕ)) : Type 0 where
+  pub before : script_lines lines ≡ lines
+  pub behind : schedule_lines lines ≡ None
+
+-- the length of lines with a newline after each
+abbrev pub text_length : List (List ℕ) → ℕ
+text_length [] = 0
+text_length (line ∷ lines) = length line + 1 + text_length lines
+
+-- what stops at a line, of a text whose line of this number it is
+abbrev pub stop_at : ℕ → LineStop → TextStop
+stop_at line (Text fault) = TextStop.Text line fault
+stop_at line NoMemory = TextStop.NoMemory

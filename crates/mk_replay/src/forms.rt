@@ -1,8 +1,8 @@
 //! The words of events.
 ghost use Rattle.std.specs.Prelude.{◌≡◌, ◌∷◌, [], map, ok_or};
-ghost use Rattle.mk_script.specs.Words.{texts_of};
+ghost use Rattle.mk_script.specs.Grammar.{texts_of};
 ghost use Rattle.mk_replay.specs.Forms as spec;
-ghost use Rattle.mk_replay.specs.Numbered.{form_of_number, form_of_numbers, word_of_number};
+ghost use Rattle.mk_replay.specs.Forms.{form_of_number, form_of_numbers, word_of_number};
 
 use crate::steps::NOTHING_TO_ENTER;
 use mk_core::{Seat, Step, Tally, Word};

@@ -1,9 +1,9 @@
 //! The events of a line.
 ghost use Rattle.std.specs.Prelude.{◌≡◌, ◌∷◌, [], ◌++◌, map, IfOk, OnOk, MatchOption, MatchResult, Ok, Err};
-ghost use Rattle.mk_script.specs.Words.{texts_of, words_of_line};
+ghost use Rattle.mk_script.specs.Grammar.{texts_of, words_of_line};
 ghost use Rattle.mk_replay.specs.Forms as spec;
 ghost use Rattle.mk_replay.specs.Schedules.{pieces_of, entries_from, entries_of_pieces, entries_of_line};
-ghost use Rattle.mk_replay.specs.Entries.{AddsEntries, IsStopOf, IsEndOfPiece, forms_so_far, forms_with, with_form};
+ghost use Rattle.mk_replay.specs.Schedules.{AddsEntries, IsStopOf, IsEndOfPiece, forms_so_far, forms_with, with_form};
 
 use crate::forms::{form, seat};
 use crate::schedule::Entry;
@@ -19,7 +19,7 @@ pub(crate) enum LineStop {
 }
 
 impl From<AllocError> for LineStop {
-    ghost use Rattle.mk_replay.specs.{declared.lines.LineStop.LineStop, declared.lines.LineStop.TheVariants.NoMemory};
+    ghost use Rattle.mk_replay.specs.declared.lines.LineStop.{LineStop, TheVariants.NoMemory};
 
     ghost from_gives = { λ _ stop. stop ≡ NoMemory };
 

@@ -1,8 +1,8 @@
 //! A script that takes part in a run.
 ghost use Rattle.std.specs.Prelude.{◌≡◌, ◌<◌, ◌+◌, ℕ, [], ◌∷◌, length, count_by, IfOk, OnOk, None};
 ghost use Rattle.mk_check.specs.{Feed.is_refusal, Laws.IsScript, Declarations.config_of};
-ghost use Rattle.mk_replay.specs.{Replays.IsReplayedText, Players.{Served, served_to, IsPlayerOf, PlayerTakesAnswer}};
-ghost use Rattle.mk_replay.specs.Players.{TakesStep, FeedsOn, PlayerHasRoom};
+ghost use Rattle.mk_replay.specs.Replays.{IsReplayedText, Served, served_to, IsPlayerOf, PlayerTakesAnswer};
+ghost use Rattle.mk_replay.specs.Replays.{TakesStep, FeedsOn, PlayerHasRoom};
 
 use mk_check::{Checked, Feed, Text, is_refusal};
 use mk_core::Answer;

@@ -1,12 +1,12 @@
 //! The run of a schedule.
 ghost use Rattle.std.specs.Prelude.{◌≡◌, ◌≢◌, ℕ, [], length, None, Some, IfOk, IfErr, OnOk, IsTrue};
 ghost use Rattle.mk_script.specs.Scopes.{script_names};
-ghost use Rattle.mk_core.specs.{Order.seat_exists, History.{AreEnabled, CallsAreAdmitted}};
+ghost use Rattle.mk_core.specs.{Conditions.seat_exists, History.{AreEnabled, CallsAreAdmitted}};
 ghost use Rattle.mk_check.specs.Declarations.{config_of};
 ghost use Rattle.mk_laws.specs.Promises.{KeepsAllPromises};
 ghost use Rattle.mk_replay.specs.Replays.{event_of_entry, failing_entry, next_op_for, history_of, refusal_of};
-ghost use Rattle.mk_replay.specs.{Replays.AreTextsOf, Players.{EachHasRoom, TakeEvent, IsRunAfter, ArePlayersOf}};
-ghost use Rattle.mk_replay.specs.Players.{TakesEntry, IsNotEnabled};
+ghost use Rattle.mk_replay.specs.Replays.{AreTextsOf, EachHasRoom, TakeEvent, IsRunAfter, ArePlayersOf};
+ghost use Rattle.mk_replay.specs.Replays.{TakesEntry, IsNotEnabled};
 ghost use Rattle.mk_replay.specs.declared.replaying.ReplayStop.TheVariants as ReplayStop;
 
 use crate::players::Player;

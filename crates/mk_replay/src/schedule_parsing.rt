@@ -1,8 +1,8 @@
 //! The reader of a script part and a schedule.
 ghost use Rattle.std.specs.Prelude.{◌≡◌, ◌≢◌, ◌<◌, ◌≤◌, ◌+◌, ◌^◌, length, Ok, Err, IfOk, IfErr, MatchOption};
-ghost use Rattle.mk_script.specs.{Grammar.longest_text, Words.{lines_of, texts_of}};
-ghost use Rattle.mk_replay.specs.{Reading.{StandsAt, HasNone}, Schedules.{replay_of, entries_of_lines}};
-ghost use Rattle.mk_replay.specs.Reading as reading;
+ghost use Rattle.mk_script.specs.Grammar.{longest_text, lines_of, texts_of};
+ghost use Rattle.mk_replay.specs.Schedules.{StandsAt, HasNone, replay_of, entries_of_lines};
+ghost use Rattle.mk_replay.specs.Schedules as reading;
 ghost use Rattle.mk_replay.specs.Schedules as spec;
 
 use crate::lines::{LineReader, LineStop};

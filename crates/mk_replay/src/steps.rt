@@ -1,6 +1,6 @@
 //! The steps of a schedule's forms.
 ghost use Rattle.std.specs.Prelude.{◌≡◌};
-ghost use Rattle.mk_check.specs.Output.{ends_call};
+ghost use Rattle.mk_check.specs.Feed.{ends_call};
 ghost use Rattle.mk_replay.specs.Replays.{step_of};
 
 use mk_core::Step;

@@ -7,13 +7,13 @@ use Rattle.mk_laws.proofs.{Vocabulary.{◌∙◌, ◌∷◌, ◌≡◌}, Promise
 use Rattle.mk_laws.{proofs.Waiting.{resting_calls_are_admitted}, specs.Waiting.{CallsInFlightAreAdmitted}}
 use Rattle.mk_run.proofs.Vocabulary.{IsRunOf, IsScript, IsWhole, Item, Outcome, Text, answers_in, config_of, feed}
 use Rattle.mk_run.{proofs.Vocabulary.{slice_get_within}, specs.Headline.{cycles_go_on}}
-use Rattle.mk_check.{proofs.GivenAnswers.{serves}, specs.Output.{ended_calls, text_behind}}
-use Rattle.mk_check.specs.{Feed.has_ended, Laws.{AreNotedBy, ops_of_caller}, Output.{answers_among, answers_given}}
+use Rattle.mk_check.{proofs.GivenAnswers.{serves}, specs.Feed.{ended_calls, text_behind}}
+use Rattle.mk_check.specs.{Feed.{has_ended, answers_among, answers_given}, Laws.{AreNotedBy, ops_of_caller}}
 use Rattle.mk_heap.proofs.{BoundedQuarantine.quarantine_is_bounded, UnsweptHistories.unswept_is_precise}
-use Rattle.mk_heap.proofs.{Below.Objects.DeedBounds.bounds_are_over_deeds, Below.Objects.DeedFulls.deeds_say_why_full}
+use Rattle.mk_heap.proofs.Below.Objects.{DeedBounds.bounds_are_over_deeds, DeedFulls.deeds_say_why_full}
 use Rattle.mk_heap.proofs.Below.Objects.Deeds.{deeds_leave_the_storage}
 use Rattle.mk_run.specs.Headline.{NoAnswerIsLeft, RunsKeepTheirPromises, RunsPrintTheirTexts, RunsStandInOneHistory}
-use Rattle.mk_heap.specs.Reports as report
+use Rattle.mk_heap.specs.Hosts as report
 
 -- A caller has as many answers among the calls as operations.
 

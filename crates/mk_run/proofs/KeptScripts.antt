@@ -5,16 +5,17 @@ use Rattle.mk_laws.proofs.Vocabulary.{ltb-true, refl, seat_exists, subst, sym, t
 use Rattle.mk_laws.proofs.Vocabulary.{◌∙◌, ◌∷◌, ◌≡◌, ◌≤◌}
 use Rattle.mk_run.proofs.Vocabulary.{CallerState, Grows, Has, IsAtHome, IsFirstPass, IsScript, IsWhole, Item, PassKeeps}
 use Rattle.mk_run.proofs.Vocabulary.{PassState, WordsState, config_of, has_first, script_names, ⊎_elim}
-use Rattle.mk_core.specs.{Growing.AreOfOthers, History.AreEnabledFrom}
+use Rattle.mk_core.specs.History.{AreOfOthers, AreEnabledFrom}
 use Rattle.mk_heap.proofs.Below.Cycles.Begun.{begun_append, others_begin_none}
-use Rattle.mk_heap.specs.Below.Cycles.{Begun.{AreBegunFirst, CyclesAreBegun, IsBegunFirst}, Ways.Ways}
+use Rattle.mk_heap.specs.Below.Cycles.{BeginCycle.{AreBegunFirst, CyclesAreBegun, IsBegunFirst}, EngineLaw.Ways}
 use Rattle.mk_heap.{proofs.UnsweptHistories.{markers_sweep, none_sweeps}, specs.Unswept.{IsUnswept}}
 use Rattle.mk_heap.proofs.UnsweptSeats.{first_sweeps, others_on as others_sweep_on, seat_on as seat_sweeps_on}
 use Rattle.mk_run.proofs.JoinedScripts.{same_or_later}
 use Rattle.mk_laws.proofs.Vocabulary.{Step, inl, inr, left, ◌⊎◌}
 use Rattle.mk_heap.proofs.Below.Objects.{FinishedCycles.finished_append, SaidCloses.said_append}
-use Rattle.mk_heap.specs.Below.Objects.Closes.{AreFinishedAtOnce, AreSaidAtCloses, IsFinishedAtOnce, IsSaid}
-use Rattle.mk_run.specs.{Keeping.{RunKeeps, ScriptsKeep, SeatKeeps, by_seat}, Said.{BeginsAreFinished, ClosesAreSaid}}
+use Rattle.mk_heap.specs.Below.Objects.TurnCycles.{AreFinishedAtOnce, AreSaidAtCloses, IsFinishedAtOnce, IsSaid}
+use Rattle.mk_run.specs.Keeping.{RunKeeps, ScriptsKeep, SeatKeeps, by_seat}
+use Rattle.mk_run.specs.Keeping.{BeginsAreFinished, ClosesAreSaid}
 
 nowhere : (before : List Event) (e : Event) (behind : List Event) → [] ≡ before ++ e ∷ behind → ⊥
 nowhere [] e behind is = cc

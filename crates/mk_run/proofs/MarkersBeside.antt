@@ -4,7 +4,7 @@ use Rattle.mk_laws.proofs.Vocabulary.{Bool, Caller, Host, IsHistory, List, arith
 use Rattle.mk_run.proofs.Vocabulary.{AreTextsFrom, CallersAreStill, HostState, IsOver, Item, WordsState, config_of}
 use Rattle.mk_run.proofs.WholeRuns.{all_callers_home, all_callers_joined, still_follows_on, still_texts}
 use Rattle.mk_run.{proofs.LaterLists.{of_one}, specs.declared.marking.Done.{Done}}
-use Rattle.mk_heap.{proofs.HostTurns.{still_last}, specs.{Crews.JoinsMarkers, Hosts.AllAreJoined}}
+use Rattle.mk_heap.{proofs.HostTurns.{still_last}, specs.{Hosts.JoinsMarkers, Hosts.AllAreJoined}}
 
 module _ {E : Type 0} {on with_cycle : Bool} {program : List Item} (markers : ℕ) {w : WordsState} {n : ℕ}
     {h g : HostState} {done : Done E} (made : w.config ≡ config_of program markers)

@@ -7,13 +7,13 @@ use Rattle.mk_laws.proofs.Vocabulary.{length, map, refl, subst, suc, sym, true, 
 use Rattle.mk_laws.proofs.Promises.{histories_keep_all_promises}
 use Rattle.mk_never.specs.{Admitted.AreAdmitted, NeverHeap.{Call, NeverState, after_op}, declared.values.Value.Value}
 use Rattle.mk_never.{proofs.Later.op_stays, specs.declared.operations.Reply.Reply}
-use Rattle.mk_core.specs.{History.{bases_of, left, never_first}, Image.{answer_of, answers_of}}
+use Rattle.mk_core.specs.History.{bases_of, left, never_first, answer_of, answers_of}
 use Rattle.mk_check.proofs.Observed.{answers_are_images, feed_images}
-use Rattle.mk_check.specs.{Feed.{Fed, has_ended}, Laws.AreNotedBy, Output.{answers_given, text_behind}}
+use Rattle.mk_check.specs.{Feed.{Fed, has_ended, answers_given, text_behind}, Laws.AreNotedBy}
 use Rattle.mk_check.specs.Observed.{ObservedRun, replies_to, script_after, told_of}
 use Rattle.mk_run.proofs.Vocabulary.{IsScript, IsWhole, Item, config_of, feed, is_refusal, script_names}
 use Rattle.mk_run.proofs.Headline.{all_given, ends_of_run, noted_of_run, runs_print_their_texts}
-use Rattle.mk_run.specs.ObservedRuns.{CanBeObserved, PrintedRunsCanBeObserved, RunsCanBeObserved, TellsAsMuch}
+use Rattle.mk_run.specs.Headline.{CanBeObserved, PrintedRunsCanBeObserved, RunsCanBeObserved, TellsAsMuch}
 
 -- who is admitted is one of the callers
 callers_exist : (globals : List ℕ) (callers : ℕ) (n : NeverState) (xs : List Call) → length n.registers ≡ 8 * callers

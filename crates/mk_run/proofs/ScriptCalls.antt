@@ -9,11 +9,11 @@ use Rattle.mk_run.proofs.Vocabulary.{PassState, StaysAdmitted, answers_in, calls
 use Rattle.mk_run.{proofs.Vocabulary.{next_op, script_names}, specs.declared.scripts.Counts.{Counts}}
 use Rattle.mk_heap.{proofs.Dispatched.{then_seen}, specs.Below.Callers.States.{Admits, caller_of_pass}}
 use Rattle.mk_heap.specs.{Dispatching.as_told, Below.Objects.TurnCycles.TurnsOfAreExact}
-use Rattle.mk_run.specs.Scripts.{CountsHaveRoom, Script, ScriptTakesAnswer, script_of}
+use Rattle.mk_run.specs.Running.{CountsHaveRoom, Script, ScriptTakesAnswer, script_of}
 use Rattle.mk_check.proofs.{AdmittedScripts.next_is_admitted, FeedLaws.{feed_push, ops-feed_push}, Observed.word_taken}
 use Rattle.mk_check.proofs.FewOperations.{scripts_ask_for_few}
 use Rattle.mk_check.specs.{Feed.{Fed, Scope, take_answer}, Blocks.Blocks, Declarations.globals_of}
-use Rattle.mk_check.specs.{Feeding.{FeedStandsFor, FeedState}, Laws.{AreNotedBy, ops_of_caller}, Output.answers_among}
+use Rattle.mk_check.specs.{Feeding.{FeedStandsFor, FeedState}, Laws.{AreNotedBy, ops_of_caller}, Feed.answers_among}
 
 -- The calls of one caller among all: what its script notes of them, and what one call more makes of that.
 

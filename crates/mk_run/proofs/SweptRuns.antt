@@ -3,20 +3,21 @@ use Rattle.mk_laws.proofs.Vocabulary.{At, Bool, Config, Event, IsHistory, List, 
 use Rattle.mk_laws.proofs.Vocabulary.{append_assoc, arith, before_close, false, if◌then◌else◌}
 use Rattle.mk_laws.proofs.Vocabulary.{is_begin, is_close, is_release, left, list_any, not, or_parts, placed_at, refl}
 use Rattle.mk_laws.proofs.Vocabulary.{subst, sym, through, true, true≢false, [], ◌&&◌, ◌++◌, ◌||◌, ◌∙◌, ◌∷◌, ◌≡◌}
-use Rattle.mk_laws.{proofs.CyclePhases.{begin_is}, specs.Precision.{through_release}}
-use Rattle.mk_core.specs.{Cycles.{IsInSnapshot}, Growing.is_same_seat}
-use Rattle.mk_heap.specs.{Below.Objects.Closes.IsFinishedAtOnce, Reports.MarkersAreBelow}
-use Rattle.mk_heap.specs.Below.Cycles.Begun.{CyclesHoldGatesFirst, are_own_of, leaves_begun}
-use Rattle.mk_heap.specs.{Below.Cycles.Begun.only_holds, Below.Cycles.Closing.IsClosedBy}
-use Rattle.mk_heap.specs.{Below.Cycles.Kinds.{begins_marking, holds_gates}, Below.Words.States.{PassState, event_of}}
+use Rattle.mk_laws.{proofs.CyclePhases.{begin_is}, specs.Releases.{through_release}}
+use Rattle.mk_core.specs.{Cycles.{IsInSnapshot}, History.is_same_seat}
+use Rattle.mk_heap.specs.{Below.Objects.TurnCycles.IsFinishedAtOnce, Hosts.MarkersAreBelow}
+use Rattle.mk_heap.specs.Below.Cycles.BeginCycle.{CyclesHoldGatesFirst, are_own_of, leaves_begun}
+use Rattle.mk_heap.specs.Below.Cycles.{BeginCycle.only_holds, Stops.IsClosedBy}
+use Rattle.mk_heap.specs.Below.Cycles.TurnKeeps.{begins_marking, holds_gates}
+use Rattle.mk_heap.specs.Below.Words.States.{PassState, event_of}
 use Rattle.mk_heap.proofs.Below.Objects.Vocabulary.{does_wider}
-use Rattle.mk_why.proofs.{Below.Sweeps.CycleParts.only_looks, Below.Sweeps.BesideTurn.unmade_markers}
+use Rattle.mk_why.proofs.Below.Sweeps.{CycleParts.only_looks, BesideTurn.unmade_markers}
 use Rattle.mk_why.proofs.Below.Sweeps.SweepCycles.{cycle, is_released_by_it}
 use Rattle.mk_why.proofs.Below.Sweeps.SweepParts.{NoneOfMarkers, SweepParts, SweepsThenLooks, none_of_all, parts}
-use Rattle.mk_why.specs.{Below.Sweeps.Swept.{IsSwept, SweptAreMarked}, Below.Sweeps.Sweeps.Sweeps}
+use Rattle.mk_why.specs.Below.Sweeps.Sweeps.{IsSwept, SweptAreMarked, Sweeps}
 use Rattle.mk_why.specs.Stops.{IsClosedBefore, View, is_look}
 use Rattle.mk_run.proofs.SaidRuns.{said_is_swept}
-use Rattle.mk_run.specs.Said.{CyclesAreFinished, CyclesAreSaid, CyclesReleaseTheUnswept, CyclesSweep}
+use Rattle.mk_run.specs.Keeping.{CyclesAreFinished, CyclesAreSaid, CyclesReleaseTheUnswept, CyclesSweep}
 
 -- Where a seat only holds gates until it wants the close, an engine that begins to mark only holds gates.
 

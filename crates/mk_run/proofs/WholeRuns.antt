@@ -5,8 +5,8 @@ use Rattle.mk_run.proofs.Vocabulary.{AreTextsFrom, CallersAreStill, EndsScript, 
 use Rattle.mk_run.proofs.Vocabulary.{HasJoined, HostComesLast, HostState, IsRunOf, IsScript, IsTextOf, IsWhole, Item}
 use Rattle.mk_run.proofs.Vocabulary.{Outcome, Text, WordsState, config_of, slice_get_within}
 use Rattle.mk_run.proofs.LaterLists.{still_ends, still_follows, still_text}
-use Rattle.mk_heap.specs.{Ending.CallersAreJoined, Hosts.with_seen, Reports.HasCounts, Below.Words.Seats.has_over}
-use Rattle.mk_heap.specs.Reports as report
+use Rattle.mk_heap.specs.{Ending.CallersAreJoined, Hosts.{with_seen, HasCounts}, Below.Words.States.has_over}
+use Rattle.mk_heap.specs.Hosts as report
 
 pub all_callers_joined : {on : Bool} {program : List Item} {w : WordsState} {h : HostState}
     → HasJoined on program w 0 h → CallersAreJoined h

@@ -1,19 +1,19 @@
--- What is promised of the scripts of a program that ran.
-use Rattle.std.specs.{Prelude.{◌≡◌, ℕ, Bool, true, false, List, length, nat_lt}, List.flat_map}
-use Rattle.mk_core.specs.{declared.events.Event.Event, declared.events.Seat.TheVariants.Caller, Decided.asked}
-use Rattle.mk_core.specs.History.{calls, left}
-use Rattle.mk_laws.specs.{Precision.CyclesArePrecise, Promises.{AtEachMoment, KeepsAllPromises}}
+-- What is promised of the scripts of a program that ran, and that such a run can be observed.
+use Rattle.std.specs.{Prelude.{◌≡◌, ℕ, Bool, true, false, List, length, nat_lt, count_by}, List.flat_map}
+use Rattle.mk_core.specs.{declared.events.{Event.Event, Seat.TheVariants.Caller}, Calls.asked}
+use Rattle.mk_core.specs.{History.{calls, left}, declared.{config.Config.Config, events.Answer.Answer}}
+use Rattle.mk_laws.specs.{Releases.CyclesArePrecise, Promises.{AtEachMoment, KeepsAllPromises}}
 use Rattle.mk_laws.specs.Waiting.{NobodyWaitsInARing}
 use Rattle.mk_script.specs.declared.items.Item.{Item}
-use Rattle.mk_check.specs.{Declarations.config_of, Feed.{feed, has_ended}, Laws.{AreNotedBy, IsScript}}
-use Rattle.mk_check.specs.{Output.{answers_given, output}, declared.text.Text.Text}
-use Rattle.mk_heap.specs.{Reports.{IsWhole, MarkersAreBelow}, Below.Objects.DeedLaws.{DeedsBoundQuarantine, deeds_of}}
-use Rattle.mk_heap.specs.{Below.Objects.Deeds.{FullsHaveCauses, storage_after}, Below.Cycles.Roots.CyclesMarkRootsFirst}
-use Rattle.mk_heap.specs.{Below.Objects.TurnCycles.TurnsOfAreExact, Below.Words.Seats.has_over}
-use Rattle.mk_heap.specs.{Below.Objects.Bounds.QuarantineIsBounded, Below.Cycles.Begun.CyclesHoldGatesFirst}
-use Rattle.mk_heap.specs.{HostTurns.HostComesLast, Unswept.IsUnswept}
-use Rattle.mk_run.specs.{declared.outcomes.Outcome.Outcome, Running.IsRunOf, Said.CyclesSweep}
-use Rattle.mk_heap.specs.Reports as report
+use Rattle.mk_check.specs.{Declarations.config_of, Feed.{feed, has_ended, answers_given, output, is_refusal}}
+use Rattle.mk_check.specs.{Laws.{AreNotedBy, IsScript}, declared.text.Text.Text, Observed.{ObservedRun, told_to}}
+use Rattle.mk_heap.specs.{Hosts.{IsWhole, MarkersAreBelow}, Below.Objects.Deeds.{DeedsBoundQuarantine, deeds_of}}
+use Rattle.mk_heap.specs.Below.Objects.Deeds.{FullsHaveCauses, storage_after}
+use Rattle.mk_heap.specs.Below.{Cycles.Beside.CyclesMarkRootsFirst, Objects.TurnCycles.TurnsOfAreExact}
+use Rattle.mk_heap.specs.Below.{Words.States.has_over, Objects.Bounds.QuarantineIsBounded}
+use Rattle.mk_heap.specs.{Below.Cycles.BeginCycle.CyclesHoldGatesFirst, Ending.HostComesLast, Unswept.IsUnswept}
+use Rattle.mk_run.specs.{declared.outcomes.Outcome.Outcome, Running.IsRunOf, Keeping.CyclesSweep}
+use Rattle.mk_heap.specs.Hosts as report
 
 -- Whether the cycle that a Free begins goes on after its call: where there are markers to work on it.
 abbrev pub cycles_go_on : ℕ → Bool
@@ -124,3 +124,30 @@ RunsPrintTheirTexts =
     (on with_cycle : Bool) (program : List Item) (markers : ℕ) (outcome : Outcome)
     → IsRunOf on with_cycle program markers outcome
     → printed outcome ≡ output program (config_of program markers) (report.history_of outcome.report)
+
+-- As many are told as are answered, and as many refusals.
+pub record TellsAsMuch (told answers : List Answer) : Type 0 where
+  pub all : length told ≡ length answers
+  pub refusals : count_by is_refusal told ≡ count_by is_refusal answers
+
+-- The calls of the history, in their order, are a run that can be observed. It prints what the history does, and each
+-- script is told as much.
+pub record CanBeObserved (program : List Item) (c : Config) (history : List Event) : Type 0 where
+  pub run : ObservedRun program (output program c history)
+  pub calls_are : run.calls ≡ asked (calls c history)
+  pub tells :
+      (k : ℕ) → IsScript program k
+      → TellsAsMuch (told_to program run.calls k) (answers_given c history k)
+
+-- Where the scripts' replies stand in one history, the run is one that can be observed.
+abbrev pub RunsCanBeObserved : Type 0
+RunsCanBeObserved =
+    (program : List Item) (markers : ℕ) (sweep last_cycle : Bool) (history : List Event)
+    → StandsInOneHistory program markers sweep last_cycle history
+    → CanBeObserved program (config_of program markers) history
+
+-- What an outcome's texts say was printed by such a run.
+abbrev pub PrintedRunsCanBeObserved : Type 0
+PrintedRunsCanBeObserved =
+    (on with_cycle : Bool) (program : List Item) (markers : ℕ) (outcome : Outcome)
+    → IsRunOf on with_cycle program markers outcome → ObservedRun program (printed outcome)

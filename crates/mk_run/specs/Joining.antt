@@ -1,14 +1,13 @@
--- Scripts on threads of their own: what each hands back, and the host that has joined some of them.
--- Private functions alone cite these words.
-use Rattle.std.specs.Prelude.{◌≡◌, ℕ, ◌+◌, ◌≤◌, Bool, false, List, [], ◌∷◌, length, slice_get, Some, IfOk}
-use Rattle.mk_core.specs.{declared.events.Event.Event, declared.events.Seat.TheVariants.{Caller, Host}}
-use Rattle.mk_core.specs.{declared.config.Config.Config, Growing.AreOfOthers}
-use Rattle.mk_heap.specs.{Below.Words.Seats.{Has, has_over}, Below.Words.States.WordsState}
-use Rattle.mk_heap.specs.{Below.Callers.States.IsIdleCaller, Hosts.HostState}
+-- Scripts on threads of their own, with markers beside them: what each hands back, and the host that joins them.
+use Rattle.std.specs.Prelude.{◌≡◌, ℕ, ◌+◌, ◌≤◌, Bool, false, List, [], ◌∷◌, length, slice_get, Some, IfOk, true}
+use Rattle.mk_core.specs.declared.events.{Event.Event, Seat.TheVariants.{Caller, Host}}
+use Rattle.mk_core.specs.{declared.config.Config.Config, History.AreOfOthers}
+use Rattle.mk_heap.specs.Below.{Words.States.{Has, has_over, WordsState}, Callers.States.IsIdleCaller}
+use Rattle.mk_heap.specs.{Hosts.HostState, Ending.HostComesLast}
 use Rattle.mk_script.specs.{declared.items.Item.Item, Scopes.script_names}
 use Rattle.mk_check.specs.{Laws.IsScript, declared.text.Text.Text}
 use Rattle.mk_run.specs.{Running.{FollowsScript, EndsScript, IsTextOf}, declared.joining.Ran.Ran}
-use Rattle.mk_run.specs.declared.joining.Joined.{Joined}
+use Rattle.mk_run.specs.declared.{joining.Joined.Joined, marking.Done.Done}
 
 -- Script k ran on a thread of its own, to its end where memory sufficed.
 pub record HasRun (on : Bool) (program : List Item) (w : WordsState) (k : ℕ) (ran : Ran) : Type 0 where
@@ -42,3 +41,16 @@ pub record AreJoined (on : Bool) (program : List Item) (w : WordsState) (k marke
   pub before_over : has_over joined.host.pass.seen ≡ false
   pub same_markers : joined.host.markers ≡ markers
   pub texts : IfOk joined.texts (λ texts. AreTextsFrom program k w.config joined.host.pass.seen texts.items)
+
+-- Scripts with markers beside them. Private functions alone cite this.
+
+-- All scripts ran and are joined, and the host said that all is over, where asked after a last cycle. It has made so
+-- many markers.
+pub record IsOver {E : Type 0} (on with_cycle : Bool) (program : List Item) (w : WordsState) (markers : ℕ)
+    (h : HostState) (done : Done E) : Type 0 where
+  pub is_host : HasJoined on program w 0 h
+  pub own : Has h.pass.seats Host
+  pub last : HostComesLast w.config.callers with_cycle h.pass.seen
+  pub over : has_over h.pass.seen ≡ true
+  pub same_markers : h.markers ≡ markers
+  pub texts : IfOk done.texts (λ texts. AreTextsFrom program 0 w.config h.pass.seen texts.items)

@@ -1,10 +1,5 @@
 pub mod Below
-pub mod Ready
-pub mod Joining
-pub mod Marking
 pub mod Headline
-pub mod ObservedRuns
-pub mod Running
-pub mod Scripts
+pub mod Joining
 pub mod Keeping
-pub mod Said
+pub mod Running

@@ -1,9 +1,9 @@
 //! Scripts on threads of their own, and the host that joins them.
 ghost use Rattle.std.specs.{Prelude.◌+◌, Thread.IsSync};
 ghost use Rattle.mk_check.specs.Laws.{IsScript};
-ghost use Rattle.mk_heap.specs.Crews.{HasMade, IsFirstPass};
+ghost use Rattle.mk_heap.specs.Hosts.{HasMade, IsFirstPass};
 ghost use Rattle.mk_run.specs.{Joining.{AreJoined, HasRun}, Keeping.{ScriptsKeep, SeatKeeps}};
-ghost use Rattle.mk_run.specs.Ready.{AreReadyFrom, IsReadyScript};
+ghost use Rattle.mk_run.specs.Running.{AreReadyFrom, IsReadyScript};
 ghost use Rattle.mk_core.specs.declared.events.Seat.TheVariants as seat;
 ghost use denote.Param.Send.{IsSend};
 

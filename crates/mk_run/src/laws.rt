@@ -1,7 +1,7 @@
 //! Laws of runs. Each is the contract of a function that does nothing.
 ghost use Rattle.mk_run.specs.Headline.{NoAnswerIsLeft, RunsKeepTheirPromises, RunsPrintTheirTexts};
 ghost use Rattle.mk_run.specs.Headline.{RunsStandInOneHistory};
-ghost use Rattle.mk_run.specs.ObservedRuns.{PrintedRunsCanBeObserved, RunsCanBeObserved};
+ghost use Rattle.mk_run.specs.Headline.{PrintedRunsCanBeObserved, RunsCanBeObserved};
 
 /// The replies of a run stand in one history, each script's operations there once and in order.
 pub fn runs_stand_in_one_history()

@@ -1,7 +1,7 @@
 //! Scripts with markers beside them, from their first calls to the host's word that all is over.
 ghost use Rattle.std.specs.{Prelude.{◌≡◌, true}, Thread.IsSync};
-ghost use Rattle.mk_heap.specs.{Crews.HasMade, Hosts.AllAreJoined, LastTurns.TakesLastTurns};
-ghost use Rattle.mk_run.specs.{Keeping.RunKeeps, Marking.IsOver, Ready.IsReadyRun};
+ghost use Rattle.mk_heap.specs.{Hosts.{HasMade, AllAreJoined}, Ending.TakesLastTurns};
+ghost use Rattle.mk_run.specs.{Keeping.RunKeeps, Joining.IsOver, Running.IsReadyRun};
 ghost use denote.Param.Send.{IsSend};
 
 use crate::joining::{Joined, run_from};

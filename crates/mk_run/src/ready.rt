@@ -1,7 +1,7 @@
 //! What a run has ready before its first thread starts.
 ghost use Rattle.std.specs.Prelude.{◌≡◌, length, IfOk};
 ghost use Rattle.mk_script.specs.Scopes.{script_names};
-ghost use Rattle.mk_run.specs.Ready.{IsReadyRun};
+ghost use Rattle.mk_run.specs.Running.{IsReadyRun};
 
 use mk_check::{Checked, Feed};
 use mk_core::Config;

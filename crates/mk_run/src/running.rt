@@ -1,10 +1,10 @@
 //! The run of a program.
 ghost use Rattle.std.specs.Prelude.{◌≡◌, ◌≤◌, IfOk, true, false};
 ghost use Rattle.mk_check.specs.{Declarations.config_of, Observed.ObservedRun};
-ghost use Rattle.mk_heap.specs.{Below.Cycles.Begun.CyclesAreBegun, LastCycle.EndsWithCycle, Unswept.IsUnswept};
-ghost use Rattle.mk_heap.specs.Reports.{MarkersAreBelow, history_of};
+ghost use Rattle.mk_heap.specs.{Below.Cycles.BeginCycle.CyclesAreBegun, Ending.EndsWithCycle, Unswept.IsUnswept};
+ghost use Rattle.mk_heap.specs.Hosts.{MarkersAreBelow, history_of};
 ghost use Rattle.mk_run.specs.{Headline.printed, Keeping.by_seat, Running.IsRunOf};
-ghost use Rattle.mk_run.specs.Said.{BeginsAreFinished, ClosesAreSaid, CyclesAreFinished, CyclesAreSaid};
+ghost use Rattle.mk_run.specs.Keeping.{BeginsAreFinished, ClosesAreSaid, CyclesAreFinished, CyclesAreSaid};
 
 use crate::marking::{Done, run_beside};
 use crate::outcomes::Outcome;

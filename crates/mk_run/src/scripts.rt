@@ -2,9 +2,9 @@
 ghost use Rattle.std.specs.Prelude.{◌≡◌, ◌<◌, ℕ, List, ◌+◌, [], ◌∷◌, count_by, IfOk, OnOk, true};
 ghost use Rattle.mk_core.specs.declared.events.Answer.{Answer};
 ghost use Rattle.mk_script.specs.declared.items.Item.{Item};
-ghost use Rattle.mk_heap.specs.{Below.Callers.States.caller_of_pass, Below.Objects.Underway.PassKeeps};
-ghost use Rattle.mk_run.specs.{Ready.IsReadyScript, Running.{answers_in, FollowsScript, EndsScript, IsTextOf}};
-ghost use Rattle.mk_run.specs.Scripts.{CountsHaveRoom, IsFedWith, ScriptTakesAnswer, script_of};
+ghost use Rattle.mk_heap.specs.Below.{Callers.States.caller_of_pass, Objects.Rooms.PassKeeps};
+ghost use Rattle.mk_run.specs.Running.{IsReadyScript, answers_in, FollowsScript, EndsScript, IsTextOf};
+ghost use Rattle.mk_run.specs.Running.{CountsHaveRoom, IsFedWith, ScriptTakesAnswer, script_of};
 ghost use Rattle.mk_check.specs.{Declarations.config_of, Feed.feed as feed_with, Feeding.{IsWaiting, work_left}};
 ghost use Rattle.mk_check.specs.Laws.{IsScript};
 

@@ -1,10 +1,10 @@
 //! The run of a program with a last cycle, and what that cycle keeps.
 ghost use Rattle.std.specs.Prelude.{◌≡◌, ◌≤◌, IfOk, true, false};
 ghost use Rattle.mk_check.specs.{Declarations.config_of, Observed.ObservedRun};
-ghost use Rattle.mk_heap.specs.{Below.Cycles.Begun.CyclesAreBegun, LastCycle.EndsWithCycle, Unswept.IsUnswept};
-ghost use Rattle.mk_heap.specs.Reports.{MarkersAreBelow, history_of};
+ghost use Rattle.mk_heap.specs.{Below.Cycles.BeginCycle.CyclesAreBegun, Ending.EndsWithCycle, Unswept.IsUnswept};
+ghost use Rattle.mk_heap.specs.Hosts.{MarkersAreBelow, history_of};
 ghost use Rattle.mk_why.specs.Chains.{AreKept};
-ghost use Rattle.mk_run.specs.{Headline.printed, Running.IsRunOf, Said.{CyclesAreFinished, CyclesAreSaid}};
+ghost use Rattle.mk_run.specs.{Headline.printed, Running.IsRunOf, Keeping.{CyclesAreFinished, CyclesAreSaid}};
 
 use crate::outcomes::Outcome;
 use crate::running::run_and_close;

@@ -1,8 +1,8 @@
 -- A fault of a line that a `?` hands on.
 use Rattle.std.{proofs.Common.Result, specs.Result.IsErrAnd}
 use Rattle.mk_script.proofs.Vocabulary.{Err, Item, LineFault, List, arith, ◌≡◌}
-use Rattle.mk_script.specs.{ScopeOf.Reads, declared.faults.LineStop.LineStop}
-use Rattle.mk_script.specs.{declared.faults.LineStop.TheVariants.Fault, declared.scope.Scope.Scope}
+use Rattle.mk_script.specs.{Lines.Reads, declared.faults.LineStop.LineStop}
+use Rattle.mk_script.specs.declared.{faults.LineStop.TheVariants.Fault, scope.Scope.Scope}
 
 pub hands_fault : {A : Type 0} (before : List Item) (expected : Result Item LineFault) (found : Result A LineStop)
     (items : List Item) (scope : Scope) (fault : LineFault) → expected ≡ Err fault

@@ -2,7 +2,7 @@
 use Rattle.std.proofs.{Common.{le-ltb, ltb, ◌*◌}, Math.Bool.and-false, lemmas.List.{at_drop_all, at_drop_more}}
 use Rattle.mk_script.proofs.Vocabulary.{List, None, Some, ℕ, all_ascii_digits, arith, drop, get_or, length, lt-ltb}
 use Rattle.mk_script.proofs.Vocabulary.{refl, true, value_from, [], ◌+◌, ◌-◌, ◌<◌, ◌^◌, ◌∙◌, ◌∷◌, ◌≡◌, ◌≤◌}
-use Rattle.mk_script.specs.Names.{value_of_digits}
+use Rattle.mk_script.specs.Operands.{value_of_digits}
 
 pub value_from-le : (high : ℕ) (digits : List ℕ) → high ≤ value_from high digits
 value_from-le high [] = omega arith

@@ -7,7 +7,7 @@ use Rattle.mk_script.proofs.Vocabulary.{Err, Item, List, ℕ, ap, arith, at_end,
 use Rattle.mk_script.proofs.Vocabulary.{items_of_lines, length, lines_of, nat_tests, refl, sym, take}
 use Rattle.mk_script.proofs.Vocabulary.{take_all, true, without_empty_last, [], ◌+◌, ◌-◌, ◌<◌}
 use Rattle.mk_script.proofs.Vocabulary.{◌==◌, ◌∙◌, ◌∷◌, ◌≡◌, ◌≤◌}
-use Rattle.mk_script.specs.{Words.{first_line, later_lines, newline_or_end}, declared.faults.TextKind.TextKind}
+use Rattle.mk_script.specs.{Grammar.{first_line, later_lines, newline_or_end}, declared.faults.TextKind.TextKind}
 use Rattle.mk_script.specs.declared.faults.TextStop.{TextStop}
 
 keeps_first : (x : List ℕ) (ys : List (List ℕ)) → 0 < length ys

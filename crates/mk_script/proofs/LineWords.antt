@@ -1,13 +1,13 @@
 -- Words of a line: they are not empty, and have neither a space nor a newline.
 use Rattle.std.{proofs.lemmas.List.Elements.{All-append, All-cons, All-nil, All-weaker}, specs.List.{All, slice_split}}
 use Rattle.std.proofs.{lemmas.List.Splits.{slice_split_at, slice_split_none}, Common.{ltb-true, nat_lt, true≢false}}
-use Rattle.std.proofs.{lemmas.Fmt.decimal_nonempty, lemmas.List.Folds.list_all-append}
+use Rattle.std.proofs.lemmas.{Fmt.decimal_nonempty, List.Folds.list_all-append}
 use Rattle.std.proofs.lemmas.List.Sums.{AllPass-from_list_all}
 use Rattle.mk_script.proofs.Vocabulary.{Bool, List, ℕ, all_ascii_digits, and_from, and_parts, ap, append-nil, arith}
 use Rattle.mk_script.proofs.Vocabulary.{cond-true, decimal, false, filter, is_empty, joined_words, length}
 use Rattle.mk_script.proofs.Vocabulary.{length-append, list_all, lt-ltb, nat_eq, nat_tests, not, refl, spaced_words}
 use Rattle.mk_script.proofs.Vocabulary.{suc, sym, true, words_of_line, [], ◌&&◌, ◌++◌, ◌<◌, ◌^◌, ◌∙◌, ◌∷◌, ◌≡◌}
-use Rattle.mk_script.{proofs.PrintedNumbers.{all_ascii_digits-decimal}, specs.Names.{is_name_byte}}
+use Rattle.mk_script.{proofs.PrintedNumbers.{all_ascii_digits-decimal}, specs.Operands.{is_name_byte}}
 
 -- whether each byte is above the space
 abbrev pub is_solid : List ℕ → Bool

@@ -2,7 +2,7 @@
 use Rattle.std.proofs.{Common.{drop_at, get_or, set, take-append-drop}, lemmas.Slice.Eq.bytes_eq-Decides}
 use Rattle.std.proofs.lemmas.List.{drop_all, drop_more, length-take, set_at, take_at, take_more}
 use Rattle.std.proofs.lemmas.Bool.{leb-true}
-use Rattle.mk_script.specs.Names.{begins_name, is_name_byte, name_of}
+use Rattle.mk_script.specs.Operands.{begins_name, is_name_byte, name_of}
 use Rattle.mk_script.proofs.Vocabulary.{Some, and_parts, list_all}
 use Rattle.mk_script.proofs.Vocabulary.{Bool, List, ℕ, ap, arith, bytes_eq, drop, length, replicate, sym, take, true}
 use Rattle.mk_script.proofs.Vocabulary.{append_assoc, refl, suc, take_all, [], ◌++◌, ◌+◌, ◌-◌, ◌<◌, ◌∙◌, ◌∷◌, ◌≡◌, ◌≤◌}

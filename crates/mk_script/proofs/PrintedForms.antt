@@ -18,7 +18,7 @@ use Rattle.mk_script.proofs.PrintedNumbers.{number_of_word-decimal}
 use Rattle.mk_script.specs.Operands.{field_of, number, number_field, numbers, pointer_field}
 use Rattle.mk_script.specs.declared.items.TypeWord.TheVariants.{Number, Pointer}
 use Rattle.mk_script.specs.{declared.keywords.Keyword.TheVariants.{Heap, TypeLine}, Canonical.numbers_before}
-use Rattle.mk_script.specs.{Names.is_name, declared.items.TypeWord.TypeWord}
+use Rattle.mk_script.specs.{Operands.is_name, declared.items.TypeWord.TypeWord}
 
 -- The fields of a type's line: what they say, they say again as they are printed.
 

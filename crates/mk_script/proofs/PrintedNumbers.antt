@@ -1,10 +1,10 @@
 -- A number's digits say the number.
 use Rattle.std.proofs.lemmas.Fmt.{decimal_digit, decimal_nonempty, digits_decimal, digits_value-decimal, first_decimal}
 use Rattle.std.proofs.{lemmas.Str.Parse.{IsNumeralModel, numerals_by_fold}, Common.ne_eqb}
-use Rattle.std.proofs.{lemmas.Bool.{not_from_false, or_right}, lemmas.Grind.common_steps}
+use Rattle.std.proofs.lemmas.{Bool.{not_from_false, or_right}, Grind.common_steps}
 use Rattle.mk_script.proofs.Vocabulary.{List, Some, ℕ, all_ascii_digits, and_from, arith, cond-true, decimal, get_or}
 use Rattle.mk_script.proofs.Vocabulary.{length, lt-ltb, nat_eq, not, number_of_word, rules, true, value_from, ◌<◌, ◌^◌}
-use Rattle.mk_script.{proofs.Vocabulary.{◌||◌, ◌≡◌}, specs.Names.{is_numeral}}
+use Rattle.mk_script.{proofs.Vocabulary.{◌||◌, ◌≡◌}, specs.Operands.{is_numeral}}
 
 own : IsNumeralModel (λ ds. all_ascii_digits ds ≡ true) (value_from 0)
 own = numerals_by_fold _ (search rules) value_from (search rules)

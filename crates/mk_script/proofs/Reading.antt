@@ -3,8 +3,8 @@ use Rattle.std.{proofs.Common.Result, specs.Result.{IfErr, IfOk, MatchResult}}
 use Rattle.mk_script.proofs.FirstLine.{first_and_later}
 use Rattle.mk_script.proofs.Vocabulary.{Err, Item, List, Ok, ℕ, ap, arith, go_on, items_behind, length, line_of}
 use Rattle.mk_script.proofs.Vocabulary.{lines_of, sym, words_of_line, [], ◌++◌, ◌+◌, ◌<◌, ◌∙◌, ◌∷◌, ◌≡◌, ◌≢◌}
-use Rattle.mk_script.specs.{ScopeOf.{IsStopOfLine, ReadsLine}, Stops.stop_at, Words.{first_line, later_lines}}
-use Rattle.mk_script.specs.{declared.faults.LineStop.LineStop, declared.faults.TextStop.TextStop}
+use Rattle.mk_script.specs.{Lines.{IsStopOfLine, ReadsLine}, Grammar.{stop_at, first_line, later_lines}}
+use Rattle.mk_script.specs.declared.faults.{LineStop.LineStop, TextStop.TextStop}
 use Rattle.mk_script.specs.declared.scope.Scope.{Scope}
 
 -- what a text is read as whose next line has an item, or hasn't

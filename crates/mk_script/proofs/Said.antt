@@ -8,8 +8,8 @@ use Rattle.mk_script.proofs.Vocabulary.{length, list_all, list_any, list_any-app
 use Rattle.mk_script.proofs.Vocabulary.{refl, subst, sym, true, [], ◌++◌, ◌+◌, ◌<◌, ◌>>=◌, ◌^◌, ◌∙◌, ◌∷◌, ◌≡◌}
 use Rattle.mk_script.proofs.LineWords.{is_solid, is_solid-append, is_solid-decimal, is_solid-names, is_word}
 use Rattle.mk_script.proofs.{LineWords.is_word-append, PrintedNumbers.{number_of_word-below, number_of_word-decimal}}
-use Rattle.mk_script.specs.{Names.{is_name, is_name_byte, name_of}, Operands.{is_plus, number}}
-use Rattle.mk_script.specs.{declared.faults.LineFault.TheVariants.Text, declared.faults.TextKind.TextKind}
+use Rattle.mk_script.specs.Operands.{is_name, is_name_byte, name_of, is_plus, number}
+use Rattle.mk_script.specs.declared.faults.{LineFault.TheVariants.Text, TextKind.TextKind}
 
 -- a step that went well, and what comes of it
 

@@ -5,9 +5,9 @@ use Rattle.mk_script.proofs.Vocabulary.{global_names, has_script, is_script, lis
 use Rattle.mk_script.proofs.Vocabulary.{open_behind, open_blocks, pointer_names, refl, reverse, script_names, sym}
 use Rattle.mk_script.proofs.Vocabulary.{this_script, true, type_names, [], ◌++◌, ◌||◌, ◌∙◌, ◌∷◌, ◌≡◌}
 use Rattle.mk_script.proofs.Pushed.{names_of-append, open_blocks-push, this_script-push}
-use Rattle.mk_script.specs.{ScopeOf.{BeginsScript, IsScopeOf, has_lines}, Scopes.{is_instruction, names_of}}
+use Rattle.mk_script.specs.{Lines.{BeginsScript, IsScopeOf, has_lines}, Scopes.{is_instruction, names_of}}
 use Rattle.mk_script.specs.declared.items.Item.TheVariants.{Global, Heap, Num, Ptr, Script, TypeLine}
-use Rattle.mk_script.specs.{declared.items.TypeWord.TypeWord, declared.scope.Scope.Scope, declared.sorts.Sort.Sort}
+use Rattle.mk_script.specs.declared.{items.TypeWord.TypeWord, scope.Scope.Scope, sorts.Sort.Sort}
 
 has_lines-push : (before : List Item) (item : Item) → true ≡ has_lines (before ++ item ∷ [])
 has_lines-push [] item = refl

@@ -8,7 +8,7 @@ use Rattle.mk_script.proofs.Vocabulary.{List, ℕ, ap, append-nil, append_assoc,
 use Rattle.mk_script.proofs.Vocabulary.{is_empty, length, length-append, not, refl, subst, sym, take, true}
 use Rattle.mk_script.proofs.Vocabulary.{words_of_line}
 use Rattle.mk_script.proofs.Vocabulary.{[], ◌++◌, ◌+◌, ◌-◌, ◌<◌, ◌==◌, ◌∙◌, ◌∷◌, ◌≡◌, ◌≢◌, ◌≤◌}
-use Rattle.mk_script.specs.Words.{first_line, kept_word, newline_or_end}
+use Rattle.mk_script.specs.Grammar.{first_line, kept_word, newline_or_end}
 
 -- what was read of a line: its words so far, and the word in which it ends
 pub record IsCut (line : List ℕ) (words : List (List ℕ)) (piece : List ℕ) : Type 0 where

@@ -1,12 +1,13 @@
--- The canonical text of a program.
-use Rattle.std.specs.{Prelude.{ℕ, zero, suc, ◌+◌, ◌==◌, if◌then◌else◌, List, [], ◌∷◌, ◌++◌}, List.flat_map, Fmt.decimal}
+-- The canonical text of a program, and what holds of every program of a text.
+use Rattle.std.specs.Prelude.{ℕ, zero, suc, ◌+◌, ◌==◌, if◌then◌else◌, List, [], ◌∷◌, ◌++◌, Bool, drop, ◌≡◌, ◌≤◌, length}
+use Rattle.std.specs.{Prelude.Ok, List.flat_map, Fmt.decimal}
+use Rattle.mk_script.specs.{Grammar.{longest_text, program_of, IsOfSomeText}, declared.items.At.At}
+use Rattle.mk_script.specs.declared.items.Item.{Item, TheVariants.{Heap, TypeLine, Global, Script}}
+use Rattle.mk_script.specs.declared.items.Item.TheVariants.{Ptr, Num, New, Free, Getn, Setn, Getp, Setp, Casp, Lea}
+use Rattle.mk_script.specs.declared.items.Item.TheVariants.{Move, Clear, Loadg, Storeg, Same, Isnull, Show, Const, Add}
+use Rattle.mk_script.specs.declared.items.Item.TheVariants.{Sub, Print, Repeat, If, Else, End}
+use Rattle.mk_script.specs.declared.items.TypeWord.{TypeWord, TheVariants.{Number, Pointer}}
 use lib.Chars.{codes}
-use Rattle.mk_script.specs.{declared.items.At.At, declared.items.TypeWord.TypeWord}
-use Rattle.mk_script.specs.{declared.items.TypeWord.TheVariants.{Number, Pointer}, declared.items.Item.Item}
-use Rattle.mk_script.specs.declared.items.Item.TheVariants.{Heap, TypeLine, Global, Script, Ptr, Num, New, Free, Getn}
-use Rattle.mk_script.specs.declared.items.Item.TheVariants.{Setn, Getp, Setp, Casp, Lea, Move, Clear, Loadg, Storeg}
-use Rattle.mk_script.specs.declared.items.Item.TheVariants.{Same, Isnull, Show, Const, Add, Sub, Print, Repeat, If}
-use Rattle.mk_script.specs.declared.items.Item.TheVariants.{Else, End}
 
 -- `T`, and `T+K` for K from 1 on
 abbrev pub at_text : At → List ℕ
@@ -69,3 +70,24 @@ line_text (word ∷ next ∷ words) = word ++ (codes " " ++ line_text (next ∷ 
 -- the canonical text of a program
 abbrev pub canonical_text : List Item → List ℕ
 canonical_text items = flat_map (λ item. line_text (words_of_item item)) items
+
+-- A line's words as a text. Private functions alone cite these.
+
+-- words after another, each with a space before it
+abbrev pub spaced_words : List (List ℕ) → List ℕ
+spaced_words [] = []
+spaced_words (word ∷ words) = codes " " ++ (word ++ spaced_words words)
+
+-- a line without its newline
+abbrev pub joined_words : List (List ℕ) → List ℕ
+joined_words [] = []
+joined_words (word ∷ words) = word ++ spaced_words words
+
+-- what stands after the first word of a line of some sort
+abbrev pub operands_of_sort : (Item → Bool) → Item → List ℕ
+operands_of_sort is_of_sort item = if is_of_sort item then spaced_words (drop 1 (words_of_item item)) else []
+
+-- A program's canonical text is a text of the same program, where it isn't too long for a text.
+abbrev pub IsReadBack : List Item → Type 0
+IsReadBack items =
+    IsOfSomeText items → length (canonical_text items) ≤ longest_text → program_of (canonical_text items) ≡ Ok items

@@ -2,13 +2,6 @@ pub mod Canonical
 pub mod Fields
 pub mod Grammar
 pub mod Keywords
-pub mod Laws
 pub mod Lines
-pub mod Names
 pub mod Operands
-pub mod ScopeOf
 pub mod Scopes
-pub mod Sorts
-pub mod Spaced
-pub mod Stops
-pub mod Words

@@ -1,18 +1,53 @@
--- What the words of a line say, given its form.
-use Rattle.std.specs.Prelude.{◌≡◌, ℕ, Bool, true, ◌==◌, nat_le, if◌then◌else◌, List, [], ◌∷◌, replicate, Option, Some}
-use Rattle.std.specs.Prelude.{None, is_some, option_map, option_and_then, unwrap_or, ok_or, Ok, Err}
-use Rattle.std.specs.{declared.result.Result.Result, Result.result_ok, List.{list_all, list_any, flat_map}}
-use Rattle.std.specs.List.{before_first, after_first}
-use Rattle.mk_script.specs.{declared.items.At.At, declared.items.TypeWord.TypeWord}
-use Rattle.mk_script.specs.{declared.items.TypeWord.TheVariants.{Number, Pointer}, declared.items.Item.Item}
-use Rattle.mk_script.specs.{declared.keywords.Keyword.Keyword, declared.keywords.Keyword.TheVariants.{Heap, TypeLine}}
+-- Names and numbers, and what the words of a line say, given its form.
+use Rattle.std.specs.Prelude.{ℕ, ◌+◌, ◌-◌, ◌*◌, ◌^◌, Bool, not, ◌&&◌, ◌||◌, List, [], ◌∷◌, length, nat_lt, nat_le, ◌==◌}
+use Rattle.std.specs.Prelude.{if◌then◌else◌, slice_index, Option, Some, None, ◌≡◌, true, replicate, is_some, option_map}
+use Rattle.std.specs.{Prelude.{option_and_then, unwrap_or, ok_or, Ok, Err}, List.{list_all, list_any, flat_map}}
+use Rattle.std.specs.{List.{before_first, after_first}, Char.{is_ascii_alphabetic, is_ascii_alphanumeric}}
+use Rattle.std.specs.{Str.all_ascii_digits, declared.result.Result.Result, Result.result_ok}
+use Rattle.mk_script.specs.declared.items.{At.At, TypeWord.TypeWord}
+use Rattle.mk_script.specs.declared.items.{TypeWord.TheVariants.{Number, Pointer}, Item.Item}
+use Rattle.mk_script.specs.declared.keywords.Keyword.{Keyword, TheVariants.{Heap, TypeLine}}
 use Rattle.mk_script.specs.declared.keywords.Keyword.TheVariants.{Global, Script, Ptr, Num, New, Free, Getn, Setn, Getp}
 use Rattle.mk_script.specs.declared.keywords.Keyword.TheVariants.{Setp, Casp, Lea, Move, Clear, Loadg, Storeg, Same}
 use Rattle.mk_script.specs.declared.keywords.Keyword.TheVariants.{Isnull, Show, Const, Add, Sub, Print, Repeat, If}
-use Rattle.mk_script.specs.{declared.keywords.Keyword.TheVariants.{Else, End}, declared.faults.LineFault.LineFault}
-use Rattle.mk_script.specs.{declared.faults.LineFault.TheVariants.Text, Names.{name_of, number_of_word}}
-use Rattle.mk_script.specs.declared.items.Item.TheVariants as item
-use Rattle.mk_script.specs.declared.faults.TextKind.TheVariants as kind
+use Rattle.mk_script.specs.declared.{keywords.Keyword.TheVariants.{Else, End}, faults.LineFault.LineFault}
+use Rattle.mk_script.specs.declared.faults.{LineFault.TheVariants.Text, TextKind.TextKind}
+
+-- a letter, a digit or `_`
+abbrev pub is_name_byte : ℕ → Bool
+is_name_byte byte = is_ascii_alphanumeric byte || (byte == 95)
+
+-- 1 to 16 bytes, the first a letter
+abbrev pub begins_name : List ℕ → Bool
+begins_name word =
+    nat_lt 0 (length word) && nat_le (length word) 16 && is_ascii_alphabetic (slice_index word 0)
+
+-- each of them a letter, a digit or `_`
+abbrev pub is_name : List ℕ → Bool
+is_name word = begins_name word && list_all is_name_byte word
+
+-- the name that a word is
+abbrev pub name_of : List ℕ → Option (List ℕ)
+name_of word = if is_name word then Some word else None
+
+-- the number that digits stand for, after others that stand for high
+abbrev pub value_from : ℕ → List ℕ → ℕ
+value_from high [] = high
+value_from high (digit ∷ digits) = value_from (10 * high + (digit - 48)) digits
+
+-- the number that digits stand for, if they are digits and it is below 2^64
+abbrev pub value_of_digits : List ℕ → Option ℕ
+value_of_digits digits =
+    if all_ascii_digits digits && nat_lt (value_from 0 digits) (2 ^ 64) then Some (value_from 0 digits) else None
+
+-- digits, without a leading zero except 0 itself
+abbrev pub is_numeral : List ℕ → Bool
+is_numeral word =
+    all_ascii_digits word && nat_lt 0 (length word) && ((length word == 1) || not (slice_index word 0 == 48))
+
+-- a number is a numeral below 2^64
+abbrev pub number_of_word : List ℕ → Option ℕ
+number_of_word word = if is_numeral word && nat_lt (value_from 0 word) (2 ^ 64) then Some (value_from 0 word) else None
 
 infixl 10 ◌>>=◌
 -- goes on with what was found, or keeps the fault
@@ -22,11 +57,11 @@ abbrev pub ◌>>=◌ : {A B : Type 0} → Result A LineFault → (A → Result B
 
 -- the number that a word is
 abbrev pub number : List ℕ → Result ℕ LineFault
-number word = ok_or (number_of_word word) (Text kind.Number)
+number word = ok_or (number_of_word word) (Text TextKind.Number)
 
 -- the name that a word is
 abbrev pub name : List ℕ → Result (List ℕ) LineFault
-name word = ok_or (name_of word) (Text kind.Name)
+name word = ok_or (name_of word) (Text TextKind.Name)
 
 -- it is the byte `+`
 abbrev pub is_plus : ℕ → Bool
@@ -102,47 +137,47 @@ says5 f a b c d e = a >>= (λ x. b >>= (λ y. c >>= (λ z. d >>= (λ u. e >>= (�
 
 -- the item of a line, where each operand says what the form has in its place; else the first that doesn't
 unfoldable pub item_from : Keyword → List (List ℕ) → Result Item LineFault
-item_from TypeLine (t ∷ fields) = name t >>= (λ t'. Ok (item.TypeLine t' (fields_of fields)))
-item_from Heap (a ∷ b ∷ []) = says2 (λ pages resident. item.Heap pages resident) (number a) (number b)
-item_from Global (a ∷ b ∷ []) = says2 (λ name' ty. item.Global name' ty) (name a) (name b)
-item_from Script (a ∷ []) = says1 (λ name'. item.Script name') (name a)
-item_from Ptr (a ∷ b ∷ []) = says2 (λ name' at'. item.Ptr name' at') (name a) (at b)
-item_from Num (a ∷ []) = says1 (λ name'. item.Num name') (name a)
-item_from New (a ∷ b ∷ []) = says2 (λ pointer ty. item.New pointer ty) (name a) (name b)
-item_from Free (a ∷ []) = says1 (λ pointer. item.Free pointer) (name a)
+item_from TypeLine (t ∷ fields) = name t >>= (λ t'. Ok (Item.TypeLine t' (fields_of fields)))
+item_from Heap (a ∷ b ∷ []) = says2 (λ pages resident. Item.Heap pages resident) (number a) (number b)
+item_from Global (a ∷ b ∷ []) = says2 (λ name' ty. Item.Global name' ty) (name a) (name b)
+item_from Script (a ∷ []) = says1 (λ name'. Item.Script name') (name a)
+item_from Ptr (a ∷ b ∷ []) = says2 (λ name' at'. Item.Ptr name' at') (name a) (at b)
+item_from Num (a ∷ []) = says1 (λ name'. Item.Num name') (name a)
+item_from New (a ∷ b ∷ []) = says2 (λ pointer ty. Item.New pointer ty) (name a) (name b)
+item_from Free (a ∷ []) = says1 (λ pointer. Item.Free pointer) (name a)
 item_from Getn (a ∷ b ∷ c ∷ []) =
-    says3 (λ number' pointer index. item.Getn number' pointer index)
+    says3 (λ number' pointer index. Item.Getn number' pointer index)
     (name a) (name b) (number c)
 item_from Setn (a ∷ b ∷ c ∷ []) =
-    says3 (λ pointer index number'. item.Setn pointer index number')
+    says3 (λ pointer index number'. Item.Setn pointer index number')
     (name a) (number b) (name c)
 item_from Getp (a ∷ b ∷ c ∷ []) =
-    says3 (λ loaded pointer index. item.Getp loaded pointer index)
+    says3 (λ loaded pointer index. Item.Getp loaded pointer index)
     (name a) (name b) (number c)
 item_from Setp (a ∷ b ∷ c ∷ []) =
-    says3 (λ pointer index stored. item.Setp pointer index stored)
+    says3 (λ pointer index stored. Item.Setp pointer index stored)
     (name a) (number b) (name c)
 item_from Casp (a ∷ b ∷ c ∷ d ∷ e ∷ []) =
-    says5 (λ number' pointer index expected stored. item.Casp number' pointer index expected stored)
+    says5 (λ number' pointer index expected stored. Item.Casp number' pointer index expected stored)
     (name a) (name b) (number c) (name d) (name e)
 item_from Lea (a ∷ b ∷ c ∷ []) =
-    says3 (λ moved pointer index. item.Lea moved pointer index)
+    says3 (λ moved pointer index. Item.Lea moved pointer index)
     (name a) (name b) (number c)
-item_from Move (a ∷ b ∷ []) = says2 (λ copied pointer. item.Move copied pointer) (name a) (name b)
-item_from Clear (a ∷ []) = says1 (λ pointer. item.Clear pointer) (name a)
-item_from Loadg (a ∷ b ∷ []) = says2 (λ loaded global. item.Loadg loaded global) (name a) (name b)
-item_from Storeg (a ∷ b ∷ []) = says2 (λ stored global. item.Storeg stored global) (name a) (name b)
+item_from Move (a ∷ b ∷ []) = says2 (λ copied pointer. Item.Move copied pointer) (name a) (name b)
+item_from Clear (a ∷ []) = says1 (λ pointer. Item.Clear pointer) (name a)
+item_from Loadg (a ∷ b ∷ []) = says2 (λ loaded global. Item.Loadg loaded global) (name a) (name b)
+item_from Storeg (a ∷ b ∷ []) = says2 (λ stored global. Item.Storeg stored global) (name a) (name b)
 item_from Same (a ∷ b ∷ c ∷ []) =
-    says3 (λ number' first second. item.Same number' first second)
+    says3 (λ number' first second. Item.Same number' first second)
     (name a) (name b) (name c)
-item_from Isnull (a ∷ b ∷ []) = says2 (λ number' pointer. item.Isnull number' pointer) (name a) (name b)
-item_from Show (a ∷ []) = says1 (λ pointer. item.Show pointer) (name a)
-item_from Const (a ∷ b ∷ []) = says2 (λ number' value. item.Const number' value) (name a) (number b)
-item_from Add (a ∷ b ∷ c ∷ []) = says3 (λ number' left right. item.Add number' left right) (name a) (name b) (name c)
-item_from Sub (a ∷ b ∷ c ∷ []) = says3 (λ number' left right. item.Sub number' left right) (name a) (name b) (name c)
-item_from Print (a ∷ []) = says1 (λ number'. item.Print number') (name a)
-item_from Repeat (a ∷ []) = says1 (λ rounds. item.Repeat rounds) (number a)
-item_from If (a ∷ []) = says1 (λ number'. item.If number') (name a)
-item_from Else [] = Ok item.Else
-item_from End [] = Ok item.End
-item_from keyword operands = Err (Text kind.Word)
+item_from Isnull (a ∷ b ∷ []) = says2 (λ number' pointer. Item.Isnull number' pointer) (name a) (name b)
+item_from Show (a ∷ []) = says1 (λ pointer. Item.Show pointer) (name a)
+item_from Const (a ∷ b ∷ []) = says2 (λ number' value. Item.Const number' value) (name a) (number b)
+item_from Add (a ∷ b ∷ c ∷ []) = says3 (λ number' left right. Item.Add number' left right) (name a) (name b) (name c)
+item_from Sub (a ∷ b ∷ c ∷ []) = says3 (λ number' left right. Item.Sub number' left right) (name a) (name b) (name c)
+item_from Print (a ∷ []) = says1 (λ number'. Item.Print number') (name a)
+item_from Repeat (a ∷ []) = says1 (λ rounds. Item.Repeat rounds) (number a)
+item_from If (a ∷ []) = says1 (λ number'. Item.If number') (name a)
+item_from Else [] = Ok Item.Else
+item_from End [] = Ok Item.End
+item_from keyword operands = Err (Text TextKind.Word)

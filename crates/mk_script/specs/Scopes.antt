@@ -1,20 +1,68 @@
--- What the lines before a line say: what is declared, which blocks are open.
-use Rattle.std.specs.Prelude.{ℕ, Bool, if◌then◌else◌, fold, true, false, not, List, [], ◌∷◌, ◌++◌, Option, Some, None}
+-- What the lines before a line say: what is declared, which blocks are open. The lines of each sort.
+use Rattle.std.specs.Prelude.{Bool, true, false, ℕ, if◌then◌else◌, fold, not, List, [], ◌∷◌, ◌++◌, Option, Some, None}
 use Rattle.std.specs.List.{filter_map}
-use Rattle.mk_script.specs.{declared.items.Item.Item, declared.items.Item.TheVariants.{TypeLine, Global, Script}}
-use Rattle.mk_script.specs.{declared.items.Item.TheVariants.{Ptr, Num, Repeat, If, Else, End}, declared.sorts.Sort.Sort}
-use Rattle.mk_script.specs.Sorts.{is_declaration}
+use Rattle.mk_script.specs.declared.items.Item.{Item, TheVariants.{Heap, TypeLine, Global, Script}}
+use Rattle.mk_script.specs.declared.items.Item.TheVariants.{Ptr, Num, New, Free, Getn, Setn, Getp, Setp, Casp, Lea}
+use Rattle.mk_script.specs.declared.items.Item.TheVariants.{Move, Clear, Loadg, Storeg, Same, Isnull, Show, Const, Add}
+use Rattle.mk_script.specs.declared.items.Item.TheVariants.{Sub, Print, Repeat, If, Else, End}
+use Rattle.mk_script.specs.declared.sorts.Sort.{Sort}
 pub use Rattle.mk_script.specs.declared.scope.OpenBlock.{OpenBlock}
 pub use Rattle.mk_script.specs.declared.scope.OpenBlock.TheVariants.{InRepeat, InFirst, InSecond}
-use Rattle.mk_script.specs.declared.sorts.Sort.TheVariants as sort
+
+-- lines that declare
+abbrev pub is_declaration : Item → Bool
+is_declaration (Heap pages resident) = true
+is_declaration (TypeLine name words) = true
+is_declaration (Global name ty) = true
+is_declaration (Script name) = true
+is_declaration (Ptr name at) = true
+is_declaration (Num name) = true
+is_declaration item = false
+
+-- lines that read or write a number after a pointer
+abbrev pub is_number_access : Item → Bool
+is_number_access (Getn number pointer index) = true
+is_number_access (Setn pointer index number) = true
+is_number_access item = false
+
+-- lines that read or write a pointer there
+abbrev pub is_pointer_access : Item → Bool
+is_pointer_access (Getp loaded pointer index) = true
+is_pointer_access (Setp pointer index stored) = true
+is_pointer_access (Casp number pointer index expected stored) = true
+is_pointer_access item = false
+
+-- other lines that change a pointer register, a global or the heap
+abbrev pub is_pointer_line : Item → Bool
+is_pointer_line (New pointer ty) = true
+is_pointer_line (Free pointer) = true
+is_pointer_line (Lea moved pointer index) = true
+is_pointer_line (Move copied pointer) = true
+is_pointer_line (Clear pointer) = true
+is_pointer_line (Loadg loaded global) = true
+is_pointer_line (Storeg stored global) = true
+is_pointer_line item = false
+
+-- other lines that have a number or read registers
+abbrev pub is_number_line : Item → Bool
+is_number_line (Same number first second) = true
+is_number_line (Isnull number pointer) = true
+is_number_line (Show pointer) = true
+is_number_line (Const number value) = true
+is_number_line (Add number left right) = true
+is_number_line (Sub number left right) = true
+is_number_line (Print number) = true
+is_number_line (Repeat rounds) = true
+is_number_line (If number) = true
+is_number_line item = false
 
 -- the name that a line declares, of this sort
 abbrev pub declared_name : Sort → Item → Option (List ℕ)
-declared_name sort.Type (TypeLine name words) = Some name
-declared_name sort.Global (Global name ty) = Some name
-declared_name sort.Script (Script name) = Some name
-declared_name sort.Pointer (Ptr name at) = Some name
-declared_name sort.Number (Num name) = Some name
+declared_name Sort.Type (TypeLine name words) = Some name
+declared_name Sort.Global (Global name ty) = Some name
+declared_name Sort.Script (Script name) = Some name
+declared_name Sort.Pointer (Ptr name at) = Some name
+declared_name Sort.Number (Num name) = Some name
 declared_name s item = None
 
 -- the names of a sort, in the order of their lines
@@ -23,23 +71,23 @@ names_of s items = filter_map (declared_name s) items
 
 -- the types that are declared, in order
 abbrev pub type_names : List Item → List (List ℕ)
-type_names items = names_of sort.Type items
+type_names items = names_of Sort.Type items
 
 -- the globals
 abbrev pub global_names : List Item → List (List ℕ)
-global_names items = names_of sort.Global items
+global_names items = names_of Sort.Global items
 
 -- the scripts
 abbrev pub script_names : List Item → List (List ℕ)
-script_names items = names_of sort.Script items
+script_names items = names_of Sort.Script items
 
 -- the pointer registers
 abbrev pub pointer_names : List Item → List (List ℕ)
-pointer_names items = names_of sort.Pointer items
+pointer_names items = names_of Sort.Pointer items
 
 -- the number registers
 abbrev pub number_names : List Item → List (List ℕ)
-number_names items = names_of sort.Number items
+number_names items = names_of Sort.Number items
 
 -- the line begins a script
 abbrev pub is_script : Item → Bool

@@ -1,6 +1,6 @@
 //! What can be wrong with a text.
 ghost use Rattle.std.specs.Prelude.{◌≡◌};
-ghost use Rattle.mk_script.specs.{Grammar.fault_at, Stops.stop_at};
+ghost use Rattle.mk_script.specs.Grammar.{fault_at, stop_at};
 
 use std::alloc::{AllocError, AllocFailed};
 
@@ -97,7 +97,7 @@ impl LineStop {
 }
 
 impl From<LineFault> for LineStop {
-    ghost use Rattle.mk_script.specs.{declared.faults.LineStop.LineStop, declared.faults.LineStop.TheVariants.Fault};
+    ghost use Rattle.mk_script.specs.declared.faults.LineStop.{LineStop, TheVariants.Fault};
 
     ghost from_gives = { λ fault stop. stop ≡ Fault fault };
 
@@ -107,7 +107,7 @@ impl From<LineFault> for LineStop {
 }
 
 impl From<AllocError> for LineStop {
-    ghost use Rattle.mk_script.specs.{declared.faults.LineStop.LineStop, declared.faults.LineStop.TheVariants.NoMemory};
+    ghost use Rattle.mk_script.specs.declared.faults.LineStop.{LineStop, TheVariants.NoMemory};
 
     ghost from_gives = { λ _ stop. stop ≡ NoMemory };
 
@@ -117,7 +117,7 @@ impl From<AllocError> for LineStop {
 }
 
 impl<T: Drop> From<AllocFailed<T>> for LineStop {
-    ghost use Rattle.mk_script.specs.{declared.faults.LineStop.LineStop, declared.faults.LineStop.TheVariants.NoMemory};
+    ghost use Rattle.mk_script.specs.declared.faults.LineStop.{LineStop, TheVariants.NoMemory};
 
     ghost from_gives = { λ _ stop. stop ≡ NoMemory };
 
@@ -127,7 +127,7 @@ impl<T: Drop> From<AllocFailed<T>> for LineStop {
 }
 
 impl From<AllocError> for TextStop {
-    ghost use Rattle.mk_script.specs.{declared.faults.TextStop.TextStop, declared.faults.TextStop.TheVariants.NoMemory};
+    ghost use Rattle.mk_script.specs.declared.faults.TextStop.{TextStop, TheVariants.NoMemory};
 
     ghost from_gives = { λ _ stop. stop ≡ NoMemory };
 

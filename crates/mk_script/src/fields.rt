@@ -1,8 +1,8 @@
 //! The fields of a type's line.
 ghost use Rattle.std.specs.Prelude.{◌≡◌, ◌↔◌, ◌++◌, ◌-◌, ◌^◌, min, [], ◌∷◌, length, replicate, option_map};
 ghost use Rattle.std.specs.{Prelude.{option_and_then, false, IsNone, IfSome, IfOk, OnOk}, Result.result_ok};
-ghost use Rattle.mk_script.specs.{Names.number_of_word, Operands.{field_of, are_fields, fields_of}};
-ghost use Rattle.mk_script.specs.{Fields.words_of_field, Words.texts_of};
+ghost use Rattle.mk_script.specs.Operands.{number_of_word, field_of, are_fields, fields_of};
+ghost use Rattle.mk_script.specs.{Fields.words_of_field, Grammar.texts_of};
 ghost use Rattle.mk_script.specs.Operands as spec;
 
 use crate::items::{At, TypeWord, TypeWords};

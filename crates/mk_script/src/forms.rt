@@ -1,6 +1,6 @@
 //! The forms of a line, but for a type's, by its first word.
 ghost use Rattle.std.specs.Prelude.{◌≡◌, ◌≢◌, [], ◌∷◌};
-ghost use Rattle.mk_script.specs.{Operands.{item_from, says1, says2, says3, says5}, Words.texts_of};
+ghost use Rattle.mk_script.specs.{Operands.{item_from, says1, says2, says3, says5}, Grammar.texts_of};
 ghost use Rattle.mk_script.specs.Operands as spec;
 
 use crate::faults::{LineFault, WORD};

@@ -1,6 +1,6 @@
 //! Laws of the script language.
 ghost use Rattle.std.specs.Prelude.{List};
-ghost use Rattle.mk_script.specs.{declared.items.Item.Item, Laws.IsReadBack};
+ghost use Rattle.mk_script.specs.{declared.items.Item.Item, Canonical.IsReadBack};
 
 /// A program that is printed and read again is the same program, where what is printed isn't longer than
 /// a text may be.

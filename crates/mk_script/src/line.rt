@@ -1,7 +1,7 @@
 //! One line, after others.
 ghost use Rattle.std.specs.Prelude.{◌≡◌, ◌-◌, ◌^◌, ◌∷◌, length, min, true, Some};
 ghost use Rattle.mk_script.specs.{Lines.{checked_item, placed_item, line_of}, Operands.fields_of};
-ghost use Rattle.mk_script.specs.{ScopeOf.{IsScopeOf, Reads}, Stops.checked_behind, Words.texts_of};
+ghost use Rattle.mk_script.specs.{Lines.{IsScopeOf, Reads}, Grammar.{checked_behind, texts_of}};
 ghost use Rattle.mk_script.specs.Lines as spec;
 
 use crate::faults::{LineFault, LineStop, TextKind, WORD};

@@ -1,7 +1,7 @@
 //! Names of types, scripts and registers.
 ghost use Rattle.std.specs.{Prelude.◌≡◌, Str.bytes_eq};
-ghost use Rattle.mk_script.specs.Names.{name_of};
-ghost use Rattle.mk_script.specs.Names as spec;
+ghost use Rattle.mk_script.specs.Operands.{name_of};
+ghost use Rattle.mk_script.specs.Operands as spec;
 
 use std::marker::Model;
 

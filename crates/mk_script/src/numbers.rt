@@ -1,6 +1,6 @@
 //! Numbers of a script text.
 ghost use Rattle.std.specs.Prelude.{◌≡◌};
-ghost use Rattle.mk_script.specs.Names.{number_of_word, value_of_digits};
+ghost use Rattle.mk_script.specs.Operands.{number_of_word, value_of_digits};
 
 /// The number that the word is, decimal.
 pub fn parse_number(word: &[u8]) -> Option<u64>

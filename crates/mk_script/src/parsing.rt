@@ -1,7 +1,7 @@
 //! The reader.
 ghost use Rattle.std.specs.Prelude.{◌≡◌, ◌≢◌, IfOk, IfErr, MatchResult, Ok, Err};
-ghost use Rattle.mk_script.specs.{Grammar.{program_of, items_of_lines}, ScopeOf.{IsScopeOf, Reads}};
-ghost use Rattle.mk_script.specs.{Lines.line_of, Words.{first_line, later_lines, lines_of, words_of_line}};
+ghost use Rattle.mk_script.specs.{Grammar.{program_of, items_of_lines}, Lines.{IsScopeOf, Reads}};
+ghost use Rattle.mk_script.specs.{Lines.line_of, Grammar.{first_line, later_lines, lines_of, words_of_line}};
 ghost use Rattle.mk_script.specs.Grammar as spec;
 
 use crate::faults::{LineStop, TEXT_LIMIT, TOO_LONG, TextKind, TextStop, Which};

@@ -1,9 +1,9 @@
 //! The canonical text of a program.
 ghost use Rattle.std.specs.{Prelude.{◌≡◌, ◌++◌, [], ◌∷◌, IfOk, OnOk, drop, slice_index_or}, Fmt.decimal};
 ghost use Rattle.mk_script.specs.Canonical.{at_text, numbers_before, fields_behind, words_of_item, line_text};
-ghost use Rattle.mk_script.specs.{Canonical.canonical_text, Spaced.{spaced_words, joined_words, operands_of_sort}};
-ghost use Rattle.mk_script.specs.Sorts.{is_declaration, is_number_access, is_pointer_access, is_pointer_line};
-ghost use Rattle.mk_script.specs.Sorts.{is_number_line};
+ghost use Rattle.mk_script.specs.Canonical.{canonical_text, spaced_words, joined_words, operands_of_sort};
+ghost use Rattle.mk_script.specs.Scopes.{is_declaration, is_number_access, is_pointer_access, is_pointer_line};
+ghost use Rattle.mk_script.specs.Scopes.{is_number_line};
 ghost use lib.Chars.{codes};
 
 use crate::{At, Item, Name, Program, TypeWord};

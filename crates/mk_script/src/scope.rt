@@ -2,7 +2,7 @@
 ghost use Rattle.std.specs.Prelude.{◌≡◌, ◌<◌, ◌+◌, ◌^◌, List, [], ◌∷◌, ◌++◌, length, reverse, not, false, OnOk};
 ghost use Rattle.std.specs.Option.{option_or};
 ghost use Rattle.mk_script.specs.{Lines.is_among, Scopes.{open_blocks, open_behind, behind_else, this_script}};
-ghost use Rattle.mk_script.specs.{Stops.kept_if, Scopes.type_names, ScopeOf.{IsScopeOf, BeginsScript, has_lines}};
+ghost use Rattle.mk_script.specs.{Grammar.kept_if, Scopes.type_names, Lines.{IsScopeOf, BeginsScript, has_lines}};
 ghost use Rattle.mk_script.specs.Lines as spec;
 
 use crate::faults::{LineFault, TextKind, Which};

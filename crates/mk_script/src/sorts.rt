@@ -1,6 +1,6 @@
 //! Lines that declare, and what the names that they declare stand for.
 ghost use Rattle.std.specs.{Prelude.{◌≡◌}, Option.option_copied};
-ghost use Rattle.mk_script.specs.{Scopes.declared_name, Sorts.is_declaration};
+ghost use Rattle.mk_script.specs.Scopes.{declared_name, is_declaration};
 
 use crate::items::Item;
 use crate::names::Name;

@@ -1,7 +1,7 @@
 //! Lines and words.
 ghost use Rattle.std.specs.{Prelude.{◌≡◌, ◌==◌, ◌++◌, IfOk, OnOk}, List.slice_split};
-ghost use Rattle.mk_script.specs.Words.{lines_of, words_of_line, texts_of};
-ghost use Rattle.mk_script.specs.Words.{first_line, kept_word, later_lines, newline_or_end};
+ghost use Rattle.mk_script.specs.Grammar.{lines_of, words_of_line, texts_of};
+ghost use Rattle.mk_script.specs.Grammar.{first_line, kept_word, later_lines, newline_or_end};
 
 use std::alloc::{AllocError, Global};
 

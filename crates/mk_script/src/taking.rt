@@ -1,5 +1,5 @@
 //! A line that is added to those before it.
-ghost use Rattle.mk_script.specs.{ScopeOf.{IsScopeOf, Reads}, Stops.checked_behind};
+ghost use Rattle.mk_script.specs.{Lines.{IsScopeOf, Reads}, Grammar.checked_behind};
 
 use crate::faults::{LineFault, LineStop};
 use crate::items::Item;

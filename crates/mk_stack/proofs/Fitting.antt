@@ -1,10 +1,10 @@
 -- A push ends as a push may, and a pop as a pop. The heap of a stack is within the limits.
 use Rattle.mk_laws.proofs.Vocabulary.{Bool, IsWithinLimits, Op, arith, false, sym, true, ℕ, ◌≡◌, ◌≢◌, ◌≤◌}
-use Rattle.mk_core.specs.Config.{IsBetween}
+use Rattle.mk_core.specs.Moments.{IsBetween}
 use Rattle.mk_never.specs.declared.operations.Reply.{Reply}
 use Rattle.mk_jobs.specs.{Jobs.Asks, declared.steps.Step.Step}
-use Rattle.mk_stack.specs.{Points.{step_of, with_number}, Stack.stack_config, declared.jobs.Done.Done}
-use Rattle.mk_stack.specs.{declared.jobs.Job.Job, declared.points.Point.Point}
+use Rattle.mk_stack.specs.{Stack.{step_of, with_number, stack_config}, declared.jobs.Done.Done}
+use Rattle.mk_stack.specs.declared.{jobs.Job.Job, points.Point.Point}
 
 -- It is a point of a push.
 abbrev pub pushes : Point → Bool

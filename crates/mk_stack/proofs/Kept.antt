@@ -2,8 +2,8 @@
 use Rattle.mk_laws.proofs.Vocabulary.{List, None, Option, Some, inl, inr, refl, word_at, ℕ, [], ◌∙◌, ◌∷◌, ◌≡◌}
 use Rattle.mk_jobs.specs.{Keeping.{Keeps, Public, World}, Laws.{IsAlwaysExplained, IsOneOf}, declared.steps.Step.Step}
 use Rattle.mk_jobs.proofs.{Chains.linked, Explained.explained, Roots.unshared, Rows.part_role}
-use Rattle.mk_stack.specs.{Points.{stack_is_typed, stack_plan, step_of}, Stack.{HasNumbers, left_by}}
-use Rattle.mk_stack.specs.{declared.jobs.Done.Done, declared.jobs.Job.Job, declared.points.Point.Point}
+use Rattle.mk_stack.specs.Stack.{stack_is_typed, stack_plan, step_of, HasNumbers, left_by}
+use Rattle.mk_stack.specs.declared.{jobs.{Done.Done, Job.Job}, points.Point.Point}
 use Rattle.mk_stack.proofs.{Invariant.{Local, Rely, Shared, job_at}, Moving.moves, Staying.{covered, stays}}
 
 ends : (w : World) (k : ℕ) (s : Point) (u : Option Done) (d : Done) (j : Job) → Local w k s u → step_of s ≡ Step.End d

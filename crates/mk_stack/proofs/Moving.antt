@@ -9,7 +9,7 @@ use Rattle.mk_jobs.proofs.Having.{not_null, own_new, own_now, own_stays, points_
 use Rattle.mk_jobs.proofs.{Operations.{global_there, register_has}, Puts.puts_one, Relying.{onward_own, onward_taken}}
 use Rattle.mk_jobs.proofs.{Relying.{relies_placed, relies_stored}, Roots.{by_checking, by_starting, founded_still}}
 use Rattle.mk_jobs.proofs.{Roots.{of_root, placed, shared_one, small_linked, unfounded}, Rows.{first_of, not_root}}
-use Rattle.mk_stack.specs.{Points.{holds, stack_plan}, Stack.left_by, declared.jobs.Done.Done, declared.jobs.Job.Job}
+use Rattle.mk_stack.specs.{Stack.{holds, stack_plan, left_by}, declared.jobs.{Done.Done, Job.Job}}
 use Rattle.mk_stack.specs.declared.points.Point.{Point}
 use Rattle.mk_stack.proofs.{Invariant.{Local, Rely, Shared, done_without, job_at}, Staying.{at_top, covered, taken}}
 

@@ -1,9 +1,9 @@
 //! A push and a pop by a caller of a stack, and a stack from first to last, with callers on threads of their own.
 ghost use Rattle.std.specs.Prelude.{◌≤◌, [], length, IfOk};
-ghost use Rattle.mk_core.specs.Config.{IsBetween};
-ghost use Rattle.mk_heap.specs.Reports.{history_of};
+ghost use Rattle.mk_core.specs.Moments.{IsBetween};
+ghost use Rattle.mk_heap.specs.Hosts.{history_of};
 ghost use Rattle.mk_jobs.specs.{Passes.{HasDone, IsReady}, Runs.{AreExplainedJobs, IsRun}};
-ghost use Rattle.mk_stack.specs.{Points.stack_plan, Stack.{HasNumbers, left_by, popped, pushed, stack_config}};
+ghost use Rattle.mk_stack.specs.Stack.{stack_plan, HasNumbers, left_by, popped, pushed, stack_config};
 
 use crate::jobs::{Done, Job};
 use crate::stacks::Stack;

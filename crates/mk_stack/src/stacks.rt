@@ -1,7 +1,7 @@
 //! The stack as points: the operation of each, and where its answers lead.
 ghost use Rattle.std.specs.Prelude.{ℕ, List, []};
 ghost use Rattle.mk_never.specs.NeverHeap.{NeverState};
-ghost use Rattle.mk_stack.specs.{Points.{stack_is_typed, stack_plan}, Stack.{HasNumbers, left_by}};
+ghost use Rattle.mk_stack.specs.Stack.{stack_is_typed, stack_plan, HasNumbers, left_by};
 
 use crate::jobs::{Done, Job};
 use crate::points::Point;

@@ -5,16 +5,16 @@ use Rattle.mk_sweep.proofs.Vocabulary.{Steady, Step, World, has_bit, is_marked, 
 use Rattle.mk_cycle.proofs.Below.Laws.Vocabulary.{Bool, IsEnabled, List, ℕ, ap, arith, cases_Bool, enabled_meets, false}
 use Rattle.mk_cycle.proofs.Below.Laws.Vocabulary.{false_from_ne_true, holder_number, inl, inr, is_one_of, list_any}
 use Rattle.mk_cycle.proofs.Below.Laws.Vocabulary.{refl, slice_index, subst, sym, true, true≢false, [], ◌++◌, ◌+◌, ◌<◌}
-use Rattle.mk_cycle.proofs.{Below.Laws.Vocabulary.{◌∙◌, ◌∷◌, ◌≡◌}, Below.Laws.Known.{Known, holds_turn, known_behind}}
-use Rattle.mk_cycle.proofs.{Below.Laws.OthersMoves.{OthersMove, WorldBehind, others_move}, Below.Laws.Actors.is_holders}
-use Rattle.mk_cycle.proofs.{Below.Laws.FramesHolders.acts_as_holder, Below.Laws.Orderly.{same_holder, turn_of}}
-use Rattle.mk_cycle.proofs.{Below.Laws.OrderlyLists.actor_of, Below.Laws.PrecisionStepKinds.both_fail}
-use Rattle.mk_cycle.proofs.{Below.Laws.Protocols.protocol_of, Below.Laws.Stretches.None_of}
-use Rattle.mk_cycle.proofs.{Below.Laws.TurnFrame.turn_after, Below.Laws.Views.{HoldsTurn, view_of}}
+use Rattle.mk_cycle.proofs.Below.Laws.{Vocabulary.{◌∙◌, ◌∷◌, ◌≡◌}, Known.{Known, holds_turn, known_behind}}
+use Rattle.mk_cycle.proofs.Below.Laws.{OthersMoves.{OthersMove, WorldBehind, others_move}, Actors.is_holders}
+use Rattle.mk_cycle.proofs.Below.Laws.{FramesHolders.acts_as_holder, Orderly.{same_holder, turn_of}}
+use Rattle.mk_cycle.proofs.Below.Laws.{OrderlyLists.actor_of, PrecisionStepKinds.both_fail}
+use Rattle.mk_cycle.proofs.Below.Laws.{Protocols.protocol_of, Stretches.None_of}
+use Rattle.mk_cycle.proofs.Below.Laws.{TurnFrame.turn_after, Views.{HoldsTurn, view_of}}
 use Rattle.mk_cycle.proofs.Below.Words.Seats.{has_first, not_both, same_self}
-use Rattle.mk_cycle.specs.{Tracing.OwnStepsKeep, Below.Words.Doing.AreOwnOrOfOthers}
-use Rattle.mk_core.specs.{Growing.{AreOfOthers, is_same_seat}, History.{AreEnabledFrom, left_from}}
-use Rattle.mk_sweep.specs.Unswept.{LeaveUnmarked, OthersLeaveUnmarked}
+use Rattle.mk_cycle.specs.{Tracing.OwnStepsKeep, Below.Words.Steps.AreOwnOrOfOthers}
+use Rattle.mk_core.specs.History.{AreOfOthers, is_same_seat, AreEnabledFrom, left_from}
+use Rattle.mk_sweep.specs.Sweeps.{LeaveUnmarked, OthersLeaveUnmarked}
 
 -- The turn word names a seat that may hold the turn, so it does.
 

@@ -3,10 +3,10 @@ use Rattle.mk_sweep.proofs.Vocabulary.{BlacksMore, Cell, CellsAreClosed, Config,
 use Rattle.mk_sweep.proofs.Vocabulary.{cells_under, has_bit, has_no_pointers, header_in, is_marked, still_words}
 use Rattle.mk_cycle.proofs.Below.Laws.Vocabulary.{Bool, ℕ, and_from, ap, arith, cases_lt, false, histories_keep_lengths}
 use Rattle.mk_cycle.proofs.Below.Laws.Vocabulary.{length, lt-ltb, nat_lt, refl, subst, sym, true, ◌&&◌, ◌+◌, ◌<◌, ◌^◌}
-use Rattle.mk_cycle.proofs.{Below.Laws.Vocabulary.{◌||◌, ◌∙◌, ◌≡◌}, Below.Laws.Tests.all_below_from}
+use Rattle.mk_cycle.proofs.Below.Laws.{Vocabulary.{◌||◌, ◌∙◌, ◌≡◌}, Tests.all_below_from}
 use Rattle.mk_cycle.specs.Grays.{is_black, with_blacks}
 use Rattle.mk_core.proofs.WordBits.{bit_for_has, bit_for_small, bits_added, bits_stay}
-use Rattle.mk_core.specs.{Cells.words_point_well, StopConditions.may_turn_black}
+use Rattle.mk_core.specs.{Cells.words_point_well, MarkingConditions.may_turn_black}
 
 pub blacks_same : (w v : Words) → v ≡ w → BlacksMore w v
 blacks_same w v e = subst (BlacksMore w) (sym e) (record { is = refl; grow = λ p k h. h })

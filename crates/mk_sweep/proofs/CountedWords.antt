@@ -9,7 +9,7 @@ use Rattle.mk_cycle.proofs.Below.Laws.Vocabulary.{leb-true, length, lt-ltb, ltb-
 use Rattle.mk_cycle.proofs.Below.Laws.Vocabulary.{subst, suc, sym, true, true≢false, zero, [], ◌&&◌, ◌*◌, ◌++◌, ◌+◌}
 use Rattle.mk_cycle.proofs.Below.Laws.Vocabulary.{◌<◌, ◌==◌, ◌∙◌, ◌∷◌, ◌≡◌, ◌≢◌, ◌≤◌, ◌⊎◌}
 use Rattle.mk_cycle.proofs.Below.Laws.CoveredWords.{one_part}
-use Rattle.mk_cycle.{proofs.SumsBelow.{counted_by_key, sum_same}, specs.ReleasedPages.{sum_below}}
+use Rattle.mk_cycle.{proofs.SumsBelow.{counted_by_key, sum_same}, specs.Freeing.{sum_below}}
 
 -- how often it stands there
 abbrev pub times : ℕ → List ℕ → ℕ

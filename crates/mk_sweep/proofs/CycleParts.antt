@@ -1,11 +1,11 @@
 -- The kinds of steps in the parts of a sweeping cycle; and what is swept where values and allocations are the same.
 use Rattle.mk_cycle.proofs.Below.Laws.Vocabulary.{Bool, List, ℕ, ap, arith, false, is_close, is_release, slice_index}
-use Rattle.mk_cycle.proofs.{Below.Laws.Vocabulary.{subst, sym, true, ◌∙◌, ◌≡◌}, Below.Laws.Actors.is_holders}
+use Rattle.mk_cycle.proofs.Below.Laws.{Vocabulary.{subst, sym, true, ◌∙◌, ◌≡◌}, Actors.is_holders}
 use Rattle.mk_sweep.proofs.Vocabulary.{Config, InGlobal, InRegister, InWord, IsScannedWord, IsSwept, IsSweptValue}
 use Rattle.mk_sweep.proofs.Vocabulary.{PlacedAllocation, Step, World, is_tracing}
 use Rattle.mk_sweep.proofs.BesideTurn.{LeaveTheMarks, LeaveTheTurn}
-use Rattle.mk_core.specs.Touched.{PointsIntoAllocation}
-use Rattle.mk_cycle.specs.Kinds.{holds_gates}
+use Rattle.mk_core.specs.Cycles.{PointsIntoAllocation}
+use Rattle.mk_cycle.specs.TurnKeeps.{holds_gates}
 
 -- What is swept in one world is swept in another with the same values and allocations.
 

@@ -3,9 +3,9 @@ use Rattle.mk_sweep.proofs.Vocabulary.{Event, PassState, Step, heap_looks}
 use Rattle.mk_cycle.proofs.Below.Laws.Vocabulary.{Bool, List, and_parts, ap, append-nil, append_assoc, arith, refl, sym}
 use Rattle.mk_cycle.proofs.{Below.Laws.Vocabulary.{true, [], ◌++◌, ◌∙◌, ◌∷◌, ◌≡◌}, Parts.{done_by_one, more_in_parts}}
 use Rattle.mk_cycle.proofs.{Parts.{more_of_nothing, more_of_step}, Below.Words.Doing.done_in_parts}
-use Rattle.mk_cycle.specs.{Tracing.is_waiting, Below.Words.Doing.{Does, are_of, done_in}, Below.Words.Steps.Makes}
-use Rattle.mk_core.specs.Growing.{Finding, own_from}
-use Rattle.mk_sweep.specs.Sweeping.{word_looked_at, words_looked_at}
+use Rattle.mk_cycle.specs.{Tracing.is_waiting, Below.Words.Steps.{Does, are_of, done_in, Makes}}
+use Rattle.mk_core.specs.History.{Finding, own_from}
+use Rattle.mk_sweep.specs.Sweeps.{word_looked_at, words_looked_at}
 
 looked_at_in_parts : (xs ys : List Finding) → words_looked_at (xs ++ ys) ≡ words_looked_at xs ++ words_looked_at ys
 looked_at_in_parts [] ys = refl

@@ -5,14 +5,14 @@ use Rattle.mk_sweep.proofs.Vocabulary.{Cell, Config, Event, IsHistory, IsScanned
 use Rattle.mk_sweep.proofs.Vocabulary.{Words, cell_of_allocation, cell_words, first_word, header_in, left, placed_at}
 use Rattle.mk_sweep.proofs.{Vocabulary.{storage_words, words_below, words_under}, CountedWords.{HasOnPage, all_words}}
 use Rattle.mk_sweep.proofs.CountedWords.{in_range_from, in_range_is, is_in_range, length_of_all, pages_found}
-use Rattle.mk_sweep.{proofs.CountedWords.{pages_once, same_length, times, times_in_all}, specs.Swept.{scanned_words}}
+use Rattle.mk_sweep.{proofs.CountedWords.{pages_once, same_length, times, times_in_all}, specs.Sweeps.{scanned_words}}
 use Rattle.mk_sweep.proofs.ScannedCells.{scanned_stands, used_cell}
 use Rattle.mk_cycle.proofs.Below.Laws.Vocabulary.{Bool, List, ℕ, and_from, and_parts, ap, arith, cases_eq, false, inl}
 use Rattle.mk_cycle.proofs.Below.Laws.Vocabulary.{inr, length, never_granted, refl, sym, true, true≢false, ◌&&◌, ◌*◌}
 use Rattle.mk_cycle.proofs.Below.Laws.Vocabulary.{◌+◌, ◌<◌, ◌∙◌, ◌≡◌, ◌≢◌, ◌≤◌}
 use Rattle.mk_cycle.proofs.Below.Laws.InvariantHistories.{allocations_are_disjoint, allocations_stand}
 use Rattle.mk_cycle.proofs.{Below.Laws.MappedWords.mapped_stays, SumsBelow.one_if_any}
-use Rattle.mk_core.specs.ClosedMarks.{is_scanned_allocation}
+use Rattle.mk_core.specs.Cycles.{is_scanned_allocation}
 
 module _ {c : Config} {es : List Event} (h : IsHistory c es) (settled : IsSettled (left c es)) where
   abbrev w : Words

@@ -8,9 +8,9 @@ use Rattle.mk_cycle.proofs.Below.Laws.Vocabulary.{false≢true, leb-true, ltb-tr
 use Rattle.mk_cycle.proofs.Below.Laws.Vocabulary.{◌&&◌, ◌++◌, ◌∷◌, ◌≡◌}
 use Rattle.mk_core.proofs.Schedules.{by, c0, fault, first_fault, host, pointer_page}
 use Rattle.mk_core.proofs.SmallCycles.{begun_in_stop, by_host, marked_in_stop, three_objects}
-use Rattle.mk_core.proofs.{EvaluatedReach.below_two, ListTests.list_all-at, ListTests.numbered_all}
-use Rattle.mk_core.proofs.{MoreSchedules.exchanged, TouchedTests.is_into_members, TouchedTests.points_into}
-use Rattle.mk_core.specs.{Bounded.all_below, Cells.pointed_cell, History.left_from, StopConditions.may_turn_black}
+use Rattle.mk_core.proofs.{EvaluatedReach.below_two, ListTests.{list_all-at, numbered_all}}
+use Rattle.mk_core.proofs.{MoreSchedules.exchanged, TouchedTests.{is_into_members, points_into}}
+use Rattle.mk_core.specs.{Words.all_below, Cells.pointed_cell, History.left_from, MarkingConditions.may_turn_black}
 
 -- Whatever these words point into is a member of the set: as a test.
 abbrev pub all_into : Config → World → (ℕ → Bool) → List ℕ → Bool

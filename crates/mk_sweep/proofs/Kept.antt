@@ -1,7 +1,7 @@
 -- What the law of engines asks on entry, and what a stop keeps of it.
 use Rattle.mk_sweep.proofs.Vocabulary.{PassState, Untouched, Words, now_of, untouched_of, world_of}
 use Rattle.mk_cycle.proofs.Below.Laws.Vocabulary.{Bool, ap, true, ◌∙◌, ◌≡◌}
-use Rattle.mk_cycle.specs.Below.Laws.SettledPages.{is_freed_unmapped}
+use Rattle.mk_cycle.specs.Below.Laws.Theorems.{is_freed_unmapped}
 pub use Rattle.mk_cycle.proofs.TracedMarks.{ready_of}
 
 unmapped_as : Words → Untouched → Bool

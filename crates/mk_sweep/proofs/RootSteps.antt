@@ -1,6 +1,6 @@
 -- Roots that a sweep marks from, one after the other.
 use Rattle.mk_sweep.proofs.Vocabulary.{MarksMore, SweepsOn, TurnState, points_well, still_words}
-use Rattle.mk_sweep.{proofs.SweepSteps.{quiet_then, sweeps_from}, specs.Sweeping.{IsSweeping}}
+use Rattle.mk_sweep.{proofs.SweepSteps.{quiet_then, sweeps_from}, specs.Sweeps.{IsSweeping}}
 use Rattle.mk_cycle.proofs.{Below.Laws.Vocabulary.{Word, ℕ, refl, true, [], ◌+◌, ◌≡◌}, MoreMarks.more_same}
 use Rattle.mk_cycle.{proofs.RootMarks.{RootsMarked, next_root, no_root_yet}, specs.Stops.{is_root}}
 use Rattle.mk_core.specs.Words.{named_word}

@@ -14,16 +14,16 @@ use Rattle.mk_cycle.proofs.Below.Laws.Vocabulary.{not-true, object_now, object_p
 use Rattle.mk_cycle.proofs.Below.Laws.Vocabulary.{part_has_no_pointers, refl, small_heads_none, subst, sym, true}
 use Rattle.mk_cycle.proofs.Below.Laws.Vocabulary.{true≢false, typed_size, unmapped_is_unmapped, words_are_zero}
 use Rattle.mk_cycle.proofs.Below.Laws.Vocabulary.{words_within, ◌&&◌, ◌++◌, ◌+◌, ◌/◌, ◌<◌, ◌==◌, ◌||◌, ◌∙◌, ◌≡◌, ◌≢◌}
-use Rattle.mk_cycle.proofs.{Below.Laws.Vocabulary.◌⊎◌, Below.Laws.Claims.{claim_among, claim_is}}
+use Rattle.mk_cycle.proofs.Below.Laws.{Vocabulary.◌⊎◌, Claims.{claim_among, claim_is}}
 use Rattle.mk_cycle.proofs.Below.Laws.InvariantHistories.{allocations_stand, histories_keep_the_invariant}
-use Rattle.mk_cycle.proofs.{Below.Laws.FreeWords.free_cells_are_zero, Below.Laws.Freed.gone_terrain}
-use Rattle.mk_cycle.proofs.{Below.Laws.KnownWorlds.{KnownWorld, known_world}, Below.Laws.MappedWords.mapped_stays}
-use Rattle.mk_cycle.proofs.{Below.Laws.ReadingsStands.freed_cell, Below.Laws.Serving.{Laid, own_claim}}
-use Rattle.mk_cycle.proofs.{Below.Laws.Settled.{unmapped_run, unreleased_are_apart}, Below.Laws.TellGuard.guard_in}
-use Rattle.mk_cycle.proofs.{Below.Laws.LayoutScene.Unmapped, Below.Laws.Terrain.IsCellOf}
-use Rattle.mk_cycle.specs.Below.Laws.SettledPages.{StandsUsed}
+use Rattle.mk_cycle.proofs.Below.Laws.{FreeWords.free_cells_are_zero, Freed.gone_terrain}
+use Rattle.mk_cycle.proofs.Below.Laws.{KnownWorlds.{KnownWorld, known_world}, MappedWords.mapped_stays}
+use Rattle.mk_cycle.proofs.Below.Laws.{ReadingsStands.freed_cell, Serving.{Laid, own_claim}}
+use Rattle.mk_cycle.proofs.Below.Laws.{Settled.{unmapped_run, unreleased_are_apart}, TellGuard.guard_in}
+use Rattle.mk_cycle.proofs.Below.Laws.{LayoutScene.Unmapped, Terrain.IsCellOf}
+use Rattle.mk_cycle.specs.Below.Laws.Theorems.{StandsUsed}
 use Rattle.mk_core.proofs.{PointedAllocations.{cell_word_is_its_own, taken_cell_is}, StandingAllocations.cell_is_known}
-use Rattle.mk_core.specs.{Cells.is_used, ClosedMarks.is_scanned_allocation, Effects.{is_mapped_cell, is_ungranted}}
+use Rattle.mk_core.specs.{Cells.is_used, Cycles.is_scanned_allocation, Effects.{is_mapped_cell, is_ungranted}}
 
 -- the mapped allocation that isn't leaf and has this cell
 pub record OfScanned (c : Config) (xs : List PlacedAllocation) (cell : Cell) : Type 0 where

@@ -2,10 +2,10 @@
 use Rattle.mk_sweep.proofs.Vocabulary.{AreOfOthers, Config, Event, IsHistory, PlacedAllocation, TurnState}
 use Rattle.mk_sweep.proofs.{Vocabulary.{Words, World, left, placed_at, world_of}, CycleParts.swept_alike}
 use Rattle.mk_cycle.{proofs.Below.Laws.Vocabulary.{List, Steady, ap, sym, ◌++◌, ◌∙◌, ◌≡◌}, specs.Stops.{IsWanted}}
-use Rattle.mk_cycle.proofs.{Below.Laws.ProtocolFrames.others_leave, Below.Words.Seats.others_own}
+use Rattle.mk_cycle.proofs.Below.{Laws.ProtocolFrames.others_leave, Words.Seats.others_own}
 use Rattle.mk_cycle.proofs.Stilled.{but_phase, words_left}
-use Rattle.mk_core.specs.ClosedMarks.{is_marked_allocation}
-use Rattle.mk_sweep.specs.Swept.{SweptAreMarked}
+use Rattle.mk_core.specs.Cycles.{is_marked_allocation}
+use Rattle.mk_sweep.specs.Sweeps.{SweptAreMarked}
 
 pub still_marked : (c : Config) {w v : World} → but_phase v.now.words ≡ but_phase w.now.words
     → v.allocations ≡ w.allocations → SweptAreMarked c w → SweptAreMarked c v

@@ -10,20 +10,20 @@ use Rattle.mk_sweep.proofs.CycleParts.{close_apart, close_of_holder, holding_lea
 use Rattle.mk_sweep.proofs.CycleParts.{looking_leaves_marks, looking_leaves_turn, no_kind, nothing_leaves_marks}
 use Rattle.mk_sweep.proofs.CycleParts.{nothing_leaves_turn, only_looks, release_apart, release_of_holder, swept_alike}
 use Rattle.mk_sweep.proofs.{CycleParts.tracing_leaves_turn, UnsweptReleased.unswept_is_released}
-use Rattle.mk_sweep.specs.Unswept.{LeaveUnmarked, OthersLeaveUnmarked}
+use Rattle.mk_sweep.specs.Sweeps.{LeaveUnmarked, OthersLeaveUnmarked}
 use Rattle.mk_cycle.proofs.Below.Laws.Vocabulary.{Bool, IsLeft, List, Releasing, ℕ, and_parts, ap, append_assoc, arith}
 use Rattle.mk_cycle.proofs.Below.Laws.Vocabulary.{before_close, earlier_part_is_history, enabled_in_parts}
 use Rattle.mk_cycle.proofs.Below.Laws.Vocabulary.{enabled_meets, false, false_from_ne_true, is_close, is_release}
 use Rattle.mk_cycle.proofs.Below.Laws.Vocabulary.{left_from, left_in_parts, not, not-true, refl, subst, sym, true, []}
-use Rattle.mk_cycle.{proofs.Below.Laws.Vocabulary.{◌++◌, ◌∙◌, ◌∷◌, ◌≡◌}, proofs.Below.Words.Seats.{others_own}}
+use Rattle.mk_cycle.proofs.Below.{Laws.Vocabulary.{◌++◌, ◌∙◌, ◌∷◌, ◌≡◌}, Words.Seats.others_own}
 use Rattle.mk_cycle.proofs.Below.Laws.ReadingsKeptPlaces.{StaysPut, keeps_cell, put_step, stays_put}
-use Rattle.mk_cycle.proofs.{Below.Laws.CyclePhases.phase_moves, Below.Laws.FramesHolders.{acts_as_holder, holds_is}}
-use Rattle.mk_cycle.proofs.{Below.Laws.Known.{Known, known_left}, Below.Laws.KnownWorlds.known_world}
-use Rattle.mk_cycle.proofs.{Below.Laws.LastEvents.{ComesLast, comes_last}, Below.Laws.OneStep.precise_begun}
-use Rattle.mk_cycle.proofs.{Below.Laws.OrderlyLists.actor_of, Below.Laws.OthersMoves.WorldBehind}
-use Rattle.mk_cycle.proofs.{Below.Laws.Precise.IsPrecise, Below.Laws.ProtocolFrames.others_leave}
+use Rattle.mk_cycle.proofs.Below.Laws.{CyclePhases.phase_moves, FramesHolders.{acts_as_holder, holds_is}}
+use Rattle.mk_cycle.proofs.Below.Laws.{Known.{Known, known_left}, KnownWorlds.known_world}
+use Rattle.mk_cycle.proofs.Below.Laws.{LastEvents.{ComesLast, comes_last}, OneStep.precise_begun}
+use Rattle.mk_cycle.proofs.Below.Laws.{OrderlyLists.actor_of, OthersMoves.WorldBehind}
+use Rattle.mk_cycle.proofs.Below.Laws.{Precise.IsPrecise, ProtocolFrames.others_leave}
 use Rattle.mk_cycle.proofs.{Below.Laws.Stretches.{None_of, none_joined}, Parts.{kinds_keep, others_keep}}
-use Rattle.mk_cycle.specs.{Below.Laws.Releases.allocation_behind, Tracing.OwnStepsKeep, Kinds.holds_gates}
+use Rattle.mk_cycle.specs.{Below.Laws.Releases.allocation_behind, Tracing.OwnStepsKeep, TurnKeeps.holds_gates}
 use Rattle.mk_core.specs.Cycles.{IsInSnapshot}
 
 module _ {p : PassState} {looks : ℕ} {es : List Event} (has : Has p.seats p.seat)

@@ -7,9 +7,9 @@ use Rattle.mk_cycle.proofs.Below.Laws.Vocabulary.{Bool, List, ℕ, and_from, and
 use Rattle.mk_cycle.proofs.Below.Laws.Vocabulary.{not, subst, true, [], ◌++◌, ◌||◌, ◌∙◌, ◌∷◌, ◌≡◌}
 use Rattle.mk_cycle.proofs.{Below.Words.Sweeping.{only_seen, only_seen_by}, GivingAll.held_phase, HeldFirst.own_kinds}
 use Rattle.mk_cycle.proofs.Stilled.{but_phase}
-use Rattle.mk_cycle.specs.{Begun.are_own_of, Closing.IsClosedBy, EngineLaw.IsAtPhase, Kinds.holds_gates}
-use Rattle.mk_cycle.specs.{Releasing.MakesRelease, Tracing.OwnStepsKeep, Below.Words.Doing.Does}
-use Rattle.mk_core.specs.Growing.{is_same_seat}
+use Rattle.mk_cycle.specs.{BeginCycle.are_own_of, Stops.IsClosedBy, EngineLaw.IsAtPhase, TurnKeeps.holds_gates}
+use Rattle.mk_cycle.specs.{FinishCycle.MakesRelease, Tracing.OwnStepsKeep, Below.Words.Steps.Does}
+use Rattle.mk_core.specs.History.{is_same_seat}
 
 -- five parts of a list, one after the other
 pub in_five : (a b d e f held swept looked : List Event) → held ≡ a ++ b → swept ≡ held ++ d → looked ≡ swept ++ e

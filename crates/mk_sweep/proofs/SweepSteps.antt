@@ -11,17 +11,17 @@ use Rattle.mk_cycle.proofs.Below.Laws.Vocabulary.{and_from, and_parts, ap, appen
 use Rattle.mk_cycle.proofs.Below.Laws.Vocabulary.{if◌then◌else◌, lt-ltb, ne_eqb, or_else, page_at_address, refl}
 use Rattle.mk_cycle.proofs.Below.Laws.Vocabulary.{slice_index, subst, sym, true, word_points, [], ◌&&◌, ◌*◌, ◌++◌, ◌+◌}
 use Rattle.mk_cycle.proofs.Below.Laws.Vocabulary.{◌<◌, ◌^◌, ◌∙◌, ◌∷◌, ◌≡◌}
-use Rattle.mk_cycle.proofs.{Below.Laws.InvariantHistories.allocations_stand, Below.Laws.MappedWords.mapped_stays}
+use Rattle.mk_cycle.proofs.Below.Laws.{InvariantHistories.allocations_stand, MappedWords.mapped_stays}
 use Rattle.mk_cycle.proofs.{MaySteps.{marks_by, may_look, may_mark_by_hand}, Stilled.{but_phase, found_now, hand_now}}
 use Rattle.mk_cycle.proofs.Stilled.{is_stopped_step, look_words, phase_there, root_hand, still_wanted, stopped_traces}
 use Rattle.mk_cycle.proofs.{Stilled.words_there, Parts.{traces_alike, traces_nothing, traces_then}}
 use Rattle.mk_cycle.proofs.{Steps.step_untouched, Below.Words.PointedCells.{found_there, looked_for}}
 use Rattle.mk_cycle.specs.{Stops.{IsWanted, hand_of, is_page_word, is_root}, Tracing.{Traces, is_marking}}
-use Rattle.mk_cycle.specs.{Below.Words.Pointing.{LooksForCell, MayLookAtHeaders}, Below.Words.Steps.Finds}
+use Rattle.mk_cycle.specs.Below.Words.{TurnSteps.{LooksForCell, MayLookAtHeaders}, Steps.Finds}
 use Rattle.mk_cycle.specs.Below.Words.TurnSteps.{world_at}
 use Rattle.mk_core.{proofs.PointedPages.{pointed_within}, specs.declared.seats.Source.TheVariants.{Marked, Unmarked}}
-use Rattle.mk_core.specs.{Effects.{hand_given, is_in_stop, is_mapped_cell}, Ranges.is_word, Words.named_word}
-use Rattle.mk_sweep.specs.{Sweeping.{HasInHand, IsReachedCell, IsSweeping, word_looked_at}, Swept.IsSweptCell}
+use Rattle.mk_core.specs.{Effects.{hand_given, is_in_stop, is_mapped_cell}, Conditions.is_word, Words.named_word}
+use Rattle.mk_sweep.specs.Sweeps.{HasInHand, IsReachedCell, IsSweeping, word_looked_at, IsSweptCell}
 
 -- Where values and allocations are the same, so is what a sweep looks at and marks.
 module _ (c : Config) (v w : World) (same : untouched_of v ≡ untouched_of w) where

@@ -6,17 +6,17 @@ use Rattle.mk_sweep.proofs.Vocabulary.{is_tracing, now_of, phase_of, placed_at, 
 use Rattle.mk_sweep.proofs.{Vocabulary.world_of, EachOnce.{as_many, looked_at_once, never_twice}}
 use Rattle.mk_sweep.proofs.{SweepSteps.{rule_alike, settled_kept, word_alike}, CountedWords.{some_there, times}}
 use Rattle.mk_sweep.proofs.{Done.{looks_in_parts, looks_of_waiting}, StillMarked.others_leave_marked}
-use Rattle.mk_sweep.specs.{Sweeping.IsSweeping, Swept.{scanned_words, SweptAreMarked}}
+use Rattle.mk_sweep.specs.Sweeps.{IsSweeping, scanned_words, SweptAreMarked}
 use Rattle.mk_cycle.proofs.Below.Laws.Vocabulary.{ℕ, ap, arith, length, ne_eqb, slice_index, subst, sym, true, ◌++◌}
-use Rattle.mk_cycle.proofs.{Below.Laws.Vocabulary.{◌<◌, ◌∙◌, ◌≡◌, ◌≤◌}, Below.Laws.InvariantHistories.allocations_stand}
+use Rattle.mk_cycle.proofs.Below.Laws.{Vocabulary.{◌<◌, ◌∙◌, ◌≡◌, ◌≤◌}, InvariantHistories.allocations_stand}
 use Rattle.mk_cycle.proofs.{Below.Laws.Settled.gone_is_unmapped, TracedMarks.{closing_kind, keeps_turn, same_count}}
 use Rattle.mk_cycle.proofs.Parts.{counted_by_kinds, counted_wider, traces_alike}
 use Rattle.mk_cycle.proofs.{Closes.{marks_closed_now, may_close_now}, NoGrays.no_gray}
-use Rattle.mk_cycle.{proofs.Wants.{wanted_once_then, wants_by}, specs.{EngineLaw.WantsFirst, Kinds.closes_marks}}
+use Rattle.mk_cycle.{proofs.Wants.{wanted_once_then, wants_by}, specs.{EngineLaw.WantsFirst, TurnKeeps.closes_marks}}
 use Rattle.mk_cycle.specs.{Tracing.{Counted, is_marking, is_waiting, is_want}, Grays.TracesReached, Stops.IsWanted}
-use Rattle.mk_cycle.specs.{Below.Words.Doing.{Does, done_in}, Telling.IsToldOf, EngineLaw.{ClosesMarks, IsFreeForCycle}}
+use Rattle.mk_cycle.specs.{Below.Words.Steps.{Does, done_in}, Stops.IsToldOf, EngineLaw.{ClosesMarks, IsFreeForCycle}}
 use Rattle.mk_core.proofs.PointedAllocations.{marked_where_its_cell_is, points_well_where_marked}
-use Rattle.mk_core.specs.ClosedMarks.{is_marked_allocation}
+use Rattle.mk_core.specs.Cycles.{is_marked_allocation}
 
 -- Waiting keeps to the rule of every sweep.
 waits : (w : World) (c : Config) (m : Moment) (s : Step) → is_waiting s ≡ true → SweepsBy w c m s

@@ -1,7 +1,7 @@
 -- A sweep over lists of words, one after the other.
 use Rattle.mk_sweep.proofs.Vocabulary.{MarksMore, SweepsOn, TurnState, Words, points_well, still_words}
 use Rattle.mk_sweep.proofs.{SweepSteps.{sweeps_from, sweeps_then, then_quiet}, WordLists.{both_well, none_well}}
-use Rattle.mk_sweep.{proofs.WordLists.{one_well}, specs.Sweeping.{IsSweeping, SweepsWords}}
+use Rattle.mk_sweep.{proofs.WordLists.{one_well}, specs.Sweeps.{IsSweeping, SweepsWords}}
 use Rattle.mk_cycle.proofs.Below.Laws.Vocabulary.{List, ℕ, arith, slice_index, subst, true, [], ◌++◌, ◌∷◌, ◌≡◌}
 use Rattle.mk_cycle.proofs.MoreMarks.{more_same, more_then}
 

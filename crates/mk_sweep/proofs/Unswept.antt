@@ -4,9 +4,9 @@ use Rattle.mk_sweep.proofs.Vocabulary.{has_bit, is_marked, is_tracing, never_beh
 use Rattle.mk_cycle.proofs.Below.Laws.Vocabulary.{List, ℕ, arith, bit_or, cases_Bool, false, false_from_ne_true, inl}
 use Rattle.mk_cycle.proofs.Below.Laws.Vocabulary.{inr, left_in_parts, slice_index, slice_set, true, [], ◌∷◌, ◌≡◌}
 use Rattle.mk_cycle.{proofs.Below.Laws.InvariantHistories.{histories_keep_the_invariant}, specs.Tracing.{OwnStepsKeep}}
-use Rattle.mk_cycle.proofs.{Below.Laws.KnownWorlds.known_world, Below.Laws.Worlds.comes_back, Parts.kinds_keep}
-use Rattle.mk_core.{proofs.WordBits.{bit_of_power, more_bits}, specs.{Growing.is_same_seat, History.left_from}}
-use Rattle.mk_sweep.specs.{Swept.{IsSweptCell, MarksSwept}, Unswept.{OthersLeaveUnmarked, UnsweptStaysUnmarked}}
+use Rattle.mk_cycle.proofs.{Below.Laws.{KnownWorlds.known_world, Worlds.comes_back}, Parts.kinds_keep}
+use Rattle.mk_core.{proofs.WordBits.{bit_of_power, more_bits}, specs.{History.is_same_seat, History.left_from}}
+use Rattle.mk_sweep.specs.Sweeps.{IsSweptCell, MarksSwept, OthersLeaveUnmarked, UnsweptStaysUnmarked}
 
 -- an own step is a tracing one
 abbrev IsTracing : Config → Moment → Step → Type 0

@@ -5,12 +5,12 @@ use Rattle.mk_sweep.proofs.{Vocabulary.{world_behind, world_of}, Unswept.unswept
 use Rattle.mk_cycle.proofs.Below.Laws.Vocabulary.{List, ℕ, ap, cases_Bool, false, inl, inr, left_in_parts, length, refl}
 use Rattle.mk_cycle.proofs.Below.Laws.Vocabulary.{subst, sym, true≢false, [], ◌++◌, ◌<◌, ◌∙◌, ◌∷◌, ◌≡◌}
 use Rattle.mk_cycle.proofs.Below.Laws.Ground.{AreOfOne, allocation_step, goes_on, is_there, of_one_joined}
-use Rattle.mk_cycle.proofs.{Below.Laws.OlderAllocations.{AreOlder, older_behind}, Below.Laws.Marking.{More, one_more}}
+use Rattle.mk_cycle.proofs.Below.Laws.{OlderAllocations.{AreOlder, older_behind}, Marking.{More, one_more}}
 use Rattle.mk_cycle.proofs.Below.Laws.PrecisionStepKinds.{is_grant, release_is}
-use Rattle.mk_cycle.proofs.{Below.Laws.Releases.releases_are_exact, Below.Laws.Stretches.{at_release, history_through}}
+use Rattle.mk_cycle.proofs.Below.Laws.{Releases.releases_are_exact, Stretches.{at_release, history_through}}
 use Rattle.mk_cycle.specs.Below.Laws.Releases.{allocation_before, allocation_behind}
 use Rattle.mk_core.specs.History.{left_from}
-use Rattle.mk_sweep.specs.Unswept.{LeaveUnmarked, UnsweptIsReleased}
+use Rattle.mk_sweep.specs.Sweeps.{LeaveUnmarked, UnsweptIsReleased}
 
 same_cell : (c : Config) {a b : PlacedAllocation} → AreOfOne a b → cell_of_allocation c b ≡ cell_of_allocation c a
 same_cell c one = cc (one.base, one.ty)

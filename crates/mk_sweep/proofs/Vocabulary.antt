@@ -8,10 +8,10 @@ pub use Rattle.mk_cycle.proofs.Below.Laws.Vocabulary.{never_behind, world_behind
 pub use Rattle.mk_cycle.proofs.Below.Laws.Vocabulary.{others_are_held, Holds, Words, header_at, phase_of, register_word}
 pub use Rattle.mk_cycle.proofs.Below.Laws.Vocabulary.{used_at, Config, Event, Seat, Caller, Host, Marker, Step}
 pub use Rattle.mk_cycle.proofs.Below.Laws.Vocabulary.{header_of, Cell}
-pub use Rattle.mk_cycle.specs.{Below.Laws.{ClosedCells.CellsAreClosed, SettledPages.IsSettled}, Grays.MarksMore}
-pub use Rattle.mk_cycle.specs.{Stops.still_words, Tracing.{Untouched, is_tracing, untouched_of}, Below.Words.Seats.Has}
+pub use Rattle.mk_cycle.specs.{Below.Laws.{Theorems.CellsAreClosed, Theorems.IsSettled}, Grays.MarksMore}
+pub use Rattle.mk_cycle.specs.{Stops.still_words, Tracing.{Untouched, is_tracing, untouched_of}, Below.Words.States.Has}
 pub use Rattle.mk_cycle.specs.Below.Words.States.{PassState, TurnState, WordsState, event_of, now_of, world_of}
-pub use Rattle.mk_cycle.specs.{Below.Words.Steps.IsEnabledTo, Below.Words.TurnSteps.Acts}
-pub use Rattle.mk_sweep.specs.{SweepCycle.HasMarkers, Sweeping.{BlacksMore, PageIsBlack, PointWell, SweepsOn}}
-pub use Rattle.mk_sweep.specs.{Sweeping.{heap_looks, words_below, words_if, words_of_cells, words_on}, Sweeps.Sweeps}
-pub use Rattle.mk_sweep.specs.Swept.{InGlobal, InRegister, InWord, IsScannedWord, IsSwept, IsSweptValue, SweepsBy}
+pub use Rattle.mk_cycle.specs.Below.Words.{Steps.IsEnabledTo, TurnSteps.Acts}
+pub use Rattle.mk_sweep.specs.Sweeps.{HasMarkers, BlacksMore, PageIsBlack, PointWell, SweepsOn}
+pub use Rattle.mk_sweep.specs.Sweeps.{heap_looks, words_below, words_if, words_of_cells, words_on, Sweeps}
+pub use Rattle.mk_sweep.specs.Sweeps.{InGlobal, InRegister, InWord, IsScannedWord, IsSwept, IsSweptValue, SweepsBy}

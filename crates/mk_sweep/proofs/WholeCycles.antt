@@ -5,10 +5,10 @@ use Rattle.mk_sweep.proofs.SweepParts.{NoneOfMarkers, SweepParts, SweepsThenLook
 use Rattle.mk_cycle.proofs.Below.Laws.Vocabulary.{List, ℕ, append-nil, append_assoc, arith, refl, subst, sym, true}
 use Rattle.mk_cycle.proofs.Below.Laws.Vocabulary.{[], ◌++◌, ◌∷◌, ◌≡◌}
 use Rattle.mk_cycle.proofs.Below.Words.Doing.{does_nothing, others_are_so}
-use Rattle.mk_cycle.specs.{Begun.{DoesNothing, IsBegunLast}, Closing.IsClosedBy, EngineLaw.IsAtPhase}
+use Rattle.mk_cycle.specs.{BeginCycle.{DoesNothing, IsBegunLast}, Stops.IsClosedBy, EngineLaw.IsAtPhase}
 use Rattle.mk_cycle.specs.Below.Laws.Releases.{allocation_behind}
 use Rattle.mk_core.specs.{Cycles.{IsInSnapshot, before_close}, History.left}
-use Rattle.mk_sweep.specs.{SweepCycle.ReleasesUnswept, Swept.IsSwept}
+use Rattle.mk_sweep.specs.Sweeps.{ReleasesUnswept, IsSwept}
 
 module _ (p b q : PassState) (looks : ℕ) (same : b ≡ record p { seen = b.seen })
     (last : IsBegunLast DoesNothing p b) (phase : IsAtPhase b 1)

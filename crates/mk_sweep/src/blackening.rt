@@ -1,8 +1,8 @@
 //! After the sweep each marked cell is blackened: its words were looked at, or are 0, or aren't scanned.
 ghost use Rattle.std.specs.Prelude.{◌≡◌, ℕ, ◌<◌, ◌≤◌, [], true, slice_index};
-ghost use Rattle.mk_core.specs.{Cells.{cells_under, header_in}, StopConditions.may_turn_black};
-ghost use Rattle.mk_cycle.specs.{Below.Laws.ClosedCells.CellsAreClosed, Grays.is_black, Stops.still_words};
-ghost use Rattle.mk_sweep.specs.Sweeping.{BlacksMore, IsSweeping, PageIsBlack, SweepsOn};
+ghost use Rattle.mk_core.specs.{Cells.{cells_under, header_in}, MarkingConditions.may_turn_black};
+ghost use Rattle.mk_cycle.specs.{Below.Laws.Theorems.CellsAreClosed, Grays.is_black, Stops.still_words};
+ghost use Rattle.mk_sweep.specs.Sweeps.{BlacksMore, IsSweeping, PageIsBlack, SweepsOn};
 
 use crate::stepping::look_at;
 use mk_core::{Word, bit, cells_under, has_bit};

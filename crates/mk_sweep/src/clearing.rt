@@ -1,7 +1,7 @@
 //! Before a sweep all black words are cleared, and then all dirty words.
 ghost use Rattle.std.specs.Prelude.{◌≡◌, ℕ, ◌<◌, [], slice_index};
 ghost use Rattle.mk_cycle.specs.{Grays.{BlacksFewer, DirtyFewer}, Stops.still_words};
-ghost use Rattle.mk_sweep.specs.Sweeping.{IsSweeping, SweepsOn};
+ghost use Rattle.mk_sweep.specs.Sweeps.{IsSweeping, SweepsOn};
 
 use mk_cycle::lower::words::{Stopped, Words};
 

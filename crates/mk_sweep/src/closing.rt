@@ -1,9 +1,9 @@
 //! What the engine does in the stop: it wants the close, and sweeps until the marks may be closed.
 ghost use Rattle.std.specs.Prelude.{◌≡◌, ℕ, ◌<◌, length, slice_index};
 ghost use Rattle.mk_cycle.specs.EngineLaw.{ClosesMarks, IsAtPhase, IsFreeForCycle};
-ghost use Rattle.mk_cycle.specs.{Below.Laws.ClosedCells.CellsAreClosed, Stops.still_words, Telling.IsToldOf};
-ghost use Rattle.mk_sweep.specs.{Sweeping.{IsSweeping, PageIsBlack, PointWell, SweepsOn, words_below}, Sweeps.Sweeps};
-ghost use Rattle.mk_sweep.specs.Swept.{SweptAreMarked};
+ghost use Rattle.mk_cycle.specs.{Below.Laws.Theorems.CellsAreClosed, Stops.{still_words, IsToldOf}};
+ghost use Rattle.mk_sweep.specs.Sweeps.{IsSweeping, PageIsBlack, PointWell, SweepsOn, words_below, Sweeps};
+ghost use Rattle.mk_sweep.specs.Sweeps.{SweptAreMarked};
 
 use crate::blackening::blacken_all;
 use crate::clearing::{unblack_all, undirty_all};

@@ -1,7 +1,7 @@
 //! Whole cycles.
 ghost use Rattle.std.specs.Prelude.{◌≡◌};
 ghost use Rattle.mk_cycle.specs.EngineLaw.{IsFreeForCycle, IsAtPhase};
-ghost use Rattle.mk_sweep.specs.SweepCycle.{HasMarkers, MakesWholeCycle, ReleasesUnswept};
+ghost use Rattle.mk_sweep.specs.Sweeps.{HasMarkers, MakesWholeCycle, ReleasesUnswept};
 
 use crate::sweep_engine::SweepEngine;
 use mk_cycle::lower::words::{Turn, Words};

@@ -1,5 +1,5 @@
 //! Laws of sweeps: facts, without code.
-ghost use Rattle.mk_sweep.specs.Unswept.{UnsweptStaysUnmarked, UnsweptIsReleased};
+ghost use Rattle.mk_sweep.specs.Sweeps.{UnsweptStaysUnmarked, UnsweptIsReleased};
 
 /// What isn't swept is unmarked after a sweep, if it was so before and no other seat marks it meanwhile.
 pub fn what_is_not_swept_stays_unmarked()

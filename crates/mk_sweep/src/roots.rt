@@ -1,9 +1,9 @@
 //! Marks from the roots: the registers and the globals.
 ghost use Rattle.std.specs.Prelude.{◌≡◌, ℕ, ◌<◌, [], true};
-ghost use Rattle.mk_core.specs.{Cells.points_well, Ranges.is_word, Words.named_word};
+ghost use Rattle.mk_core.specs.{Cells.points_well, Conditions.is_word, Words.named_word};
 ghost use Rattle.mk_cycle.specs.Grays.{GlobalIsWell, RegistersAreWell, MarksMore, RootsPointWell};
 ghost use Rattle.mk_cycle.specs.Stops.{is_root, still_words};
-ghost use Rattle.mk_sweep.specs.Sweeping.{IsSweeping, SweepsOn};
+ghost use Rattle.mk_sweep.specs.Sweeps.{IsSweeping, SweepsOn};
 
 use crate::stepping::look_at_root;
 use crate::values::mark_value;

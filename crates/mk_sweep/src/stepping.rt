@@ -1,9 +1,9 @@
 //! Steps of a sweep: in the stop, when the close is wanted and no marker attends.
 ghost use Rattle.std.specs.Prelude.{◌≡◌, ◌^◌, [], ◌∷◌, true, slice_index};
-ghost use Rattle.mk_core.specs.{Ranges.is_word, Words.named_word};
+ghost use Rattle.mk_core.specs.{Conditions.is_word, Words.named_word};
 ghost use Rattle.mk_cycle.specs.{Below.Words.States.world_of, Grays.with_marks, Stops.{hand_of, is_page_word, is_root}};
 ghost use Rattle.mk_cycle.specs.Stops.{still_words};
-ghost use Rattle.mk_sweep.specs.{Swept.IsScannedWord, Sweeping.{HasInHand, IsReachedCell, IsSweeping, SweepsOn}};
+ghost use Rattle.mk_sweep.specs.Sweeps.{IsScannedWord, HasInHand, IsReachedCell, IsSweeping, SweepsOn};
 
 use mk_core::{Word, bit};
 use mk_cycle::lower::words::{Stopped, Words};

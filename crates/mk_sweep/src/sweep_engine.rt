@@ -1,9 +1,9 @@
 //! The engine that sweeps.
 ghost use Rattle.std.specs.Prelude.{◌≡◌, true, false, IfOk};
-ghost use Rattle.mk_cycle.specs.Begun.{DoesNothing, IsBegun};
+ghost use Rattle.mk_cycle.specs.BeginCycle.{DoesNothing, IsBegun};
 ghost use Rattle.mk_cycle.specs.EngineLaw.{IsFreeForCycle, IsAtPhase, BeginsMarking, ClosesMarks};
-ghost use Rattle.mk_cycle.specs.Telling.{IsToldOf};
-ghost use Rattle.mk_sweep.specs.{Sweeps.Sweeps, Swept.SweptAreMarked};
+ghost use Rattle.mk_cycle.specs.Stops.{IsToldOf};
+ghost use Rattle.mk_sweep.specs.Sweeps.{Sweeps, SweptAreMarked};
 
 use crate::closing::close_by_sweeping;
 use mk_cycle::Engine;

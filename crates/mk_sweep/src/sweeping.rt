@@ -3,8 +3,8 @@
 ghost use Rattle.std.specs.{Prelude.{◌≡◌, ℕ, ◌+◌, ◌<◌, ◌≤◌, true, false, length}, List.range_with_len};
 ghost use Rattle.mk_core.specs.{Cells.{has_no_pointers, header_in}, Words.{header_at, used_at}};
 ghost use Rattle.mk_cycle.specs.{Below.Words.States.world_of, Stops.still_words};
-ghost use Rattle.mk_sweep.specs.{Swept.IsScannedWord, Sweeping.{IsSweeping, SweepsWords, words_below, words_if}};
-ghost use Rattle.mk_sweep.specs.Sweeping.{words_on};
+ghost use Rattle.mk_sweep.specs.Sweeps.{IsScannedWord, IsSweeping, SweepsWords, words_below, words_if};
+ghost use Rattle.mk_sweep.specs.Sweeps.{words_on};
 
 use crate::stepping::{look_at, look_at_word};
 use crate::values::mark_value;

@@ -2,7 +2,7 @@
 ghost use Rattle.std.specs.Prelude.{◌≡◌, ◌<◌, [], true};
 ghost use Rattle.mk_core.specs.Cells.{is_marked, points_well};
 ghost use Rattle.mk_cycle.specs.{Grays.MarksMore, Stops.{hand_of, still_words}};
-ghost use Rattle.mk_sweep.specs.Sweeping.{HasInHand, IsSweeping, SweepsOn};
+ghost use Rattle.mk_sweep.specs.Sweeps.{HasInHand, IsSweeping, SweepsOn};
 
 use crate::stepping::{look_at, mark_cell};
 use mk_core::{Word, has_bit};

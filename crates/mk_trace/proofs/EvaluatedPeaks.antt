@@ -3,7 +3,7 @@ use Rattle.mk_trace.{proofs.Vocabulary.{peaks_of}, specs.Peaks.{found_by_ends_fr
 use Rattle.mk_laws.proofs.Vocabulary.{refl, [], ◌∷◌, ◌≡◌}
 use Rattle.mk_core.proofs.Schedules.{by, c0, freed_after_begin, host, one_page}
 use Rattle.mk_core.proofs.LargeSchedule.{large_freed, three_pages}
-use Rattle.mk_core.specs.{Allocations.unreleased_storage, Bounded.all_below, Cells.pointed_cell, History.left_from}
+use Rattle.mk_core.specs.{Allocations.unreleased_storage, Words.all_below, Cells.pointed_cell, History.left_from}
 
 -- Of two objects of 32 words the first is freed before a cycle begins, and the second after its begin. Both are
 -- quarantined when it ends. The first is released by it, and the second by the next one.

@@ -8,10 +8,10 @@ use Rattle.mk_laws.proofs.Vocabulary.{List, None, Some, Tally, ap, arith, false,
 use Rattle.mk_laws.proofs.{Vocabulary.{◌++◌, ◌∙◌, ◌∷◌, ◌≡◌}, Promises.histories_keep_all_promises}
 use Rattle.mk_core.proofs.{Schedules.{by, c0, fault, first_fault}, EvaluatedHistories.enabled, EventsAt.{Also, AtEach}}
 use Rattle.mk_core.proofs.EventsAt.{at_each, ◌and◌}
-use Rattle.mk_core.specs.{Allocations.unreleased_storage, Bounded.all_below, Cells.pointed_cell}
+use Rattle.mk_core.specs.{Allocations.unreleased_storage, Words.all_below, Cells.pointed_cell}
 use Rattle.mk_core.specs.{Cycles.{NoneSweepsFrom, is_give}, History.{CallsAreAdmitted, calls_from, left_from}}
-use Rattle.mk_heap.proofs.{Below.Objects.ListParts.lacks_second, Below.Objects.OwnGives.{none_more, one_more}}
-use Rattle.mk_heap.proofs.{Below.Objects.Bounds.quarantine_of_one_is_bounded, Below.Words.Sweeping.other_steps_sweep}
+use Rattle.mk_heap.proofs.Below.Objects.{ListParts.lacks_second, OwnGives.{none_more, one_more}}
+use Rattle.mk_heap.proofs.Below.{Objects.Bounds.quarantine_of_one_is_bounded, Words.Sweeping.other_steps_sweep}
 use Rattle.mk_heap.specs.Below.Objects.TurnCycles.{EndsExactly, TurnsOfAreExact, is_hold, is_want}
 use Rattle.mk_heap.specs.{Below.Words.Sweeping.is_mark, Hosts.{Rests, no_table}}
 use Rattle.mk_heap.proofs.{Below.Words.Seats.has_all, HostsKept.first_is_host}

@@ -4,7 +4,7 @@ use Rattle.mk_laws.proofs.Vocabulary.{refl, [], ◌∷◌, ◌≡◌}
 use Rattle.mk_trace.proofs.Vocabulary.{A, C, F, K, Ok, TraceStop, W, Which, codes}
 use Rattle.mk_check.specs.declared.typing_faults.TypeKind.{TypeKind}
 use Rattle.mk_script.specs.declared.faults.TextKind.{TextKind}
-use Rattle.mk_trace.specs.{Grammar.along, Traces.trace_of}
+use Rattle.mk_trace.specs.Grammar.{along, trace_of}
 
 pub each_event : trace_of
     (codes "trace 2 1\nslot x 2\n  slot  long_1   4096 \na x\nk x\nf long_1\nc x\nw long_1 4095 7")

@@ -6,10 +6,10 @@ use Rattle.mk_trace.proofs.{Vocabulary.{is_same_seat, pass_for, seat_exists}, He
 use Rattle.mk_trace.proofs.{HeldLooks.{first, moves, seen_is}, JoinedCalls.{Joined, elsewhere}}
 use Rattle.mk_laws.proofs.Vocabulary.{Bool, List, ℕ, ap, arith, false, list_any, list_any-append, ltb-true, or_from}
 use Rattle.mk_laws.proofs.Vocabulary.{or_parts, refl, subst, sym, true, [], ◌&&◌, ◌++◌, ◌∙◌, ◌∷◌, ◌≡◌}
-use Rattle.mk_core.specs.Growing.{AreOfOthers}
-use Rattle.mk_heap.proofs.{Below.Objects.ExactTurns.stay_exact_behind_others, Below.Words.Doing.not_own}
+use Rattle.mk_core.specs.History.{AreOfOthers}
+use Rattle.mk_heap.proofs.Below.{Objects.ExactTurns.stay_exact_behind_others, Words.Doing.not_own}
 use Rattle.mk_heap.proofs.Below.Words.Seats.{without_keeps}
-use Rattle.mk_heap.specs.{Below.Objects.Laws.OwnAreExact, Below.Objects.TurnCycles.TurnsOfAreExact}
+use Rattle.mk_heap.specs.Below.Objects.{TurnCalls.OwnAreExact, TurnCycles.TurnsOfAreExact}
 use Rattle.mk_heap.specs.Below.Words.Sweeping.{SweepsNothingFrom}
 use Rattle.mk_heap.{proofs.UnsweptSeats.{first_sweeps, others_on, seat_on}, specs.Unswept.{IsUnswept}}
 use Rattle.mk_heap.proofs.UnsweptHistories.{markers_sweep, none_sweeps}

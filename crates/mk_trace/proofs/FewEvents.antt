@@ -1,5 +1,5 @@
 -- A trace has few events, each has few operations, and so few cycles end.
-use Rattle.std.proofs.{Common.Result, lemmas.List.Splits.length-slice_split, lemmas.List.Sums.count_by-le-length}
+use Rattle.std.proofs.{Common.Result, lemmas.List.{Splits.length-slice_split, Sums.count_by-le-length}}
 use Rattle.mk_trace.proofs.Vocabulary.{Contents, Event, HeapPages, IsOfSomeTraceText, LinesSoFar, Ok, Op, TraceEvent}
 use Rattle.mk_trace.proofs.Vocabulary.{TraceStop, contents_of, ends, events_from, header_line_of, length-append}
 use Rattle.mk_trace.proofs.Vocabulary.{lines_of, nat_tests, nothing_written, ops_of, read_behind, text_fault_at}
@@ -8,8 +8,8 @@ use Rattle.mk_trace.proofs.{Vocabulary.{words_of_line, written_from}, ReadLines.
 use Rattle.mk_laws.proofs.Vocabulary.{Bool, List, ℕ, ap, arith, drop, if◌then◌else◌, length, nat_le, subst, sym, []}
 use Rattle.mk_laws.proofs.Vocabulary.{◌+◌, ◌==◌, ◌∷◌, ◌≡◌, ◌≤◌}
 use Rattle.mk_check.proofs.GrammarLemmas.{passed_then}
-use Rattle.mk_script.specs.Words.{without_empty_last}
-use Rattle.mk_trace.specs.{Grammar.along, Traces.{contents_from, words_of_slots}, declared.lines.Line.Line}
+use Rattle.mk_script.specs.Grammar.{without_empty_last}
+use Rattle.mk_trace.specs.{Grammar.{along, contents_from, words_of_slots}, declared.lines.Line.Line}
 
 -- before any event
 pub none_ended : (es : List Event) → es ≡ [] → ends es ≡ 0

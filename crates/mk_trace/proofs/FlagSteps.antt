@@ -10,7 +10,7 @@ use Rattle.mk_laws.proofs.Vocabulary.{fresh_leaves, get_or-set_other, get_or-set
 use Rattle.mk_laws.proofs.Vocabulary.{inr, is_some, length, length-map, length-set, map, no_allocation, none_freed}
 use Rattle.mk_laws.proofs.Vocabulary.{or_parts, refl, released_leaves, set_past, slice_index_or, subst, suc, sym, true}
 use Rattle.mk_laws.proofs.{Vocabulary.{with_freed, zero, [], ◌++◌, ◌<◌, ◌∙◌, ◌∷◌, ◌≡◌, ◌≤◌}, Images.AreTwins}
-use Rattle.mk_never.specs.Reach.{LeadsTo}
+use Rattle.mk_never.specs.Laws.{LeadsTo}
 use Rattle.mk_core.{proofs.ChangedAllocations.earlier_at, specs.History.left_from}
 use Rattle.mk_laws.proofs.Vocabulary.{Bool, LeavesPlaces, List, NeverAllocation as Allocation, None, Option, Some, ℕ}
 

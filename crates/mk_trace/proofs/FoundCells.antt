@@ -2,7 +2,7 @@
 use Rattle.mk_trace.proofs.Vocabulary.{Cell, Config, Event, FreedObject, HostOnlyLooks, IsBetweenCycles, IsHistory}
 use Rattle.mk_trace.proofs.Vocabulary.{PlacedAllocation, Word, Words, cell_at, cell_words, freed_object_of, global_at}
 use Rattle.mk_trace.proofs.Vocabulary.{header_at, histories_keep_the_invariant, is_freed, is_heap_address, left}
-use Rattle.mk_trace.{proofs.Vocabulary.{never_behind, option_map, placed_at, unfreed}, specs.Looking.{word_behind}}
+use Rattle.mk_trace.{proofs.Vocabulary.{never_behind, option_map, placed_at, unfreed}, specs.Calls.{word_behind}}
 use Rattle.mk_trace.proofs.{FoundObjects.{PointsToCell, frees_nothing, points_to_cell}, EndsInLists.leaves_twice}
 use Rattle.mk_trace.proofs.LookedTables.{leaves_then}
 use Rattle.mk_laws.proofs.Vocabulary.{Bool, List, None, Option, Some, ℕ, ap, arith, false, get_or_past, has_bit}

@@ -11,10 +11,10 @@ use Rattle.mk_laws.proofs.Vocabulary.{bases_of, cases_Bool, cells_begin, eqb-tru
 use Rattle.mk_laws.proofs.Vocabulary.{if◌then◌else◌, image_of, inl, inr, is_released_in, large_is_not_small, length}
 use Rattle.mk_laws.proofs.Vocabulary.{nat_le, not, object_placed, refl, slice_index, storage_holds, subst, sym, true}
 use Rattle.mk_laws.proofs.Vocabulary.{true≢false, typed_size, word_points, ◌+◌, ◌<◌, ◌∙◌, ◌≡◌, ◌≢◌}
-use Rattle.mk_never.specs.{Reach.LeadsTo, Reach.IsReachable.by_global, Typed.IsPlaceIn}
+use Rattle.mk_never.specs.{Laws.{LeadsTo, IsReachable.by_global}, Admitted.IsPlaceIn}
 use Rattle.mk_core.{proofs.Sizes.words_are_small, specs.Cells.pointed_cell}
 use Rattle.mk_laws.proofs.{InvariantHistories.allocations_stand, Settled.unreleased_are_apart}
-use Rattle.mk_laws.specs.SettledPages.{StandsUsed}
+use Rattle.mk_laws.specs.Theorems.{StandsUsed}
 
 -- Freed bits between calls: those of the allocations that are freed and unreleased, and no others.
 

@@ -16,9 +16,9 @@ use Rattle.mk_trace.proofs.{FoundByEnds.none_freed_from, OneCaller.callers_at_ho
 use Rattle.mk_laws.proofs.Vocabulary.{Bool, List, Some, ℕ, ap, append_assoc, arith, cases_Bool, earlier_part_is_history}
 use Rattle.mk_laws.proofs.Vocabulary.{false, inl, inr, left_in_parts, length, never_in_parts, refl, subst, sym, true}
 use Rattle.mk_laws.proofs.Vocabulary.{[], ◌*◌, ◌++◌, ◌+◌, ◌<◌, ◌∙◌, ◌∷◌, ◌≡◌}
-use Rattle.mk_never.specs.Reach.IsReachable.{by_register}
+use Rattle.mk_never.specs.Laws.IsReachable.{by_register}
 use Rattle.mk_heap.specs.Below.Objects.TurnCycles.{FreeIsExact, FreesFirst, IsDueIn}
-use Rattle.mk_trace.specs.{Peaks.greatest_from, Players.DoesCall}
+use Rattle.mk_trace.specs.{Peaks.greatest_from, Calls.DoesCall}
 
 -- What a call does to the flags of allocations: its operation frees one, or none.
 

@@ -14,7 +14,7 @@ use Rattle.mk_laws.proofs.Vocabulary.{Bool, List, None, Option, Some, ℕ, ap, a
 use Rattle.mk_laws.proofs.Vocabulary.{earlier_part_is_history, false, if◌then◌else◌, inl, inr, left_in_parts, list_any}
 use Rattle.mk_laws.proofs.Vocabulary.{never_in_parts, not, refl, subst, sym, true, true≢false, [], ◌&&◌, ◌*◌, ◌++◌, ◌+◌}
 use Rattle.mk_laws.proofs.Vocabulary.{◌||◌, ◌∙◌, ◌∷◌, ◌≡◌, ◌≤◌, ◌⊎◌}
-use Rattle.mk_never.specs.{Reach.IsReachable, Reach.IsReachable.by_register}
+use Rattle.mk_never.specs.Laws.{IsReachable, IsReachable.by_register}
 use Rattle.mk_core.specs.History.{calls_from, left_from}
 
 -- What events do to the words of the quarantined allocations: a free alone makes them more, and a release alone less.

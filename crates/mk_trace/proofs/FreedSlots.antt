@@ -6,8 +6,8 @@ use Rattle.mk_trace.proofs.Vocabulary.{length-drop, never_behind, ops_of, regist
 use Rattle.mk_laws.proofs.Vocabulary.{Bool, List, ℕ, ap, arith, drop, false, get_or, get_or-set_same, length, list_any}
 use Rattle.mk_laws.proofs.Vocabulary.{list_any-append, or_parts, refl, sym, take, [], ◌*◌, ◌++◌, ◌+◌, ◌<◌, ◌∙◌, ◌∷◌}
 use Rattle.mk_laws.proofs.Vocabulary.{◌≡◌}
-use Rattle.mk_trace.proofs.{FreeCalls.is_free, LaterOps.AreCalled, LaterOps.either_way, OneCaller.never_behind_all}
-use Rattle.mk_trace.specs.{Freeing.FreesItsSlot, Freeing.FreesSlot, Traces.slot_of}
+use Rattle.mk_trace.proofs.{FreeCalls.is_free, LaterOps.{AreCalled, either_way}, OneCaller.never_behind_all}
+use Rattle.mk_trace.specs.{Ledgers.{FreesItsSlot, FreesSlot}, Grammar.slot_of}
 
 no_free : (ops before : List Op) (o : Op) (rest : List Op) (p : ℕ) → list_any is_free ops ≡ false
     → ops ≡ before ++ o ∷ rest → o ≡ Op.Free p → ⊥

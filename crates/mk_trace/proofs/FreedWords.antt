@@ -11,7 +11,7 @@ use Rattle.mk_trace.proofs.FlagSteps.{is_freed_behind, is_freed_there, others_ke
 use Rattle.mk_laws.proofs.Vocabulary.{Bool, List, None, Option, Some, ℕ, arith, cases_lt, false, get_or_past}
 use Rattle.mk_laws.proofs.Vocabulary.{if◌then◌else◌, length, map, not, refl, suc, sym, true, words_made, zero, [], ◌&&◌}
 use Rattle.mk_laws.proofs.{Vocabulary.{◌+◌, ◌||◌, ◌∙◌, ◌∷◌, ◌≡◌, ◌≢◌, ◌≤◌}, FreshWords.sum_filtered}
-use Rattle.mk_never.specs.Reach.{IsReachable}
+use Rattle.mk_never.specs.Laws.{IsReachable}
 use Rattle.mk_core.specs.NewPlaces.{object_of}
 use Rattle.mk_heap.proofs.Below.Objects.HeldFreed.{held_part, held_sum}
 

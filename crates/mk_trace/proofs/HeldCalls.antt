@@ -7,7 +7,7 @@ use Rattle.mk_laws.proofs.Vocabulary.{Bool, List, MeetsAll, Some, ℕ, ap, arith
 use Rattle.mk_laws.proofs.Vocabulary.{false_from_ne_true, list_any, list_any-append, or_from, or_parts, refl, subst}
 use Rattle.mk_laws.proofs.Vocabulary.{sym, true, true≢false, [], ◌&&◌, ◌<◌, ◌∙◌, ◌∷◌, ◌≡◌}
 use Rattle.mk_core.specs.History.{AreEnabledFrom, calls_from}
-use Rattle.mk_heap.specs.{Hosts.with_caller_made, Below.Words.Seats.all_seats}
+use Rattle.mk_heap.specs.{Hosts.with_caller_made, Below.Words.States.all_seats}
 use Rattle.mk_heap.proofs.Below.Words.Seats.{has_all}
 use Rattle.mk_trace.proofs.OwnPieces.{AreMine, all_again, are_mine, none_of_others}
 

@@ -7,8 +7,8 @@ use Rattle.mk_laws.proofs.Vocabulary.{false, refl, subst, sym, [], ◌++◌, ◌
 use Rattle.mk_laws.proofs.{Tallies.{exact_more, tallies_tell}, TallySteps.others_count_nothing}
 use Rattle.mk_core.specs.Counts.{TalliesAreExact}
 use Rattle.mk_heap.proofs.{Below.Objects.Parts.seen_then, MovedHosts.{MovesOn, moves_more, turn_moves}}
-use Rattle.mk_heap.proofs.{Below.Words.Made.made, Below.Words.Seats.others_nobody}
-use Rattle.mk_heap.specs.{Turns.TellsWord, Below.Words.Taking.TakesTurn}
+use Rattle.mk_heap.proofs.Below.Words.{Made.made, Seats.others_nobody}
+use Rattle.mk_heap.specs.{Ending.TellsWord, Below.Words.TurnSteps.TakesTurn}
 
 -- Where the turn is taken, the tallies are what they count.
 exact_taken : {p q : PassState} (t : TakesTurn p None q) → Has t.waited.seats t.waited.seat

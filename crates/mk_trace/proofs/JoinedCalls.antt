@@ -18,12 +18,12 @@ use Rattle.mk_laws.proofs.Vocabulary.{cases_Bool, earlier_part_is_history, enabl
 use Rattle.mk_laws.proofs.Vocabulary.{left_append, left_in_parts, list_any, or_from, or_parts, refl, subst, sym, true}
 use Rattle.mk_laws.proofs.Vocabulary.{[], ◌&&◌, ◌++◌, ◌||◌, ◌∙◌, ◌∷◌, ◌≡◌}
 use Rattle.mk_core.proofs.HistoryParts.{calls_in_parts}
-use Rattle.mk_core.specs.{Growing.own_from, History.{AreEnabledFrom, calls_from, left_from}}
+use Rattle.mk_core.specs.History.{own_from, AreEnabledFrom, calls_from, left_from}
 use Rattle.mk_heap.proofs.Below.Objects.GrantParts.{LastIn, last_before, last_then}
-use Rattle.mk_heap.proofs.{Below.Objects.OneCycles.{one_before, one_behind}, Below.Words.Seats.{only_one, same_self}}
+use Rattle.mk_heap.proofs.Below.{Objects.OneCycles.{one_before, one_behind}, Words.Seats.{only_one, same_self}}
 use Rattle.mk_heap.specs.Below.Objects.TurnCycles.{CallIsExact, FreeIsExact, NewIsExact, RunsOneCycle, finishes}
-use Rattle.mk_heap.specs.{Below.Objects.TurnCycles.within_turn, Below.Objects.TurnCalls.CalledInTurn}
-use Rattle.mk_heap.specs.Below.Words.Doing.{are_of}
+use Rattle.mk_heap.specs.Below.Objects.{TurnCycles.within_turn, TurnCalls.CalledInTurn}
+use Rattle.mk_heap.specs.Below.Words.Steps.{are_of}
 use Rattle.mk_heap.specs.Dispatching.{Answers, is_beside_turns}
 
 -- What events of the one caller lack, and what is decided among those of its call.

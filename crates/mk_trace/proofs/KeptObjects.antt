@@ -7,7 +7,7 @@ use Rattle.mk_trace.proofs.Vocabulary.{exists_placed, filter, fold, freed_object
 use Rattle.mk_trace.proofs.Vocabulary.{one_if, option_map, phase_of, placed_at, times, with_one}
 use Rattle.mk_trace.proofs.{FoundObjects.{bit_tells_released, cell_by}, NumberLists.{equal_is, filters_agree}}
 use Rattle.mk_trace.proofs.NumberLists.{stands_passes, those_filtered, times_more, unequal_is}
-use Rattle.mk_trace.{proofs.{CountedAges.counted_more, FlagSteps.none_past}, specs.Freeing.{FreesFlag}}
+use Rattle.mk_trace.{proofs.{CountedAges.counted_more, FlagSteps.none_past}, specs.Ledgers.{FreesFlag}}
 use Rattle.mk_laws.proofs.Vocabulary.{Bool, List, None, Option, Some, ℕ, and_from, and_parts, ap, append-nil, arith}
 use Rattle.mk_laws.proofs.Vocabulary.{cases_lt, false, false_from_ne_true, get_or_past, if◌then◌else◌, length}
 use Rattle.mk_laws.proofs.Vocabulary.{list_any-append, map, map-append, not, not-true, or_parts, refl, sym, true}

@@ -11,10 +11,10 @@ use Rattle.mk_laws.proofs.Vocabulary.{◌==◌, ◌||◌, ◌∙◌, ◌∷◌, 
 use Rattle.mk_never.proofs.{Later.op_stays, Parts.{admitted_split, after_append}}
 use Rattle.mk_never.specs.{Admitted.IsCaller, NeverHeap.after_op}
 use Rattle.mk_core.specs.Counts.{is_full_answer}
-use Rattle.mk_heap.proofs.{Below.Callers.OwnSteps.{calls_by, others_add_none}, Below.Words.Seats.{has_all, has_right}}
+use Rattle.mk_heap.proofs.Below.{Callers.OwnSteps.{calls_by, others_add_none}, Words.Seats.{has_all, has_right}}
 use Rattle.mk_heap.specs.Below.Callers.States.{Admits, IsAtHome, caller_of_pass}
 use Rattle.mk_heap.specs.Hosts.{AllAreJoined, with_caller_made, with_caller_out, with_joined, with_seen}
-use Rattle.mk_heap.specs.Below.Words.Seats.{has_over}
+use Rattle.mk_heap.specs.Below.Words.States.{has_over}
 use Rattle.mk_heap.specs.Dispatching.{StaysAdmitted, as_told}
 use Rattle.mk_trace.specs.Calls.{MayCome, SameCalls}
 

@@ -6,11 +6,11 @@ use Rattle.mk_laws.proofs.Vocabulary.{refl, subst, sym, true, true≢false, [], 
 use Rattle.mk_trace.proofs.Vocabulary.{Answer, Caller, Config, Event, Has, HasAll, Op, PassState, Seat, Step, World}
 use Rattle.mk_trace.proofs.Vocabulary.{event_of, has_first, has_step, is_same_seat, lacks_append, lacks_one}
 use Rattle.mk_trace.proofs.Vocabulary.{seat_exists, seen_made, without_seat, world_behind, ⊎_elim}
-use Rattle.mk_core.specs.{Growing.AreOfOthers, History.AreEnabledFrom}
-use Rattle.mk_heap.proofs.{Below.Objects.Parts.{seen_behind, seen_then}, Below.Words.Seats.{has_either, has_left}}
+use Rattle.mk_core.specs.History.{AreOfOthers, AreEnabledFrom}
+use Rattle.mk_heap.proofs.Below.{Objects.Parts.{seen_behind, seen_then}, Words.Seats.{has_either, has_left}}
 use Rattle.mk_heap.proofs.Below.Words.Seats.{has_right, not_both, same_seat, without_keeps}
-use Rattle.mk_heap.specs.{Below.Objects.TurnCalls.CalledInTurn, Below.Objects.TurnCycles.within_turn}
-use Rattle.mk_heap.specs.Below.Words.Taking.{is_take, waits_for}
+use Rattle.mk_heap.specs.Below.Objects.{TurnCalls.CalledInTurn, TurnCycles.within_turn}
+use Rattle.mk_heap.specs.Below.Words.TurnSteps.{is_take, waits_for}
 
 -- What a pass may have seen since: events of seats that there are, and none of those that are elsewhere.
 

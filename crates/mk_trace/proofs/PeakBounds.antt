@@ -7,8 +7,8 @@ use Rattle.mk_heap.proofs.Below.Objects.CountedWords.{filtered_in_parts}
 use Rattle.mk_heap.proofs.Below.Objects.LittleHeld.{held_is_little_where_free}
 use Rattle.mk_heap.proofs.Below.Objects.Quarters.{quarantined_is_fresh_or_kept}
 use Rattle.mk_heap.specs.Below.Objects.Bounds.{QuarantineIsBounded, held_after}
-use Rattle.mk_heap.specs.Below.Objects.KeptAllocations.{quarantined_mapped}
-use Rattle.mk_trace.specs.PeakBounds.{BoundsMeetPeaks, FreshIsQuarterOfPeak}
+use Rattle.mk_heap.specs.Below.Objects.Bounds.{quarantined_mapped}
+use Rattle.mk_trace.specs.Peaks.{BoundsMeetPeaks, FreshIsQuarterOfPeak}
 
 -- What is quarantined is reserved, or mapped; and what is mapped is fresh, or was freed before the last `begin`.
 

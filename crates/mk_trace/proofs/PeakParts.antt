@@ -5,7 +5,7 @@ use Rattle.mk_laws.proofs.Vocabulary.{Bool, List, ℕ, ap, arith, cases_Bool, fa
 use Rattle.mk_laws.proofs.Vocabulary.{refl, subst, sym, true, [], ◌++◌, ◌∙◌, ◌∷◌, ◌≡◌, ◌≤◌}
 use Rattle.mk_core.specs.History.{left_from}
 use Rattle.mk_heap.proofs.Below.Objects.GrantParts.{LastIn}
-use Rattle.mk_trace.specs.{Laws.IsGreatest, Peaks.greatest_from}
+use Rattle.mk_trace.specs.{Playing.IsGreatest, Peaks.greatest_from}
 
 -- The greatest measure over a history in two parts.
 

@@ -1,6 +1,6 @@
 -- A trace of some text can be played.
-use Rattle.std.proofs.{lemmas.List.get_or-map, lemmas.List.Elements.{All-append, All-cons, All-map, All-nil}}
-use Rattle.std.proofs.{lemmas.List.FromFn.length-range_with_len, lemmas.List.Quantifiers.position-Some}
+use Rattle.std.proofs.lemmas.List.{get_or-map, Elements.{All-append, All-cons, All-map, All-nil}}
+use Rattle.std.proofs.lemmas.List.{FromFn.length-range_with_len, Quantifiers.position-Some}
 use Rattle.std.specs.Str.{bytes_eq}
 use Rattle.mk_trace.proofs.Vocabulary.{All, Contents, HeapPages, IsBetween, IsEventOf, IsOfSomeTraceText, IsPlayable}
 use Rattle.mk_trace.proofs.Vocabulary.{LinesSoFar, Ok, TraceEvent, Which, codes, contents_of, events_from}
@@ -16,8 +16,8 @@ use Rattle.mk_check.proofs.GrammarLemmas.{at_most-None, passed_then, within-None
 use Rattle.mk_check.proofs.FaultLemmas.{or-None}
 use Rattle.mk_script.specs.{Lines.{at_most, within}, Operands.{name, number}}
 use Rattle.mk_trace.specs.Lines.{checked_slot, event_line, heap_pages, slot_from, slot_limit, slot_line}
-use Rattle.mk_trace.specs.{Typing.{event_on, on_slot, typed_write, words_at}, Traces.{contents_from, words_of_slots}}
-use Rattle.mk_trace.specs.{declared.lines.Action.Action, declared.lines.EventLine.EventLine, declared.lines.Line.Line}
+use Rattle.mk_trace.specs.Grammar.{event_on, on_slot, typed_write, words_at, contents_from, words_of_slots}
+use Rattle.mk_trace.specs.declared.lines.{Action.Action, EventLine.EventLine, Line.Line}
 
 -- The slots of lines are within their limits, and so is the heap of a header.
 

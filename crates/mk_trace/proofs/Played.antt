@@ -10,11 +10,11 @@ use Rattle.mk_laws.proofs.Vocabulary.{Bool, List, ℕ, ap, arith, false, get_or,
 use Rattle.mk_laws.proofs.Vocabulary.{map-append, refl, subst, sym, take, [], ◌++◌, ◌+◌, ◌<◌, ◌∙◌, ◌∷◌, ◌≡◌, ◌≤◌}
 use Rattle.mk_laws.proofs.Promises.{histories_keep_all_promises}
 use Rattle.mk_core.specs.History.{calls_from}
-use Rattle.mk_heap.specs.{Below.Callers.States.IsAtHome, Reports.IsWhole}
+use Rattle.mk_heap.specs.{Below.Callers.States.IsAtHome, Hosts.IsWhole}
 use Rattle.mk_heap.proofs.Below.Objects.Bounds.{quarantine_of_one_is_bounded}
 use Rattle.mk_heap.proofs.UnsweptHistories.{unswept_is_precise}
 use Rattle.mk_trace.specs.Calls.{AreNull, HasPlayed, MayBePlayed, PlaysEvent, SameCalls}
-use Rattle.mk_trace.specs.{Playing.{IsPlayed, ops_played}, Traces.slot_of}
+use Rattle.mk_trace.specs.{Playing.{IsPlayed, ops_played}, Grammar.slot_of}
 
 -- Before the first event.
 pub played_none : (trace : Contents) → HasPlayed trace [] 0 []

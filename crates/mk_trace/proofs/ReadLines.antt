@@ -1,5 +1,5 @@
 -- Lines, read and printed one after the other.
-use Rattle.std.{proofs.Common.Bor, proofs.Common.Err, proofs.Common.Result, specs.Result.IfErr, specs.Result.OnOk}
+use Rattle.std.{proofs.Common.{Bor, Err, Result}, specs.Result.{IfErr, OnOk}}
 use Rattle.mk_trace.proofs.Vocabulary.{Contents, HeapPages, LinesSoFar, Ok, TraceStop, at_drop_more, contents_of}
 use Rattle.mk_trace.proofs.Vocabulary.{header_line_of, length-drop, lines_of, nothing_written, take_all, texts_of}
 use Rattle.mk_trace.proofs.Vocabulary.{trace_of_lines, words_of_line, written_from}
@@ -7,9 +7,9 @@ use Rattle.mk_laws.proofs.Vocabulary.{Bool, List, None, Option, ℕ, ap, append-
 use Rattle.mk_laws.proofs.Vocabulary.{false, get_or, if◌then◌else◌, le-leb, length, refl, subst, sym, take, [], ◌++◌}
 use Rattle.mk_laws.proofs.Vocabulary.{◌+◌, ◌-◌, ◌<◌, ◌∙◌, ◌∷◌, ◌≡◌, ◌≢◌, ◌≤◌}
 use Rattle.mk_script.specs.{Operands.◌>>=◌, declared.faults.LineFault.LineFault}
-use Rattle.mk_script.specs.{declared.faults.LineFault.TheVariants.Text, declared.faults.TextKind.TheVariants.Word}
-use Rattle.mk_trace.specs.{Grammar.along, Grammar.go_on, Lines.event_line_of, Lines.ok_unless, Lines.slot_line}
-use Rattle.mk_trace.specs.{Traces.and_then, Traces.trace_of, declared.faults.TraceStop.TheVariants.NoMemory}
+use Rattle.mk_script.specs.declared.faults.{LineFault.TheVariants.Text, TextKind.TheVariants.Word}
+use Rattle.mk_trace.specs.{Grammar.{along, go_on}, Lines.{event_line_of, ok_unless, slot_line}}
+use Rattle.mk_trace.specs.{Grammar.{and_then, trace_of}, declared.faults.TraceStop.TheVariants.NoMemory}
 
 -- What lines keep one after the other, and what their results say.
 

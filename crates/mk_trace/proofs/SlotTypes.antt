@@ -5,7 +5,7 @@ use Rattle.mk_trace.proofs.Vocabulary.{All, Contents, IsBetween, Kind, To, confi
 use Rattle.mk_trace.proofs.Vocabulary.{length-replicate, range_with_len, replicate, types_from}
 use Rattle.mk_laws.proofs.Vocabulary.{List, Number as Num, ℕ, ap, append_assoc, arith, length, refl, subst, suc, sym}
 use Rattle.mk_laws.proofs.Vocabulary.{zero, [], ◌++◌, ◌+◌, ◌-◌, ◌<◌, ◌∙◌, ◌∷◌, ◌≡◌, ◌≤◌}
-use Rattle.mk_core.specs.Config.{IsAmong, IsTypeAmong}
+use Rattle.mk_core.specs.Moments.{IsAmong, IsTypeAmong}
 use Rattle.mk_trace.specs.Playing.{slot_type}
 
 pub length-types_from : (slot : ℕ) (slots : List ℕ) → length (types_from slot slots) ≡ length slots

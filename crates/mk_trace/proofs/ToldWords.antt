@@ -14,8 +14,8 @@ use Rattle.mk_laws.proofs.Vocabulary.{List, ℕ, ap, append-nil, append_assoc, a
 use Rattle.mk_laws.proofs.Vocabulary.{enabled_in_parts, false, left_in_parts, left_more, refl, subst, sym, [], ◌++◌}
 use Rattle.mk_laws.proofs.Vocabulary.{◌∙◌, ◌∷◌, ◌≡◌}
 use Rattle.mk_heap.proofs.MovedHosts.{taken_own}
-use Rattle.mk_heap.specs.Turns.{TellsWord}
-use Rattle.mk_trace.specs.{Calls.held_behind, Looking.{LeavesTable, word_behind}}
+use Rattle.mk_heap.specs.Ending.{TellsWord}
+use Rattle.mk_trace.specs.Calls.{held_behind, LeavesTable, word_behind}
 
 -- With looks alone the most is as it was.
 most_looked : (c : Config) (measure : List PlacedAllocation → ℕ) (es more : List Event)

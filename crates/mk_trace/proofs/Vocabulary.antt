@@ -1,11 +1,12 @@
 -- The words that the proofs of this crate share: they import them from here.
 pub use Rattle.std.proofs.Common.{All, Ok, codes, filter, fold, length-append, length-drop, max, option_map, replicate}
 pub use Rattle.std.proofs.{Common.{rules, sum_by, take-append-drop, take_all, ⊎_elim}, Math.Bool.and-false}
-pub use Rattle.std.proofs.{lemmas.Bool.Decides.nat_tests, lemmas.List.{at_drop_more, drop_more, length-replicate}}
-pub use Rattle.std.proofs.{lemmas.List.take_more, lemmas.List.Sums.{sum_by-append, sum_by-cons}}
+pub use Rattle.std.proofs.lemmas.{Bool.Decides.nat_tests, List.{at_drop_more, drop_more, length-replicate}}
+pub use Rattle.std.proofs.lemmas.List.{take_more, Sums.{sum_by-append, sum_by-cons}}
 pub use Rattle.std.specs.List.{range_with_len}
-pub use Rattle.mk_core.{proofs.Histories.{calls_append}, specs.{Growing.{Grows, is_same_seat}, History.never_first}}
-pub use Rattle.mk_core.specs.{Allocations.{allocations_by, held_by_allocations}, Config.IsBetween, Counts.decides_freed}
+pub use Rattle.mk_core.{proofs.Histories.{calls_append}, specs.{History.{Grows, is_same_seat}, History.never_first}}
+pub use Rattle.mk_core.specs.{Allocations.{allocations_by, held_by_allocations}, Moments.IsBetween}
+pub use Rattle.mk_core.specs.Counts.{decides_freed}
 pub use Rattle.mk_laws.proofs.{CyclePhases.moves_phase, ImagesKept.exists_placed}
 pub use Rattle.mk_laws.proofs.InvariantHistories.{histories_keep_the_invariant, reach_is_kept}
 pub use Rattle.mk_laws.proofs.Vocabulary.{Answer, AreAdmitted, AreEnabledFrom, AreOfOthers, Call, Caller, Cell, Config}
@@ -26,24 +27,24 @@ pub use Rattle.mk_heap.proofs.Below.Objects.Parts.{seen_made}
 pub use Rattle.mk_heap.proofs.Below.Words.Seats.{has_first}
 pub use Rattle.mk_heap.specs.Below.Objects.TurnCycles.{has_step, is_grant, is_of_cycle, lets_go}
 pub use Rattle.mk_heap.specs.{Below.Callers.States.CallerState, Hosts.{HostState, first_host, pass_for}}
-pub use Rattle.mk_heap.specs.{Below.Words.Sweeping.SweepsNothing, Below.Words.Seats.{Has, HasAll, without_seat}}
+pub use Rattle.mk_heap.specs.Below.Words.{Sweeping.SweepsNothing, States.{Has, HasAll, without_seat}}
 pub use Rattle.mk_heap.specs.Below.Words.States.{PassState, WordsState, event_of}
 pub use Rattle.mk_heap.specs.Dispatching.{unflagged}
-pub use Rattle.mk_script.specs.{Words.{lines_of, texts_of, words_of_line}, declared.faults.Which.Which}
-pub use Rattle.mk_trace.specs.{Calls.{CallerIsHome, Calls, HoldsMostAtEnd, most_held}, Ends.{EndsNone, EndsOne}}
-pub use Rattle.mk_trace.specs.Ends.{EndsTell, FreesNone, IsBetweenCycles, LeavesAllocations, ReleasesNone}
-pub use Rattle.mk_trace.specs.{ExactPlays.{AllTurnsAreExact, StayExact}, Freeing.{AreLater, FlagsBehind}}
-pub use Rattle.mk_trace.specs.Freeing.{FlagsBehindCall, IsMostWhereFreed, QuarantinesMostWhereFreed, freed_words}
-pub use Rattle.mk_trace.specs.Freeing.{large_words, number_freed, unfreed, words_of_some}
+pub use Rattle.mk_script.specs.{Grammar.{lines_of, texts_of, words_of_line}, declared.faults.Which.Which}
+pub use Rattle.mk_trace.specs.{Calls.{CallerIsHome, Calls, HoldsMostAtEnd, most_held}, Peaks.{EndsNone, EndsOne}}
+pub use Rattle.mk_trace.specs.Peaks.{EndsTell, FreesNone, IsBetweenCycles, LeavesAllocations, ReleasesNone}
+pub use Rattle.mk_trace.specs.{Playing.{AllTurnsAreExact, StayExact}, Ledgers.{AreLater, FlagsBehind}}
+pub use Rattle.mk_trace.specs.Ledgers.{FlagsBehindCall, IsMostWhereFreed, QuarantinesMostWhereFreed, freed_words}
+pub use Rattle.mk_trace.specs.Ledgers.{large_words, number_freed, unfreed, words_of_some}
 pub use Rattle.mk_trace.specs.Grammar.{events_from, read_behind, text_fault_at, type_fault_at, with_event, written_from}
-pub use Rattle.mk_trace.specs.{Laws.{IsEventOf, IsPlayable}, Ledgers.{AreAgesOf, AreFound, AreObjectsOf, Keeps}}
+pub use Rattle.mk_trace.specs.{Playing.{IsEventOf, IsPlayable}, Ledgers.{AreAgesOf, AreFound, AreObjectsOf, Keeps}}
 pub use Rattle.mk_trace.specs.Ledgers.{SettlesFreed, age_in_a_word, aged, freed_object_of, objects_kept, still_kept}
 pub use Rattle.mk_trace.specs.{Ledgers.with_one, Lines.{LinesSoFar, header_line_of, nothing_written, slot_number}}
-pub use Rattle.mk_trace.specs.{Lines.with_trace_line, Looking.HostOnlyLooks, Numbers.{AreThose, one_if, times}}
+pub use Rattle.mk_trace.specs.{Lines.with_trace_line, Calls.HostOnlyLooks, Ledgers.{AreThose, one_if, times}}
 pub use Rattle.mk_trace.specs.Peaks.{age_of, counted, greatest, peaks_of, quarantined_words, reserved_words}
 pub use Rattle.mk_trace.specs.Playing.{begins_full, calls_of_caller, config_of, is_refusal, ops_of, refused_events}
-pub use Rattle.mk_trace.specs.{Playing.types_from, Traces.{Contents, IsOfSomeTraceText, contents_of, trace_of_lines}}
-pub use Rattle.mk_trace.specs.{Typing.typed_event, declared.faults.TraceStop.TraceStop, declared.ledger.Freed.Freed}
-pub use Rattle.mk_trace.specs.{declared.ledger.FreedObject.FreedObject, declared.lines.HeapPages.HeapPages}
-pub use Rattle.mk_trace.specs.{declared.trace.TraceEvent.TraceEvent, declared.trace.TraceEvent.TheVariants.{A, C, F, K}}
+pub use Rattle.mk_trace.specs.{Playing.types_from, Grammar.{Contents, IsOfSomeTraceText, contents_of, trace_of_lines}}
+pub use Rattle.mk_trace.specs.{Grammar.typed_event, declared.{faults.TraceStop.TraceStop, ledger.Freed.Freed}}
+pub use Rattle.mk_trace.specs.declared.{ledger.FreedObject.FreedObject, lines.HeapPages.HeapPages}
+pub use Rattle.mk_trace.specs.declared.trace.TraceEvent.{TraceEvent, TheVariants.{A, C, F, K}}
 pub use Rattle.mk_trace.specs.declared.trace.TraceEvent.TheVariants.{W}

@@ -1,11 +1,44 @@
--- Lines one after the other, up to the first that has a fault.
-use Rattle.std.specs.{Prelude.{ℕ, ◌+◌, List, [], ◌∷◌, ◌++◌, Ok, Err}, declared.result.Result.Result}
-use Rattle.mk_script.specs.{declared.faults.LineFault.LineFault, declared.faults.LineFault.TheVariants.{Text, Limit}}
-use Rattle.mk_script.specs.Words.{words_of_line}
+-- A text and its trace, or its first fault: its lines one after the other, and the types of their slots.
+use Rattle.std.specs.Prelude.{ℕ, ◌==◌, nat_le, if◌then◌else◌, List, [], get_or, Option, Some, None, Ok, Err, ◌+◌, ◌∷◌}
+use Rattle.std.specs.{Prelude.{◌++◌, ◌≡◌, length, map}, declared.result.Result.Result, Borrow.Bor}
+use Rattle.std.specs.{HashMap.{HashMap, get_by}, Str.bytes_eq}
 use Rattle.mk_check.specs.declared.typing_faults.TypeKind.{TypeKind}
-use Rattle.mk_trace.specs.{declared.faults.TraceStop.TraceStop, declared.lines.Slot.Slot, Typing.typed_event}
-use Rattle.mk_trace.specs.{declared.lines.EventLine.EventLine, declared.lines.Line.Line}
-use Rattle.mk_trace.specs.{declared.trace.TraceEvent.TraceEvent, Lines.{LinesSoFar, with_trace_line, trace_line_of}}
+use Rattle.mk_trace.specs.declared.lines.{Slot.Slot, Action.Action, EventLine.EventLine}
+use Rattle.mk_trace.specs.declared.trace.TraceEvent.{TraceEvent, TheVariants.{A, K, F, C, W}}
+use Rattle.mk_trace.specs.Lines.{slot_number, LinesSoFar, with_trace_line, trace_line_of, nothing_written}
+use Rattle.mk_trace.specs.{Lines.header_line_of, declared.{faults.TraceStop.TraceStop, lines.Line.Line}}
+use Rattle.mk_trace.specs.declared.lines.HeapPages.{HeapPages}
+use Rattle.mk_script.specs.declared.faults.LineFault.{LineFault, TheVariants.{Text, Limit}}
+use Rattle.mk_script.specs.Grammar.{words_of_line, longest_text, too_long, lines_of}
+use Rattle.mk_script.specs.declared.faults.{TextKind.TextKind, Which.Which}
+
+-- a store into a slot's object, or its type fault
+abbrev pub typed_write : ℕ → ℕ → ℕ → ℕ → Result TraceEvent TypeKind
+typed_write slot words index value =
+    if nat_le words index
+    then Err TypeKind.Offset
+    else if index == 0 then Err TypeKind.Kind else Ok (W slot index value)
+
+-- the action on the slot of this number, whose objects have this many words
+abbrev pub event_on : ℕ → ℕ → Action → Result TraceEvent TypeKind
+event_on slot words Action.New = Ok (A slot)
+event_on slot words Action.Link = Ok (K slot)
+event_on slot words Action.Free = Ok (F slot)
+event_on slot words Action.Clear = Ok (C slot)
+event_on slot words (Action.Write index value) = typed_write slot words index value
+
+-- how many words the objects of a slot have
+abbrev pub words_at : List Slot → ℕ → ℕ
+words_at slots slot = (get_or slots slot (record { name = []; words = 0 })).words
+
+-- an event on this slot, or its type fault
+abbrev pub on_slot : List Slot → Option ℕ → Action → Result TraceEvent TypeKind
+on_slot slots None action' = Err TypeKind.NoGlobal
+on_slot slots (Some slot) action' = event_on slot (words_at slots slot) action'
+
+-- an event line with its slot's number, or its type fault
+abbrev pub typed_event : List Slot → EventLine → Result TraceEvent TypeKind
+typed_event slots event = on_slot slots (slot_number slots event.slot) event.action
 
 -- a fault at a line
 abbrev pub text_fault_at : ℕ → LineFault → TraceStop
@@ -45,3 +78,85 @@ with_event events event = events ++ event ∷ []
 abbrev pub events_from : List Slot → ℕ → List EventLine → List TraceEvent → Result (List TraceEvent) TraceStop
 events_from slots number lines before =
     along type_fault_at (λ events line. typed_event slots line) with_event number lines before
+
+-- What a trace says: the pages of its heap and how many of them may be resident, how many words the objects of each
+-- slot have, and what is done with the slots.
+pub record Contents : Type 0 where
+  pub pages : ℕ
+  pub resident : ℕ
+  pub slots : List ℕ
+  pub events : List TraceEvent
+
+-- the slot of an event
+abbrev pub slot_of : TraceEvent → ℕ
+slot_of (A slot) = slot
+slot_of (K slot) = slot
+slot_of (F slot) = slot
+slot_of (C slot) = slot
+slot_of (W slot index value) = slot
+
+-- a trace of these parts
+abbrev pub contents_from : ℕ → ℕ → List ℕ → List TraceEvent → Contents
+contents_from pages resident slots events =
+    record { pages = pages; resident = resident; slots = slots; events = events }
+
+-- goes on with what was read, or ends with its fault
+abbrev pub and_then : {X Y : Type 0} → Result X TraceStop → (X → Result Y TraceStop) → Result Y TraceStop
+and_then (Ok x) next = next x
+and_then (Err stop') next = Err stop'
+
+-- the words of each slot
+abbrev pub words_of_slots : List Slot → List ℕ
+words_of_slots slots = map (λ (slot : Slot). slot.words) slots
+
+-- The end of the text, where all lines are of the grammar and within the limits. Without a slot line 1 is the last.
+-- Event lines stand after that line and those of the slots.
+abbrev pub contents_of : HeapPages → LinesSoFar → Result Contents TraceStop
+contents_of heap written =
+    if length written.slots == 0
+    then Err (TraceStop.Limit 1 Which.Types 0)
+    else and_then (events_from written.slots (length written.slots + 2) written.events [])
+    (λ events. Ok (contents_from heap.pages heap.resident (words_of_slots written.slots) events))
+
+-- the trace that lines are, or their first fault
+abbrev pub trace_of_lines : List (List ℕ) → Result Contents TraceStop
+trace_of_lines [] = Err (TraceStop.Text 1 TextKind.Header)
+trace_of_lines (first ∷ lines) =
+    go_on (text_fault_at 1) (header_line_of (words_of_line first))
+    (λ heap. and_then (written_from 2 lines nothing_written) (contents_of heap))
+
+-- The trace of a text, or its first fault. All faults of lines come before those of types.
+abbrev pub trace_of : List ℕ → Result Contents TraceStop
+trace_of text =
+    if nat_le (length text) longest_text then trace_of_lines (lines_of text) else Err (text_fault_at 0 too_long)
+
+-- There is a text of this trace.
+abbrev pub IsOfSomeTraceText : Contents → Type 0
+IsOfSomeTraceText contents = (text : List ℕ) × (trace_of text ≡ Ok contents)
+
+-- What the reader of lines finds on its way.
+-- Private functions alone cite these words.
+
+-- a line has a fault, which is told with the line's number
+pub record IsFaultOf {A : Type 0} (number : ℕ) (found : Result A LineFault) (stop : TraceStop) : Type 0 where
+  pub fault : LineFault
+  pub is_fault : found ≡ Err fault
+  pub told : stop ≡ text_fault_at number fault
+
+-- a line was read after others
+pub record ReadsTraceLine (before : LinesSoFar) (words : List (List ℕ)) (behind : LinesSoFar) : Type 0 where
+  pub line : Line
+  pub is_line : trace_line_of before words ≡ Ok line
+  pub behind_is : behind ≡ with_trace_line before line
+
+-- the heap and the lines of some text whose lines are of the grammar
+abbrev pub IsReadFrom : HeapPages → LinesSoFar → Type 0
+IsReadFrom heap written = (text : List ℕ) × (trace_of text ≡ contents_of heap written)
+
+-- what a map has for a name
+abbrev pub value_for_name : {X S : Type 0} → HashMap (Bor (List ℕ)) X S → List ℕ → Option X
+value_for_name names name = get_by (λ key. bytes_eq name key.now) names
+
+-- the map has the number of each slot, by its name
+abbrev pub AreSlotNumbers : {S : Type 0} → HashMap (Bor (List ℕ)) ℕ S → List Slot → Type 0
+AreSlotNumbers numbers slots = (name : List ℕ) → value_for_name numbers name ≡ slot_number slots name

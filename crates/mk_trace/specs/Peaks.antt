@@ -1,11 +1,16 @@
 -- The peaks of a history: how much was held, quarantined and reserved at most, how many cycles ended, and through how
 -- many of their ends freed objects stayed.
 use Rattle.std.specs.Prelude.{ℕ, ◌+◌, max, Bool, ◌&&◌, nat_lt, ◌==◌, if◌then◌else◌, List, [], ◌∷◌, filter, fold, map}
-use Rattle.std.specs.Prelude.{sum_by}
+use Rattle.std.specs.{Prelude.{sum_by, ◌*◌, ◌≤◌, false, ◌≡◌, ◌⊎◌, ◌<◌, ◌++◌, length}, List.flat_map, Fmt.decimal}
 use Rattle.mk_never.specs.Types.{kinds_of, is_large}
 use Rattle.mk_core.specs.Allocations.{PlacedAllocation, placed_at, storage_words, held_by_allocations}
 use Rattle.mk_core.specs.{Counts.{ends, in_a_word}, Cycles.{is_end, is_quarantined}, History.{World, first_world}}
-use Rattle.mk_core.specs.{History.{world_behind, left}, declared.config.Config.Config, declared.events.Event.Event}
+use Rattle.mk_core.specs.{History.{world_behind, left, IsHistory}, declared.config.Config.Config}
+use Rattle.mk_core.specs.{declared.events.Event.Event, Words.phase_of}
+use Rattle.mk_heap.specs.Below.Objects.Bounds.{QuarantineIsBounded, WhereTurnIsFree, fresh_after, kept_mapped}
+use Rattle.mk_script.specs.Canonical.{line_text}
+use Rattle.mk_trace.specs.declared.peaks.Peaks.{Peaks}
+use lib.Chars.{codes}
 
 -- the storage of the freed and unreleased allocations, and of the large ones among them, whose addresses are reserved
 
@@ -89,3 +94,86 @@ peaks_of c es =
       cycles = in_a_word (ends es);
       ages = counted (released_ages (found_by_ends c es) 0 (left c es).allocations);
     }
+
+-- What was freed since the last `begin` is at most a quarter of the peak of held words.
+abbrev pub FreshIsQuarterOfPeak : HistoryPeaks → Config → List Event → Type 0
+FreshIsQuarterOfPeak peaks c es = 4 * fresh_after c es ≤ peaks.held
+
+-- So all that is quarantined is at most such a quarter, what is reserved, and what was freed before the last `begin`.
+abbrev pub QuarantineIsQuarterOfPeak : HistoryPeaks → Config → List Event → Type 0
+QuarantineIsQuarterOfPeak peaks c es =
+    4 * quarantined_words c (left c es).allocations
+    ≤ peaks.held + 4 * (reserved_words c (left c es).allocations + kept_mapped c (left c es).allocations)
+
+-- Whenever nobody has the turn, what is fresh is at most a quarter of the peak.
+pub record PeaksBoundQuarantine (c : Config) (es : List Event) (peaks : HistoryPeaks) : Type 0 where
+  pub fresh : WhereTurnIsFree (FreshIsQuarterOfPeak peaks) c es
+  pub quarantined : WhereTurnIsFree (QuarantineIsQuarterOfPeak peaks) c es
+
+-- It is so in each history whose quarantine is bounded, with calls that end the cycles that they begin.
+abbrev pub BoundsMeetPeaks : Type 0
+BoundsMeetPeaks =
+    (c : Config) (es : List Event) → IsHistory c es → QuarantineIsBounded false c es
+    → PeaksBoundQuarantine c es (peaks_of c es)
+
+-- No cycle is on.
+abbrev pub IsBetweenCycles : Config → List Event → Type 0
+IsBetweenCycles c es = phase_of (left c es).now.words ≡ 0
+
+-- The second list has the allocations of the first, and maybe more. Of the first none was released meanwhile.
+pub record ReleasesNone (xs ys : List PlacedAllocation) : Type 0 where
+  pub count : length xs ≤ length ys
+  pub released : (n : ℕ) → n < length xs → (placed_at ys n).released ≡ (placed_at xs n).released
+
+-- In both lists the same ones are freed.
+abbrev pub FreesNone : List PlacedAllocation → List PlacedAllocation → Type 0
+FreesNone xs ys = (n : ℕ) → (placed_at ys n).freed ≡ (placed_at xs n).freed
+
+-- No cycle ended, and none was released.
+pub record EndsNone (c : Config) (es fs : List Event) : Type 0 where
+  pub found : found_by_ends c fs ≡ found_by_ends c es
+  pub count : ends fs ≡ ends es
+  pub released : ReleasesNone (left c es).allocations (left c fs).allocations
+
+-- One cycle ended, and found these. After its end none was freed or released.
+pub record EndsOne (c : Config) (es fs : List Event) : Type 0 where
+  pub finds : List PlacedAllocation
+  pub found : found_by_ends c fs ≡ found_by_ends c es ++ finds ∷ []
+  pub count : ends fs ≡ ends es + 1
+  pub earlier : length (left c es).allocations ≤ length finds
+  pub freed : FreesNone finds (left c fs).allocations
+  pub released : ReleasesNone finds (left c fs).allocations
+
+-- Where no cycle was on, none is on again, and one ended at most.
+abbrev pub EndsTell : Config → List Event → List Event → Type 0
+EndsTell c es fs = IsBetweenCycles c es → IsBetweenCycles c fs × (EndsNone c es fs ⊎ EndsOne c es fs)
+
+-- No cycle began or ended, and all allocations are as they were.
+pub record LeavesAllocations (c : Config) (es fs : List Event) : Type 0 where
+  pub phase : phase_of (left c fs).now.words ≡ phase_of (left c es).now.words
+  pub found : found_by_ends c fs ≡ found_by_ends c es
+  pub count : ends fs ≡ ends es
+  pub allocations : (left c fs).allocations ≡ (left c es).allocations
+
+-- the lines of the peaks, but for ages, as words
+abbrev pub lines_of_counts : Peaks → List (List (List ℕ))
+lines_of_counts peaks =
+    (codes "events" ∷ decimal peaks.events ∷ []) ∷
+    (codes "refused" ∷ decimal peaks.refused ∷ []) ∷
+    (codes "held" ∷ decimal peaks.held ∷ []) ∷
+    (codes "quarantined" ∷ decimal peaks.quarantined ∷ []) ∷
+    (codes "reserved" ∷ decimal peaks.reserved ∷ []) ∷
+    (codes "cycles" ∷ decimal peaks.cycles ∷ []) ∷
+    []
+
+-- their text
+abbrev pub text_of_counts : Peaks → List ℕ
+text_of_counts peaks = flat_map line_text (lines_of_counts peaks)
+
+-- an age, and how many have it
+abbrev pub text_of_ages : List (ℕ × ℕ) → List ℕ
+text_of_ages ages = flat_map (λ (pair : ℕ × ℕ). line_text (codes "age" ∷ decimal pair.0 ∷ decimal pair.1 ∷ [])) ages
+
+-- the whole text
+abbrev pub peaks_text : Peaks → List ℕ
+peaks_text peaks = text_of_counts peaks ++ text_of_ages peaks.ages.items

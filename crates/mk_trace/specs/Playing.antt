@@ -1,20 +1,21 @@
 -- Playing a trace: the operations that its events make, given their answers, on a heap of one caller whose globals are
 -- the slots.
 use Rattle.std.specs.Prelude.{◌≡◌, ℕ, ◌+◌, ◌-◌, Bool, true, false, ◌&&◌, if◌then◌else◌, List, [], ◌∷◌, ◌++◌, length}
-use Rattle.std.specs.{Prelude.{map, replicate, take, drop}, List.{list_any, range_with_len}}
-use Rattle.mk_never.specs.{declared.types.Kind.Kind, declared.types.Kind.TheVariants.{Num, To}}
-use Rattle.mk_never.specs.{declared.operations.Op.Op, declared.operations.Op.TheVariants.{New, Free, SetNum, SetPtr}}
+use Rattle.std.specs.{Prelude.{map, replicate, take, drop, ◌<◌, ◌≤◌, get_or, All}, List.{list_any, range_with_len}}
+use Rattle.mk_never.specs.declared.types.Kind.{Kind, TheVariants.{Num, To}}
+use Rattle.mk_never.specs.declared.operations.Op.{Op, TheVariants.{New, Free, SetNum, SetPtr}}
 use Rattle.mk_never.specs.{declared.operations.Op.TheVariants.{Clear, GetGlobal, SetGlobal}, NeverHeap.Call}
-use Rattle.mk_core.specs.{declared.config.Config.Config, declared.events.Answer.Answer, declared.events.Event.Event}
-use Rattle.mk_core.specs.{declared.events.Seat.Seat, declared.events.Seat.TheVariants.{Caller, Host}}
-use Rattle.mk_core.specs.{Counts.is_full_answer, Decided.{asked, answered}, Growing.is_same_seat, History.calls}
-use Rattle.mk_laws.specs.{Precision.CyclesArePrecise, Promises.KeepsAllPromises}
+use Rattle.mk_core.specs.declared.{config.Config.Config, events.{Answer.Answer, Event.Event}}
+use Rattle.mk_core.specs.declared.events.Seat.{Seat, TheVariants.{Caller, Host}}
+use Rattle.mk_core.specs.{Counts.is_full_answer, Calls.{asked, answered}, History.{is_same_seat, calls, left}}
+use Rattle.mk_core.specs.{Allocations.PlacedAllocation, Moments.{IsBetween, IsWithinLimits}}
+use Rattle.mk_laws.specs.{Releases.CyclesArePrecise, Promises.KeepsAllPromises}
 pub use Rattle.mk_check.specs.Feed.{is_refusal}
-use Rattle.mk_heap.specs.{Below.Objects.TurnCycles.{TurnsOfAreExact, is_of_cycle}, Reports.IsWhole}
-use Rattle.mk_heap.specs.{Below.Objects.Bounds.QuarantineIsBounded, Unswept.IsUnswept}
-use Rattle.mk_trace.specs.{declared.trace.TraceEvent.TraceEvent, declared.trace.TraceEvent.TheVariants.{A, K, F, C, W}}
-use Rattle.mk_trace.specs.{declared.peaks.Peaks.Peaks, Peaks.{HistoryPeaks, peaks_of}, Traces.Contents}
-use Rattle.mk_heap.specs.Reports as report
+use Rattle.mk_heap.specs.{Below.Objects.TurnCycles.{TurnsOfAreExact, is_of_cycle}, Hosts.IsWhole}
+use Rattle.mk_heap.specs.{Below.Objects.Bounds.QuarantineIsBounded, Unswept.{IsUnswept, SeatSweepsNothing}}
+use Rattle.mk_trace.specs.declared.trace.TraceEvent.{TraceEvent, TheVariants.{A, K, F, C, W}}
+use Rattle.mk_trace.specs.{declared.peaks.Peaks.Peaks, Peaks.{HistoryPeaks, peaks_of}, Grammar.{Contents, slot_of}}
+use Rattle.mk_heap.specs.Hosts as report
 
 -- The type of a slot's objects: a pointer to such an object, and numbers.
 abbrev pub slot_type : ℕ → ℕ → List Kind
@@ -117,3 +118,42 @@ pub record ArePeaks (trace : Contents) (es : List Event) (peaks : Peaks) : Type 
   pub events : peaks.events ≡ length trace.events
   pub refused : peaks.refused ≡ refused_events trace.events (answered (calls (config_of trace) es))
   pub of_history : history_peaks peaks ≡ peaks_of (config_of trace) es
+
+-- What the turns of the caller and of the host do with cycles while a trace is played.
+-- Private functions alone cite these words.
+
+-- Each turn of the caller did with cycles what its operation asks, the host made none, and neither made a sweeping
+-- mark.
+pub record AllTurnsAreExact (c : Config) (es : List Event) : Type 0 where
+  pub caller : TurnsOfAreExact false c (Caller 0) es
+  pub host : MakesNoCycle Host es
+  pub caller_unswept : SeatSweepsNothing c (Caller 0) es
+  pub host_unswept : SeatSweepsNothing c Host es
+
+-- So it is still.
+abbrev pub StayExact : Config → List Event → List Event → Type 0
+StayExact c es fs = AllTurnsAreExact c es → AllTurnsAreExact c fs
+
+-- an event is of one of the slots, and a write is to a number of the slot's objects
+abbrev pub IsEventOf : List ℕ → TraceEvent → Type 0
+IsEventOf slots (W slot index value) = (slot < length slots) × (1 ≤ index) × (index < get_or slots slot 0)
+IsEventOf slots event = slot_of event < length slots
+
+-- It can be played: its heap is within the limits, and its events are of its slots.
+pub record IsPlayable (trace : Contents) : Type 0 where
+  pub slot_count : IsBetween 1 64 (length trace.slots)
+  pub slots : All (IsBetween 1 4096) trace.slots
+  pub events : All (IsEventOf trace.slots) trace.events
+  pub heap : IsWithinLimits (config_of trace)
+
+-- a beginning of the events leaves allocations of this measure
+pub record IsAttained (c : Config) (measure : List PlacedAllocation → ℕ) (es : List Event) (n : ℕ) : Type 0 where
+  pub before : List Event
+  pub behind : List Event
+  pub is : es ≡ before ++ behind
+  pub same : n ≡ measure (left c before).allocations
+
+-- The greatest measure is reached, and no beginning of the events passes it.
+pub record IsGreatest (c : Config) (measure : List PlacedAllocation → ℕ) (es : List Event) (n : ℕ) : Type 0 where
+  pub reached : IsAttained c measure es n
+  pub above : (before behind : List Event) → es ≡ before ++ behind → measure (left c before).allocations ≤ n

@@ -1,9 +1,9 @@
 //! The calls of the one caller of a heap. Between them the host has its seat, and so has seen all.
 ghost use Rattle.std.specs.Prelude.{◌≡◌, ◌+◌, ◌<◌, ◌≤◌, IfOk, false};
 ghost use Rattle.mk_core.specs.{Counts.ends, History.never_behind};
-ghost use Rattle.mk_trace.specs.{Calls.{CallerIsHome, MayCome, MayBePlayed, Calls, PlaysEvent}, ExactPlays.StayExact};
-ghost use Rattle.mk_trace.specs.{Freeing.{FreesItsSlot, FreesSlot}, Players.{DoesCall, IsBetweenCalls}};
-ghost use Rattle.mk_trace.specs.Traces.{slot_of};
+ghost use Rattle.mk_trace.specs.{Calls.{CallerIsHome, MayCome, MayBePlayed, Calls, PlaysEvent}, Playing.StayExact};
+ghost use Rattle.mk_trace.specs.{Ledgers.{FreesItsSlot, FreesSlot}, Calls.{DoesCall, IsBetweenCalls}};
+ghost use Rattle.mk_trace.specs.Grammar.{slot_of};
 
 use crate::looking::{look, object_to_free};
 use crate::operations::{first_op, is_full_answer, later_ops};

@@ -1,6 +1,6 @@
 //! The heap that a trace is played on.
 ghost use Rattle.std.specs.{Prelude.{◌≡◌, ◌≤◌, [], ◌∷◌, ◌++◌, length, IfOk, OnOk}, List.range_with_len};
-ghost use Rattle.mk_core.specs.Config.{IsWithinLimits};
+ghost use Rattle.mk_core.specs.Moments.{IsWithinLimits};
 ghost use Rattle.mk_trace.specs.Playing as spec;
 
 use crate::trace::Trace;

@@ -1,6 +1,6 @@
 //! What the lines so far say.
 ghost use Rattle.std.specs.{Prelude.{◌≡◌, ◌∷◌, OnOk, position}, Str.bytes_eq};
-ghost use Rattle.mk_script.specs.Words.{texts_of};
+ghost use Rattle.mk_script.specs.Grammar.{texts_of};
 ghost use Rattle.mk_trace.specs.declared.lines.Slot.{Slot};
 ghost use Rattle.mk_trace.specs.Lines as spec;
 

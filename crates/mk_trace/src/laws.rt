@@ -1,9 +1,9 @@
 //! Laws of traces and peaks.
 ghost use Rattle.std.specs.Prelude.{ℕ, List};
-ghost use Rattle.mk_core.specs.{declared.config.Config.Config, declared.events.Event.Event};
+ghost use Rattle.mk_core.specs.declared.{config.Config.Config, events.Event.Event};
 ghost use Rattle.mk_core.specs.Allocations.{PlacedAllocation};
-ghost use Rattle.mk_trace.specs.{Laws.{IsPlayable, IsGreatest}, PeakBounds.BoundsMeetPeaks, Peaks.greatest};
-ghost use Rattle.mk_trace.specs.Traces.{Contents, IsOfSomeTraceText};
+ghost use Rattle.mk_trace.specs.{Playing.{IsPlayable, IsGreatest}, Peaks.{BoundsMeetPeaks, greatest}};
+ghost use Rattle.mk_trace.specs.Grammar.{Contents, IsOfSomeTraceText};
 
 /// A trace of some text can be played: its heap is within the limits, and its events are of its slots.
 pub fn traces_are_playable()

@@ -1,7 +1,7 @@
 //! The lines of a trace's text, by their words.
 ghost use Rattle.std.specs.Prelude.{◌≡◌, ◌∷◌};
 ghost use Rattle.mk_script.specs.Operands as operands;
-ghost use Rattle.mk_script.specs.Words.{texts_of};
+ghost use Rattle.mk_script.specs.Grammar.{texts_of};
 ghost use Rattle.mk_trace.specs.Lines as spec;
 
 use mk_script::{LineFault, Name, TextKind, Which, at_most, heap_limit, parse_number, within};

@@ -1,7 +1,7 @@
 //! The operations of a trace's events.
 ghost use Rattle.std.specs.Prelude.{◌≡◌, ◌∷◌, [], ◌<◌, drop, IfOk, false};
 ghost use Rattle.mk_core.specs.{Calls.is_under_turn, Counts.is_full_answer};
-ghost use Rattle.mk_trace.specs.Traces.{slot_of};
+ghost use Rattle.mk_trace.specs.Grammar.{slot_of};
 ghost use Rattle.mk_never.specs.declared.operations.Op.TheVariants as op;
 ghost use Rattle.mk_trace.specs.Playing as spec;
 ghost use Rattle.mk_trace.specs.declared.trace.TraceEvent.TheVariants as trace_event;

@@ -1,9 +1,9 @@
 //! The reader.
 ghost use Rattle.std.specs.Prelude.{◌≡◌, ◌≢◌, ◌≤◌, ◌<◌, ◌+◌, ◌^◌, List, length, MatchResult, Ok, Err, IfOk, IfErr};
-ghost use Rattle.mk_script.specs.Words.{words_of_line, texts_of, lines_of};
+ghost use Rattle.mk_script.specs.Grammar.{words_of_line, texts_of, lines_of};
 ghost use Rattle.mk_trace.specs.{Grammar.written_from, Lines.{nothing_written, header_line_of, trace_line_of}};
-ghost use Rattle.mk_trace.specs.{Reading.{IsFaultOf, ReadsTraceLine, IsReadFrom}, Traces.{trace_of, contents_of}};
-ghost use Rattle.mk_trace.specs.Traces as spec;
+ghost use Rattle.mk_trace.specs.Grammar.{IsFaultOf, ReadsTraceLine, IsReadFrom, trace_of, contents_of};
+ghost use Rattle.mk_trace.specs.Grammar as spec;
 
 use crate::draft::Draft;
 use crate::faults::TraceStop;

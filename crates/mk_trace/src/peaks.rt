@@ -1,7 +1,7 @@
 //! Peaks of played traces, and the lines in which they are printed.
 ghost use Rattle.std.specs.{Prelude.{◌≡◌, ◌++◌, [], ◌∷◌, IfOk, OnOk}, Fmt.decimal, String.string_bytes};
 ghost use Rattle.mk_script.specs.Canonical.{line_text};
-ghost use Rattle.mk_trace.specs.Printed.{text_of_counts, text_of_ages, peaks_text};
+ghost use Rattle.mk_trace.specs.Peaks.{text_of_counts, text_of_ages, peaks_text};
 ghost use lib.Chars.{codes};
 
 use mk_heap::Report;

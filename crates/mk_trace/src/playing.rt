@@ -1,8 +1,8 @@
 //! Playing traces.
 ghost use Rattle.std.specs.Prelude.{◌≡◌, ◌+◌, ◌<◌, [], false, if◌then◌else◌, IfOk};
-ghost use Rattle.mk_core.specs.{Config.IsWithinLimits, Counts.ends};
-ghost use Rattle.mk_trace.specs.{Calls.{CallerIsHome, SameCalls, HasPlayed}, ExactPlays.StayExact};
-ghost use Rattle.mk_trace.specs.{Players.IsBetweenCalls, Playing.{history_of, IsPlayed, ArePeaks}};
+ghost use Rattle.mk_core.specs.{Moments.IsWithinLimits, Counts.ends};
+ghost use Rattle.mk_trace.specs.{Calls.{CallerIsHome, SameCalls, HasPlayed}, Playing.StayExact};
+ghost use Rattle.mk_trace.specs.{Calls.IsBetweenCalls, Playing.{history_of, IsPlayed, ArePeaks}};
 ghost use Rattle.mk_trace.specs.Playing as spec;
 
 use crate::calls::refuses;

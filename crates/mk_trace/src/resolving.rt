@@ -1,7 +1,7 @@
 //! Events by the numbers of their slots.
 ghost use Rattle.std.specs.Prelude.{◌≡◌, ◌≢◌, ◌<◌, ◌+◌, ◌^◌, [], length, Ok, Err, IfOk, IfErr};
-ghost use Rattle.mk_trace.specs.{Grammar.events_from, Reading.AreSlotNumbers};
-ghost use Rattle.mk_trace.specs.Typing as typing;
+ghost use Rattle.mk_trace.specs.Grammar.{events_from, AreSlotNumbers};
+ghost use Rattle.mk_trace.specs.Grammar as typing;
 
 use crate::faults::TraceStop;
 use crate::lines::{Action, EventLine, Slot};

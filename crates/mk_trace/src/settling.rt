@@ -2,7 +2,7 @@
 ghost use Rattle.std.specs.Prelude.{◌≡◌, ◌∷◌, ◌++◌, [], fold, map, if◌then◌else◌, IfOk, OnOk};
 ghost use Rattle.mk_core.specs.{Counts.{ends, in_a_word}, History.left};
 ghost use Rattle.mk_trace.specs.{Calls.CallerIsHome, Ledgers.{SettlesFreed, aged, ages_let_go, still_kept, with_one}};
-ghost use Rattle.mk_trace.specs.Looking.{HostOnlyLooks};
+ghost use Rattle.mk_trace.specs.Calls.{HostOnlyLooks};
 
 use crate::ledger::{Freed, FreedObject, count_age};
 use crate::looking::{is_quarantined, look};

@@ -1,6 +1,6 @@
 //! Traces.
 ghost use Rattle.std.specs.Prelude.{◌≡◌, ◌<◌, length, get_or};
-ghost use Rattle.mk_trace.specs.Traces.{slot_of, contents_from, IsOfSomeTraceText};
+ghost use Rattle.mk_trace.specs.Grammar.{slot_of, contents_from, IsOfSomeTraceText};
 
 use std::marker::Model;
 
@@ -43,7 +43,7 @@ pub struct Trace {
 }
 
 impl Model for Trace {
-    ghost use Rattle.mk_trace.specs.Traces.{Contents, contents_from, IsOfSomeTraceText};
+    ghost use Rattle.mk_trace.specs.Grammar.{Contents, contents_from, IsOfSomeTraceText};
 
     ghost Value = { Contents };
 

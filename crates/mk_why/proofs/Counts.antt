@@ -3,7 +3,7 @@ use Rattle.std.proofs.{lemmas.List.Sums.{count_by-le-length, sum_by-cons, sum_by
 use Rattle.mk_sweep.proofs.Below.Laws.Vocabulary.{List, None, Option, Some, ℕ, ap, arith, cond, eqb-true, false}
 use Rattle.mk_sweep.proofs.Below.Laws.Vocabulary.{is_some, length, length-set, refl, slice_index_or, slice_set, suc}
 use Rattle.mk_sweep.proofs.Below.Laws.Vocabulary.{[], ◌*◌, ◌+◌, ◌<◌, ◌∷◌, ◌≡◌, ◌≤◌}
-use Rattle.mk_why.specs.{Sizes.pages_for, States.WhyState}
+use Rattle.mk_why.specs.{Stops.pages_for, Searching.WhyState}
 
 -- How many entries of a table there are, with one more, and with none.
 

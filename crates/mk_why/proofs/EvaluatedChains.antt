@@ -5,7 +5,7 @@ use Rattle.mk_sweep.proofs.Below.Laws.Vocabulary.{ltb-true, refl, small, subst, 
 use Rattle.mk_core.proofs.{ListTests.{list_all-at, numbered_all}, Schedules.{by, c0, host, pointer_page}}
 use Rattle.mk_core.proofs.{SmallCycles.{begun_in_stop, marked_in_stop, three_objects}, MoreSchedules.exchanged}
 use Rattle.mk_core.proofs.TouchedTests.{is_into_members, points_into}
-use Rattle.mk_core.specs.{Bounded.all_below, Cells.pointed_cell, History.left_from}
+use Rattle.mk_core.specs.{Words.all_below, Cells.pointed_cell, History.left_from}
 use Rattle.mk_sweep.proofs.EvaluatedSwept.{all_into, stopped, swept_in_stop, two_unreached, unreached}
 use Rattle.mk_why.specs.Chains.{IsChain, NoneIsShorter}
 

@@ -3,7 +3,7 @@ use Rattle.mk_why.proofs.Vocabulary.{AreOfKept, Cell, Config, IsHistory, IsListe
 use Rattle.mk_why.proofs.Vocabulary.{PlacedAllocation, Storage, Tables, TurnState, View, WordsState, base_at}
 use Rattle.mk_why.proofs.Vocabulary.{cell_of_allocation, entry_at, first_word, has_bit, header_at, header_in, header_of}
 use Rattle.mk_why.proofs.Vocabulary.{is_kept, never_behind, now_of, placed_at, storage_words, view_by, words_under}
-use Rattle.mk_why.{proofs.Vocabulary.{world_in, world_of}, specs.Listing.{IsKeptAt}}
+use Rattle.mk_why.{proofs.Vocabulary.{world_in, world_of}, specs.Searching.{IsKeptAt}}
 use Rattle.mk_sweep.proofs.Below.Laws.Vocabulary.{Bool, Invariant, List, None, Option, Some, ℕ, and_from, and_parts, ap}
 use Rattle.mk_sweep.proofs.Below.Laws.Vocabulary.{arith, cases_eq, cases_lt, cell_words, cells_begin, cells_under}
 use Rattle.mk_sweep.proofs.Below.Laws.Vocabulary.{false, get_or-set_other, get_or-set_same, inl, inr, is_cycling}
@@ -11,10 +11,10 @@ use Rattle.mk_sweep.proofs.Below.Laws.Vocabulary.{is_marked, length, length-set,
 use Rattle.mk_sweep.proofs.Below.Laws.Vocabulary.{slice_set, subst, sym, true, typed_size, words_within, ◌&&◌, ◌*◌, ◌+◌}
 use Rattle.mk_sweep.proofs.Below.Laws.Vocabulary.{◌/◌, ◌<◌, ◌^◌, ◌∙◌, ◌≡◌, ◌≢◌}
 use Rattle.mk_sweep.proofs.Below.Laws.InvariantHistories.{allocations_stand, histories_keep_the_invariant}
-use Rattle.mk_sweep.proofs.{Below.Laws.KnownWorlds.known_world, Below.Laws.ReadingsStands.freed_cell}
-use Rattle.mk_sweep.specs.{Below.Laws.SettledPages.StandsUsed, Below.Cycles.FinishCycle.is_in_snapshot_of_cycle}
+use Rattle.mk_sweep.proofs.Below.Laws.{KnownWorlds.known_world, ReadingsStands.freed_cell}
+use Rattle.mk_sweep.specs.Below.{Laws.Theorems.StandsUsed, Cycles.FinishCycle.is_in_snapshot_of_cycle}
 use Rattle.mk_core.proofs.{PointedAllocations.marked_where_its_cell_is, StandingAllocations.cell_is_known}
-use Rattle.mk_core.specs.ClosedMarks.{is_marked_allocation}
+use Rattle.mk_core.specs.Cycles.{is_marked_allocation}
 
 -- The cell, of this many words, is that of a kept allocation.
 pub record IsKeptCell (c : Config) (v : View) (cell : Cell) (size : ℕ) : Type 0 where

@@ -1,5 +1,5 @@
 -- Looks leave the view as it is, and so does what others do in the stop; after an engine's marks they leave its law.
-use Rattle.std.proofs.{lemmas.List.Sums.{sum_by-append, sum_by-cons}, Common.count_by, lemmas.List.append_cancel_left}
+use Rattle.std.proofs.{lemmas.List.{Sums.{sum_by-append, sum_by-cons}, append_cancel_left}, Common.count_by}
 use Rattle.mk_why.proofs.Vocabulary.{Config, Event, IsHistory, IsStill, LooksWhileStill, PassState, TurnState, View}
 use Rattle.mk_why.proofs.Vocabulary.{World, is_word, left, now_of, others_are_held, phase_of, view_by, view_of}
 use Rattle.mk_sweep.proofs.Below.Laws.Vocabulary.{AreOfOthers, Bool, List, MarkerState, Moment, Seat, Step, TurnIsLeft}
@@ -7,23 +7,23 @@ use Rattle.mk_sweep.proofs.Below.Laws.Vocabulary.{Word, ℕ, all_below, and_from
 use Rattle.mk_sweep.proofs.Below.Laws.Vocabulary.{cond, enabled_meets, eq-eqb, false, has_closed_page, is_attending}
 use Rattle.mk_sweep.proofs.Below.Laws.Vocabulary.{lt-ltb, none_attends, not, not-true, outside, refl, roots_point_well}
 use Rattle.mk_sweep.proofs.Below.Laws.Vocabulary.{slice_index_or, suc, true, zero, [], ◌&&◌, ◌++◌, ◌+◌, ◌∙◌, ◌∷◌, ◌≡◌}
-use Rattle.mk_sweep.proofs.{Below.Laws.ProtocolFrames.others_leave, Below.Laws.Tests.none_from}
+use Rattle.mk_sweep.proofs.Below.Laws.{ProtocolFrames.others_leave, Tests.none_from}
 use Rattle.mk_sweep.proofs.Below.Cycles.KeptInParts.{free_then, keeps_at_once, keeps_then}
-use Rattle.mk_sweep.proofs.{Below.Cycles.Allowed.in_turn_before, Below.Cycles.CleaningSteps.calm_keeps}
-use Rattle.mk_sweep.proofs.{Below.Cycles.MayAct.calm_admitted, Below.Cycles.Stilled.{none_after, phase_there}}
-use Rattle.mk_sweep.proofs.{Below.Cycles.Stilled.words_left, Below.Cycles.Closes.marks_closed_now}
-use Rattle.mk_sweep.proofs.{Below.Cycles.MaySteps.may_look, Below.Cycles.Steps.may_step, Below.Cycles.Wants.wants_by}
+use Rattle.mk_sweep.proofs.Below.Cycles.{Allowed.in_turn_before, CleaningSteps.calm_keeps}
+use Rattle.mk_sweep.proofs.Below.Cycles.{MayAct.calm_admitted, Stilled.{none_after, phase_there}}
+use Rattle.mk_sweep.proofs.Below.Cycles.{Stilled.words_left, Closes.marks_closed_now}
+use Rattle.mk_sweep.proofs.Below.Cycles.{MaySteps.may_look, Steps.may_step, Wants.wants_by}
 use Rattle.mk_sweep.proofs.Below.Words.Doing.{does_nothing, does_step, does_then, done_in_parts}
-use Rattle.mk_sweep.proofs.{Below.Words.PointedCells.looked_for, Below.Words.Sweeping.{does_sweep, sweeps_then}}
-use Rattle.mk_sweep.proofs.{Below.Words.Seats.others_own, Below.Words.TurnSteps.still_stopped, Kept.ready_of}
+use Rattle.mk_sweep.proofs.Below.Words.{PointedCells.looked_for, Sweeping.{does_sweep, sweeps_then}}
+use Rattle.mk_sweep.proofs.{Below.Words.{Seats.others_own, TurnSteps.still_stopped}, Kept.ready_of}
 use Rattle.mk_sweep.specs.Below.Cycles.TurnKeeps.{LeavesTurn, but_phase}
 use Rattle.mk_sweep.specs.Below.Cycles.EngineLaw.{ClosesMarks, IsFreeForCycle}
-use Rattle.mk_sweep.specs.{Below.Cycles.Kinds.{closes_marks, is_want}, Below.Cycles.Stops.IsWanted}
-use Rattle.mk_sweep.specs.{Below.Words.Sweeping.{HaveNoMark, SweepsNothing}, Below.Words.Doing.{Does, are_of}}
-use Rattle.mk_sweep.specs.Below.Words.Doing.{count_done, done_in}
-use Rattle.mk_sweep.specs.{Below.Words.Pointing.{LooksForCell, MayLookAtHeaders}, Below.Words.States.event_of}
-use Rattle.mk_sweep.specs.{Below.Words.Steps.{IsAdmittedTo, IsEnabledTo}, Below.Words.TurnSteps.Acts}
-use Rattle.mk_core.specs.{Frames.written_of, Growing.Finding, Readings.NoneAttends}
+use Rattle.mk_sweep.specs.Below.Cycles.{TurnKeeps.{closes_marks, is_want}, Stops.IsWanted}
+use Rattle.mk_sweep.specs.Below.Words.{Sweeping.{HaveNoMark, SweepsNothing}, Steps.{Does, are_of}}
+use Rattle.mk_sweep.specs.Below.Words.Steps.{count_done, done_in}
+use Rattle.mk_sweep.specs.Below.Words.{TurnSteps.{LooksForCell, MayLookAtHeaders}, States.event_of}
+use Rattle.mk_sweep.specs.Below.Words.{Steps.{IsAdmittedTo, IsEnabledTo}, TurnSteps.Acts}
+use Rattle.mk_core.specs.{Frames.written_of, History.Finding, Readings.NoneAttends}
 use Rattle.mk_why.specs.Stops.{is_look}
 
 -- Looks leave the view as it is, and so does what others do in the stop.

@@ -1,16 +1,16 @@
 -- Chains followed back, and the entries of the kept allocations.
 use Rattle.std.{proofs.lemmas.List.{length-reverse, reverse-append}, specs.List.Sorted.{IsStrictlyIncreasing}}
 use Rattle.std.proofs.lemmas.List.Elements.{Contains-append_left, Contains-push, Contains-push_cases}
-use Rattle.std.proofs.{Common.{length-append, reverse}, Math.ListN.get_or-append, Math.Seq.get_or-append_seam}
+use Rattle.std.proofs.{Common.{length-append, reverse}, Math.{ListN.get_or-append, Seq.get_or-append_seam}}
 use Rattle.mk_why.proofs.Vocabulary.{AreEntriesBelow, AreWays, BeginApart, Config, Found, IsTold, IsWay}
 use Rattle.mk_why.proofs.Vocabulary.{IsWhy, Link, LinksLead, Root, Start, Storage, View, base_at, entry_at, is_kept}
 use Rattle.mk_why.proofs.Vocabulary.{placed_at, world_in}
 use Rattle.mk_sweep.proofs.Below.Laws.Vocabulary.{List, None, Option, Some, ℕ, and_parts, ap, arith, cases_lt, false}
 use Rattle.mk_sweep.proofs.Below.Laws.Vocabulary.{inl, inr, length, length-map, lt-ltb, map, map-append, not-true, refl}
 use Rattle.mk_sweep.proofs.Below.Laws.Vocabulary.{slice_index, subst, sym, true, [], ◌*◌, ◌++◌, ◌+◌, ◌<◌, ◌∙◌, ◌∷◌, ◌≡◌}
-use Rattle.mk_sweep.proofs.{Below.Laws.Vocabulary.◌≤◌, Below.Laws.MappedWords.mapped_stays}
-use Rattle.mk_why.specs.Entries.{IsLed, IsMadeOf, IsOneMore, IsToldWhy, IsWayOf, back_to, root_of, step_back}
-use Rattle.mk_why.specs.{Chains.IsEntryOf, Listing.IsKeptAt, declared.found.Way.Way, declared.kept.Kept.Kept}
+use Rattle.mk_sweep.proofs.Below.Laws.{Vocabulary.◌≤◌, MappedWords.mapped_stays}
+use Rattle.mk_why.specs.Searching.{IsLed, IsMadeOf, IsOneMore, IsToldWhy, IsWayOf, back_to, root_of, step_back}
+use Rattle.mk_why.specs.{Chains.IsEntryOf, Searching.IsKeptAt, declared.{found.Way.Way, kept.Kept.Kept}}
 
 -- One step back.
 

@@ -7,13 +7,13 @@ use Rattle.mk_why.proofs.Vocabulary.{storage_of, storage_words, used_at, view_by
 use Rattle.mk_sweep.proofs.Below.Laws.Vocabulary.{IsSettled, None, Option, Some, ℕ, and_parts, ap, arith, cells_begin}
 use Rattle.mk_sweep.proofs.Below.Laws.Vocabulary.{false, has_no_pointers, inr, ne_eqb, not, pointed_cell, subst, sym}
 use Rattle.mk_sweep.proofs.Below.Laws.Vocabulary.{true, true≢false, typed_size, words_within, ◌*◌, ◌+◌, ◌/◌, ◌<◌, ◌∙◌}
-use Rattle.mk_sweep.{proofs.Below.Laws.Vocabulary.{◌≡◌, ◌≤◌}, proofs.ScannedCells.{used_is_taken}}
+use Rattle.mk_sweep.proofs.{Below.Laws.Vocabulary.{◌≡◌, ◌≤◌}, ScannedCells.used_is_taken}
 use Rattle.mk_sweep.proofs.Below.Laws.InvariantHistories.{allocations_are_disjoint, allocations_stand}
 use Rattle.mk_sweep.proofs.Below.Laws.InvariantHistories.{histories_keep_the_invariant}
-use Rattle.mk_sweep.proofs.{Below.Laws.KnownWorlds.known_world, Below.Laws.MappedWords.mapped_stays}
+use Rattle.mk_sweep.proofs.Below.Laws.{KnownWorlds.known_world, MappedWords.mapped_stays}
 use Rattle.mk_sweep.proofs.Below.Laws.Settled.{gone_is_unmapped, unreleased_are_apart}
 use Rattle.mk_sweep.proofs.{Below.Laws.Worlds.{Told, comes_back, hits}, ScannedCells.{scanned_stands, used_cell}}
-use Rattle.mk_sweep.specs.Below.Laws.SettledPages.{StandsUsed}
+use Rattle.mk_sweep.specs.Below.Laws.Theorems.{StandsUsed}
 use Rattle.mk_core.specs.Cells.{is_used}
 use Rattle.mk_why.specs.Searching.{AreScannedFrom, IsBasePointed, PointsAtBase}
 

@@ -1,8 +1,8 @@
 -- What chains lead to is swept, link by link.
 use Rattle.mk_why.proofs.Vocabulary.{Config, Global, LinksLead, Register, Root, World, word_of_root}
 use Rattle.mk_sweep.proofs.Below.Laws.Vocabulary.{List, ℕ, refl, slice_index, subst, [], ◌*◌, ◌+◌, ◌∷◌}
-use Rattle.mk_sweep.specs.Swept.{InGlobal, InRegister, InWord, IsSwept, IsSweptValue}
-use Rattle.mk_why.specs.SweptChains.{ChainsAreSwept}
+use Rattle.mk_sweep.specs.Sweeps.{InGlobal, InRegister, InWord, IsSwept, IsSweptValue}
+use Rattle.mk_why.specs.Chains.{ChainsAreSwept}
 
 root_swept : (c : Config) (w : World) (root : Root) → IsSweptValue c w (word_of_root w.now.words root)
 root_swept c w (Register caller register) = InRegister (8 * caller + register) refl

@@ -3,8 +3,8 @@ use Rattle.mk_why.proofs.Vocabulary.{BeginApart, Config, Event, Found, IsHistory
 use Rattle.mk_why.proofs.Vocabulary.{LooksWhileStill, PassState, Storage, Tables, TurnState, WordsState, World, base_at}
 use Rattle.mk_why.proofs.{Vocabulary.{is_kept, left, view_by, view_of, world_in, world_of}, Looks.others_still}
 use Rattle.mk_sweep.proofs.Below.Laws.Vocabulary.{List, Option, ℕ, append-nil, arith, subst, sym, true, [], ◌++◌, ◌∙◌}
-use Rattle.mk_sweep.{proofs.Below.Laws.Vocabulary.{◌≡◌}, specs.Below.Cycles.Telling.{IsToldOf}}
-use Rattle.mk_core.specs.Growing.{AreOfOthers}
+use Rattle.mk_sweep.{proofs.Below.Laws.Vocabulary.{◌≡◌}, specs.Below.Cycles.Stops.{IsToldOf}}
+use Rattle.mk_core.specs.History.{AreOfOthers}
 use Rattle.mk_why.specs.{Searching.IsExplored, Stops.IsToldBefore}
 
 -- the two tables, of the view after the engine's marks

@@ -1,12 +1,12 @@
--- Chains: how words lead from a root to an allocation, at the close of the marks.
+-- Chains: how words lead from a root to an allocation, at the close of the marks. What they lead to is swept as well.
 use Rattle.std.specs.Prelude.{◌≡◌, ℕ, ◌<◌, ◌≤◌, Bool, true, ◌&&◌, List, [], ◌∷◌, length, map, slice_index, Option, Some}
-use Rattle.std.specs.{Prelude.None, List.Contains, List.Sorted.IsStrictlyIncreasing}
-use Rattle.mk_geom.specs.{Addresses.address_of, StorageWords.IsWordOf}
+use Rattle.std.specs.{Prelude.None, List.{Contains, Sorted.IsStrictlyIncreasing}}
+use Rattle.mk_geom.specs.{Addresses.address_of, Storages.IsWordOf}
 use Rattle.mk_core.specs.{declared.config.Config.Config, Allocations.{placed_at, storage_of, storage_words}}
-use Rattle.mk_core.specs.{ClosedMarks.{is_marked_allocation, is_scanned_allocation}, History.World}
-use Rattle.mk_core.specs.{Touched.PointsIntoAllocation, Words.{Words, register_word}}
-use Rattle.mk_sweep.specs.Below.Cycles.FinishCycle.{is_in_snapshot_of_cycle}
-use Rattle.mk_why.specs.{declared.kept.Kept.Kept, declared.kept.Root.Root}
+use Rattle.mk_core.specs.{Cycles.{is_marked_allocation, is_scanned_allocation, PointsIntoAllocation}, History.World}
+use Rattle.mk_core.specs.Words.{Words, register_word}
+use Rattle.mk_sweep.specs.{Below.Cycles.FinishCycle.is_in_snapshot_of_cycle, Sweeps.IsSwept}
+use Rattle.mk_why.specs.declared.kept.{Kept.Kept, Root.Root}
 use Rattle.mk_why.specs.declared.kept.Root.TheVariants.{Register, Global}
 
 -- A root is a register of a caller that there is, or a global.
@@ -66,3 +66,8 @@ pub record AreKept (c : Config) (w : World) (entries : List Kept) : Type 0 where
   pub ascending : IsStrictlyIncreasing (map (λ (entry : Kept). entry.address) entries)
   pub of_one : (entry : Kept) → Contains entries entry → (b : ℕ) × IsEntryOf c w entry b
   pub each : (b : ℕ) → is_kept c w b ≡ true → (entry : Kept) × Contains entries entry × IsEntryOf c w entry b
+
+-- What a chain leads to is swept.
+abbrev pub ChainsAreSwept : Type 0
+ChainsAreSwept =
+    (c : Config) (w : World) (root : Root) (links : List ℕ) (b : ℕ) → IsChain c w root links b → IsSwept c w b

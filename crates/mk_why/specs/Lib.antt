@@ -1,10 +1,4 @@
 pub mod Below
 pub mod Chains
-pub mod Entries
-pub mod LazyTables
-pub mod Listing
 pub mod Searching
-pub mod Sizes
-pub mod States
 pub mod Stops
-pub mod SweptChains

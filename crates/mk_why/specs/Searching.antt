@@ -1,14 +1,26 @@
--- The search for chains, breadth first: what its tables say of a view. Only private functions cite these words.
-use Rattle.std.specs.Prelude.{◌≡◌, ℕ, ◌+◌, ◌-◌, ◌*◌, ◌/◌, ◌%◌, ◌<◌, ◌≤◌, nat_lt, if◌then◌else◌, true, false, List}
-use Rattle.std.specs.Prelude.{length, slice_index, slice_index_or, Option, Some, None}
-use Rattle.mk_geom.specs.StorageWords.{IsWordOf}
-use Rattle.mk_core.specs.{declared.config.Config.Config, declared.events.Word.Word, Allocations.{placed_at, storage_of}}
-use Rattle.mk_core.specs.{ClosedMarks.is_scanned_allocation, Touched.PointsIntoAllocation}
+-- The search for chains, breadth first, and the entries that are made of them. `Why` cites `IsTold`, and what its state
+-- says; only private functions cite the other words.
+use Rattle.std.specs.Prelude.{ℕ, ◌-◌, List, ◌++◌, length, replicate, ◌≡◌, ◌+◌, ◌*◌, ◌/◌, ◌%◌, ◌<◌, ◌≤◌, nat_lt}
+use Rattle.std.specs.Prelude.{if◌then◌else◌, true, false, slice_index, slice_index_or, Option, Some, None, [], ◌∷◌, map}
+use Rattle.std.specs.{Prelude.⊤, List.{Contains, Sorted.IsStrictlyIncreasing}}
+use Rattle.mk_geom.specs.{Storages.IsWordOf, Addresses.address_of}
+use Rattle.mk_core.specs.{declared.{config.Config.Config, events.Word.Word}, Allocations.{placed_at, storage_of}}
+use Rattle.mk_core.specs.{Allocations.storage_words, Cycles.{is_scanned_allocation, PointsIntoAllocation}}
 use Rattle.mk_sweep.specs.Below.Words.States.{TurnState}
-use Rattle.mk_why.specs.{declared.found.Found.Found, declared.found.Way.Way, Stops.{world_in, LooksWhileStill, View}}
+use Rattle.mk_why.specs.{declared.found.{Found.Found, Way.Way}, Stops.{world_in, LooksWhileStill, View}}
 use Rattle.mk_why.specs.{Stops.{base_at, view_by}, declared.found.Way.TheVariants.{Start, Link}}
-use Rattle.mk_why.specs.{declared.kept.Root.Root, declared.kept.Root.TheVariants.{Global, Register}}
-use Rattle.mk_why.specs.{declared.tables.Tables.Tables, Chains.{IsChain, IsLink, IsRoot, word_of_root}}
+use Rattle.mk_why.specs.declared.kept.Root.{Root, TheVariants.{Global, Register}}
+use Rattle.mk_why.specs.{declared.tables.Tables.Tables, Chains.{IsChain, IsLink, IsRoot, word_of_root, IsEntryOf}}
+use Rattle.mk_why.specs.{Chains.is_kept, declared.{found.Storage.Storage, kept.Kept.Kept}}
+
+-- The entries, and what those have that were never set.
+pub record TableState (A : Type 0) : Type 0 where
+  pub items : List A
+  pub rest : A
+
+-- these entries, and after them the rest, up to a size
+abbrev pub completed : {A : Type 0} → List A → A → ℕ → List A
+completed entries rest size = entries ++ replicate (size - length entries) rest
 
 -- what a table has for a heap word
 abbrev pub entry_at : {A : Type 0} → List (Option A) → ℕ → Option A
@@ -153,3 +165,116 @@ pub record IsExplored (c : Config) (v : View) (found : List (Option Found)) : Ty
   pub ways : AreWays c v found
   pub near : (root : Root) (links : List ℕ) (b : ℕ) → IsChain c (world_in v) root links b
       → IsFoundWithin found (base_at v b) (length links)
+
+-- The engine inside, and by heap words how allocations were found, and the storage of those that are kept.
+pub record WhyState (E : Type 0) : Type 0 where
+  pub inner : E
+  pub found : List (Option Found)
+  pub kept : List (Option Storage)
+
+-- No allocation is in the table of those that are kept.
+abbrev pub HasKeptNothing : {E : Type 0} → WhyState E → Type 0
+HasKeptNothing why = (base : ℕ) → entry_at why.kept base ≡ None
+
+-- Chains, followed back through the tables, and the entries that are made of them. Only private functions cite these
+-- words.
+
+-- one link back, and how the allocation was found that has it
+
+-- one step back along a chain
+abbrev pub back_to : ℕ → ℕ → Option Found → Option (ℕ × Found)
+back_to link links None = None
+back_to link links (Some before) = if nat_lt before.links links then Some (link, before) else None
+
+-- one step back, the way that an allocation was found
+abbrev pub back_by : List (Option Found) → Way → ℕ → Option (ℕ × Found)
+back_by found (Start root) links = None
+back_by found (Link link from) links = back_to link links (entry_at found from)
+
+-- the same, with the allocation from which it was found
+abbrev pub step_back : List (Option Found) → Found → Option (ℕ × Found)
+step_back found f = back_by found f.way f.links
+
+-- the root, if it was found from one
+abbrev pub root_of : Way → Option Root
+root_of (Start root) = Some root
+root_of (Link link from) = None
+
+-- a chain of this many links
+pub record IsLed (c : Config) (v : View) (b count : ℕ) (root : Option Root) (links : List ℕ) : Type 0 where
+  pub start : Root
+  pub is : root ≡ Some start
+  pub chain : IsChain c (world_in v) start links b
+  pub as_many : length links ≡ count
+
+-- what is known of an allocation by its entry in the table, and told of it
+
+-- It was found this way, if it was found.
+abbrev pub IsWayOf : Config → View → List (Option Found) → ℕ → Option Found → Type 0
+IsWayOf c v found b None = ⊤
+IsWayOf c v found b (Some f) = IsWay c v found f.way f.links b
+
+-- The root and the words are a shortest chain to it, or there is none.
+abbrev pub IsToldWhy : Config → View → ℕ → Option Found → Option Root → List ℕ → Type 0
+IsToldWhy c v b None root links = (root ≡ None) × (links ≡ [])
+IsToldWhy c v b (Some f) root links = IsLed c v b f.links root links
+
+-- The entry is made of the storage, and of how it was found.
+pub record IsMadeOf (found : List (Option Found)) (s : Storage) (f : Option Found) (entry : Kept) : Type 0 where
+  pub address : entry.address ≡ s.address
+  pub words : entry.words ≡ s.words
+  pub why : (c : Config) (v : View) (b : ℕ) → AreWays c v found → BeginApart v → IsWayOf c v found b f
+      → IsToldWhy c v b f entry.root entry.links.items
+
+-- one entry more
+pub record IsOneMore (found : List (Option Found)) (s : Storage) (f : Option Found) (before behind : List Kept)
+    : Type 0 where
+  pub entry : Kept
+  pub is : behind ≡ before ++ entry ∷ []
+  pub made : IsMadeOf found s f entry
+
+-- The entries of the kept allocations that begin below this heap word.
+pub record AreEntriesBelow (c : Config) (v : View) (base : ℕ) (entries : List Kept) : Type 0 where
+  pub ascending : IsStrictlyIncreasing (map (λ (entry : Kept). entry.address) entries)
+  pub below : (i : ℕ) → i < length entries
+      → slice_index (map (λ (entry : Kept). entry.address) entries) i < 65536 + 8 * base
+  pub of_one : (entry : Kept) → Contains entries entry → (b : ℕ) × IsEntryOf c (world_in v) entry b
+  pub each : (b : ℕ) → is_kept c (world_in v) b ≡ true → base_at v b < base
+      → (entry : Kept) × Contains entries entry × IsEntryOf c (world_in v) entry b
+
+-- The kept allocations of a view, in a table. `Why` cites `IsTold`; only private functions cite the other words.
+
+-- The allocation is kept, and this is its storage.
+pub record IsStorageOf (c : Config) (v : View) (b : ℕ) (s : Storage) : Type 0 where
+  pub kept : is_kept c (world_in v) b ≡ true
+  pub address : s.address ≡ address_of (base_at v b)
+  pub words : s.words ≡ storage_words c (placed_at v.allocations b)
+
+-- The object with this first word is kept, and has this storage.
+pub record IsKeptAt (c : Config) (v : View) (base : ℕ) (s : Storage) : Type 0 where
+  pub number : ℕ
+  pub is : base_at v number ≡ base
+  pub storage : IsStorageOf c v number s
+
+-- The table has nothing but kept allocations.
+abbrev pub AreOfKept : Config → View → List (Option Storage) → Type 0
+AreOfKept c v kept = (base : ℕ) (s : Storage) → entry_at kept base ≡ Some s → IsKeptAt c v base s
+
+-- It has this one.
+pub record IsListed (kept : List (Option Storage)) (base : ℕ) : Type 0 where
+  pub storage : Storage
+  pub there : entry_at kept base ≡ Some storage
+
+-- More was listed, and only kept allocations.
+pub record ListsOn (c : Config) (v : View) (r s : Tables) : Type 0 where
+  pub size : length s.kept.items ≡ length r.kept.items
+  pub of_kept : AreOfKept c v s.kept.items
+  pub stays : (base : ℕ) → IsListed r.kept.items base → IsListed s.kept.items base
+  pub found : s.found ≡ r.found
+
+-- What the two tables say of a view: each chain's end was found, and each kept allocation is listed.
+pub record IsTold (c : Config) (found : List (Option Found)) (kept : List (Option Storage)) (v : View) : Type 0 where
+  pub explored : IsExplored c v found
+  pub apart : BeginApart v
+  pub of_kept : AreOfKept c v kept
+  pub each : (b : ℕ) → is_kept c (world_in v) b ≡ true → IsListed kept (base_at v b)

@@ -1,11 +1,15 @@
 -- What stays still in the stop, after the inner engine's marks. `Why` cites `view_of`, `IsToldBefore` and
 -- `IsClosedBefore`; only private functions cite the other words.
-use Rattle.std.specs.Prelude.{◌≡◌, ℕ, Bool, true, false, List, []}
+use Rattle.std.specs.Prelude.{ℕ, ◌*◌, ◌==◌, min, if◌then◌else◌, ◌≡◌, Bool, true, false, List, []}
 use Rattle.mk_core.specs.{Allocations.{PlacedAllocation, placed_at}, History.World, Moments.nothing_done}
-use Rattle.mk_core.specs.{Readings.NoneAttends, Words.Words, declared.config.Config.Config, declared.events.Step.Step}
-use Rattle.mk_sweep.specs.{Below.Words.States.{PassState, TurnState, now_of, world_of}, Below.Words.TurnSteps.IsStopped}
-use Rattle.mk_sweep.specs.{Below.Words.Doing.Does, Below.Cycles.EngineLaw.{IsAtPhase, IsFreeForCycle}}
+use Rattle.mk_core.specs.{Readings.NoneAttends, Words.Words, declared.{config.Config.Config, events.Step.Step}}
+use Rattle.mk_sweep.specs.Below.Words.{States.{PassState, TurnState, now_of, world_of}, TurnSteps.IsStopped}
+use Rattle.mk_sweep.specs.Below.{Words.Steps.Does, Cycles.EngineLaw.{IsAtPhase, IsFreeForCycle}}
 use Rattle.mk_sweep.specs.Below.Cycles.TurnKeeps.{LeavesTurn, but_phase}
+
+-- The number of pages of the inner engine if tables of this many words fit it, otherwise 0.
+abbrev pub pages_for : ℕ → ℕ → ℕ
+pages_for inner size = if size == 64 * min inner 4096 then inner else 0
 
 -- the words but the phase, and the allocations
 pub record View : Type 0 where

@@ -1,8 +1,8 @@
 //! The entries of kept allocations, with the chains that lead to them.
 ghost use Rattle.std.specs.Prelude.{◌≡◌, ◌<◌, ◌++◌, [], ◌∷◌, None, Some, IfOk, IfSome, OnOk, length, ℕ};
 ghost use Rattle.mk_core.specs.declared.config.Config.{Config};
-ghost use Rattle.mk_why.specs.{declared.found.Storage.Storage as StorageState, Entries.{AreEntriesBelow, IsLed}};
-ghost use Rattle.mk_why.specs.{Entries.{IsMadeOf, IsOneMore, root_of, step_back}, Listing.IsTold};
+ghost use Rattle.mk_why.specs.{declared.found.Storage.Storage as StorageState, Searching.{AreEntriesBelow, IsLed}};
+ghost use Rattle.mk_why.specs.Searching.{IsMadeOf, IsOneMore, root_of, step_back, IsTold};
 ghost use Rattle.mk_why.specs.{Searching.{BeginApart, AreWays, IsWay, entry_at}, Stops.View};
 
 use crate::found::{Found, Storage, Way};

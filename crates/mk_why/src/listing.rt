@@ -2,7 +2,7 @@
 ghost use Rattle.std.specs.Prelude.{◌≡◌, ◌+◌, ◌*◌, ◌<◌, ◌≤◌, ℕ, None, Some, false, true, length, slice_index};
 ghost use Rattle.std.specs.Prelude.{slice_set};
 ghost use Rattle.mk_core.specs.{Allocations.{cell_of_allocation, placed_at}, Words.header_at};
-ghost use Rattle.mk_why.specs.{Chains.is_kept, Listing.{AreOfKept, IsListed, ListsOn}, Searching.entry_at};
+ghost use Rattle.mk_why.specs.{Chains.is_kept, Searching.{AreOfKept, IsListed, ListsOn, entry_at}};
 ghost use Rattle.mk_why.specs.Stops.{IsStill, LooksWhileStill, base_at, view_by, world_in};
 
 use crate::found::Storage;

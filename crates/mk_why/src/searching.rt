@@ -1,7 +1,7 @@
 //! The search, breadth first: from the roots, and then from each allocation that was found, in the order in which they
 //! were, so that each is found through the fewest links.
 ghost use Rattle.std.specs.Prelude.{◌≡◌, ◌+◌, ◌*◌, ◌<◌, ◌≤◌, ℕ, None, length, slice_index};
-ghost use Rattle.mk_core.specs.Touched.{PointsIntoAllocation};
+ghost use Rattle.mk_core.specs.Cycles.{PointsIntoAllocation};
 ghost use Rattle.mk_why.specs.{declared.kept.Root.Root, Chains.{IsRoot, word_of_root}};
 ghost use Rattle.mk_why.specs.Searching.{AreScannedFrom, AreWays, FindsMore, IsSearched, IsExplored, IsFound};
 ghost use Rattle.mk_why.specs.Searching.{IsFoundThrough, IsNoted, IsSearch, IsWay, SearchesOn, entry_at, links_in};

@@ -1,6 +1,6 @@
 //! Looks in the stop, when the close is wanted and no marker attends.
 ghost use Rattle.std.specs.Prelude.{◌≡◌, true};
-ghost use Rattle.mk_core.specs.{Ranges.is_word, Words.named_word};
+ghost use Rattle.mk_core.specs.{Conditions.is_word, Words.named_word};
 ghost use Rattle.mk_sweep.specs.Below.Cycles.Stops.{is_still_word};
 ghost use Rattle.mk_why.specs.Stops.{IsStill, LooksWhileStill, view_by};
 

@@ -1,6 +1,6 @@
 //! What values point into, and which words of an allocation are scanned.
 ghost use Rattle.std.specs.Prelude.{◌≡◌, ◌+◌, ◌*◌, ◌≤◌, ℕ, true};
-ghost use Rattle.mk_core.specs.{Allocations.{placed_at, storage_words}, ClosedMarks.is_scanned_allocation};
+ghost use Rattle.mk_core.specs.{Allocations.{placed_at, storage_words}, Cycles.is_scanned_allocation};
 ghost use Rattle.mk_why.specs.Searching.{AreScannedFrom, IsFirstWord, IsBasePointed};
 ghost use Rattle.mk_why.specs.Stops.{IsStill, LooksWhileStill};
 ghost use Rattle.mk_why.specs.Stops.{base_at, view_by};

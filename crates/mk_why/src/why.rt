@@ -1,9 +1,9 @@
 //! The engine that reports why.
 ghost use Rattle.std.specs.Prelude.{◌≡◌, [], IfOk, false, length};
 ghost use Rattle.mk_core.specs.{declared.config.Config.Config, History.World};
-ghost use Rattle.mk_sweep.specs.{Below.Cycles.Begun.IsBegun, Below.Cycles.EngineLaw.{BeginsMarking, IsAtPhase}};
-ghost use Rattle.mk_sweep.specs.{Below.Cycles.EngineLaw.IsFreeForCycle, Below.Words.Sweeping.SweepsNothing};
-ghost use Rattle.mk_why.specs.{Chains.AreKept, Listing.IsTold, Sizes.pages_for, States.HasKeptNothing};
+ghost use Rattle.mk_sweep.specs.Below.Cycles.{BeginCycle.IsBegun, EngineLaw.{BeginsMarking, IsAtPhase}};
+ghost use Rattle.mk_sweep.specs.Below.{Cycles.EngineLaw.IsFreeForCycle, Words.Sweeping.SweepsNothing};
+ghost use Rattle.mk_why.specs.{Chains.AreKept, Searching.{IsTold, HasKeptNothing}, Stops.pages_for};
 ghost use Rattle.mk_why.specs.Stops.{IsClosedBefore, IsToldBefore, view_of};
 
 use crate::entries::list_entries;
@@ -31,7 +31,7 @@ pub struct Why<E: Engine> {
 }
 
 impl<E: Engine> Model for Why<E> {
-    ghost use Rattle.mk_why.specs.States.{WhyState};
+    ghost use Rattle.mk_why.specs.Searching.{WhyState};
 
     ghost Value = { WhyState E };
 

@@ -9,10 +9,10 @@ use Rattle.mk_laws.proofs.Vocabulary.{seat_exists, slice_index, slice_set, still
 use Rattle.mk_laws.proofs.{Vocabulary.{◌++◌, ◌+◌, ◌<◌, ◌==◌, ◌∙◌, ◌≡◌, ◌≢◌, ◌≤◌}, NextSteps.at_enter}
 use Rattle.mk_laws.proofs.ProtocolHeldGates.{gates_tell_holds}
 use Rattle.mk_core.specs.{Calls.progress_cas, Effects.{begins_where_free, moment_behind}, Layout.IsOfTable}
-use Rattle.mk_core.specs.{Order.is_in_order, Words.with_named, declared.accesses.TableWord.TableWord}
-use Rattle.mk_words.{proofs.Made.{made}, specs.CallSteps.{FindsHeld, KeepsOtherRegisters, LeavesRegisters, register_of}}
+use Rattle.mk_core.specs.{Conditions.is_in_order, Words.with_named, declared.accesses.TableWord.TableWord}
+use Rattle.mk_words.{proofs.Made.{made}, specs.Steps.{FindsHeld, KeepsOtherRegisters, LeavesRegisters, register_of}}
 use Rattle.mk_words.specs.{States.{PassState, call_of, event_of, now_of}, Steps.{Finds, Goes, IsEnabledTo, Makes}}
-use Rattle.mk_words.specs.{Steps.{Tells, found_by, moment_of}, Rule.told_by, Seats.is_caller}
+use Rattle.mk_words.specs.{Steps.{Tells, found_by, moment_of}, Rule.told_by, States.is_caller}
 
 -- a step of a call is its caller's
 pub is_callers : (s : Seat) → is_open_to s Group.Callers ≡ true → (k : ℕ) × (s ≡ Caller k)

@@ -3,8 +3,8 @@ use Rattle.std.proofs.{Common.count_ones, Math.Nat.add-mul-mod_self_left}
 use Rattle.mk_laws.proofs.Vocabulary.{AreOfPages, Config, Event, List, Named, Word, Words, ℕ, ap, arith}
 use Rattle.mk_laws.proofs.Vocabulary.{histories_keep_lengths, left, refl, slice_index, subst, suc, sym, zero, [], ◌%◌}
 use Rattle.mk_laws.proofs.Vocabulary.{◌+◌, ◌<◌, ◌^◌, ◌∙◌, ◌∷◌, ◌≡◌, ◌≤◌}
-use Rattle.mk_core.{proofs.RegionLemmas.words_stand, specs.Layout.in_order, specs.Layout.index_of_named}
-use Rattle.mk_words.specs.{Finals.HasTallies, Finals.freed_bits_in, Finals.freed_cells, declared.finals.Final.Final}
+use Rattle.mk_core.{proofs.RegionLemmas.words_stand, specs.Layout.{in_order, index_of_named}}
+use Rattle.mk_words.specs.{States.{HasTallies, freed_bits_in, freed_cells}, declared.finals.Final.Final}
 use mathlib.Core.Option.{some, some-injective, some-ne-none}
 use lib.ListN.{get_elem?}
 

@@ -3,14 +3,14 @@ use Rattle.std.proofs.Common.{set, ⊎_elim}
 use Rattle.mk_laws.proofs.Vocabulary.{AreEnabled, Caller, Config, Event, Host, IsHistory, List, Seat, ℕ, ap}
 use Rattle.mk_laws.proofs.Vocabulary.{enabled_parts, false, first_world, inl, inr, left, length, refl, subst, suc, sym}
 use Rattle.mk_laws.proofs.Vocabulary.{true, zero, [], ◌++◌, ◌∙◌, ◌∷◌, ◌≡◌, ◌≢◌, ◌⊎◌}
-use Rattle.mk_core.specs.Growing.{is_same_seat}
-use Rattle.atomic_table.{proofs.Lists.at_set, proofs.Lists.set_else, specs.Table.Joins, specs.Table.Splits}
+use Rattle.mk_core.specs.History.{is_same_seat}
+use Rattle.atomic_table.{proofs.Lists.{at_set, set_else}, specs.Table.{Joins, Splits}}
 use Rattle.mk_words.proofs.Keeps.{Apart, Both, apart_stays, sees_fewer, sees_none}
 use Rattle.mk_words.proofs.Seats.{has_either, has_left, has_right, only_one, without_it, without_keeps, without_less}
 use Rattle.mk_words.proofs.Overs.{none_in_parts, none_over, overs_with}
 use Rattle.mk_words.specs.Rule.{Kept, Sees, beside, copy_of, goes_with, no_part, nobody, seats_of, stays_with}
-use Rattle.mk_words.specs.Seats.{CallersAreBeforeOver, Has, has_over, is_caller, without_seat}
-use Rattle.mk_words.specs.{declared.rule.Part.Part, declared.rule.View.View}
+use Rattle.mk_words.specs.States.{CallersAreBeforeOver, Has, has_over, is_caller, without_seat}
+use Rattle.mk_words.specs.declared.rule.{Part.Part, View.View}
 use mathlib.Core.Option.{some, some-injective, some-ne-none}
 use lib.ListN.{get_elem?}
 

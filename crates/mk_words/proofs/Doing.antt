@@ -3,12 +3,12 @@ use Rattle.std.proofs.Common.{Bool, List, ap, append-nil, append_assoc, false, i
 use Rattle.std.proofs.{Common.{[], ◌++◌, ◌∙◌, ◌∷◌, ◌≡◌}, lemmas.Bool.{and_from, false_from_ne_true}}
 use Rattle.std.proofs.lemmas.List.Folds.{list_all-append}
 use Rattle.mk_core.proofs.HistoryParts.{left_in_parts}
-use Rattle.mk_core.specs.{Growing.{AreOfOthers, Finding, is_one_of, is_same_seat, own_from}, History.{World, left}}
+use Rattle.mk_core.specs.History.{AreOfOthers, Finding, is_one_of, is_same_seat, own_from, World, left}
 use Rattle.mk_core.specs.{History.{left_from, world_behind}, Accesses.found, declared.config.Config.Config}
-use Rattle.mk_core.specs.{declared.events.Event.Event, declared.events.Seat.Seat, declared.events.Step.Step}
-use Rattle.mk_words.specs.Doing.{AreOwnOrOfOthers, Does, DoneInTurn, NothingIsDone, StepsAreDone, are_of, done_in}
+use Rattle.mk_core.specs.declared.events.{Event.Event, Seat.Seat, Step.Step}
+use Rattle.mk_words.specs.Steps.{AreOwnOrOfOthers, Does, DoneInTurn, NothingIsDone, StepsAreDone, are_of, done_in}
 use Rattle.mk_words.proofs.{Made.own_before, Seats.{not_both, same_seat, same_self}}
-use Rattle.mk_words.specs.{Seats.Has, States.{PassState, event_of}}
+use Rattle.mk_words.specs.States.{Has, PassState, event_of}
 
 chosen_first : (b : Bool) (x : Finding) (xs ys : List Finding)
     → (if b then x ∷ xs else xs) ++ ys ≡ (if b then x ∷ (xs ++ ys) else xs ++ ys)

@@ -7,7 +7,7 @@ use Rattle.mk_laws.proofs.Vocabulary.{set-get_or, slice_set, subst, sym, true, [
 use Rattle.mk_laws.proofs.{Tallies.{counts_tidy_more, exact_more, tallies_tell}, NextSteps.at_no_take, SameWords.Behind}
 use Rattle.mk_laws.proofs.TallySteps.{others_count_nothing}
 use Rattle.mk_core.proofs.Conditions.{meets_enabled}
-use Rattle.mk_core.specs.{Counts.TalliesAreExact, Effects.begins_where_free, Order.is_in_order}
+use Rattle.mk_core.specs.{Counts.TalliesAreExact, Effects.begins_where_free, Conditions.is_in_order}
 use Rattle.mk_words.proofs.{CallSteps.waits, Made.made, Tidy.tidy_part}
 use Rattle.mk_words.specs.{States.{PassState, call_of, event_of, now_of}, Steps.{IsEnabledTo, Tells, moment_of}}
 

@@ -7,7 +7,7 @@ use Rattle.mk_books.specs.KnownPages.{KnownPages}
 use Rattle.mk_core.specs.{Cycles.is_give, Words.becomes}
 use Rattle.atomic_table.proofs.Lists.{exchanged, set_here}
 use Rattle.mk_words.proofs.{FreeTurns.{map_left, map_there, page_words}, Keeps.{access_there, place_there, steps_at}}
-use Rattle.mk_words.{proofs.Seats.{others_own}, specs.{Seats.{Has, HasCallers, is_over}, declared.rule.View.View}}
+use Rattle.mk_words.{proofs.Seats.{others_own}, specs.{States.{Has, HasCallers, is_over}, declared.rule.View.View}}
 use Rattle.mk_words.specs.{Rule.{Adds, IsHome, Kept, Mine, gives_map, no_part, takes_map}, PageMaps.IsMapOf}
 use Rattle.atomic_table.specs.Table.{Allows, Step as TableStep, gives, keeps, put_back, takes}
 use mathlib.Core.Option.{Option as Maybe, none as nothing, some}

@@ -3,13 +3,13 @@ use Rattle.mk_laws.proofs.Vocabulary.{Config, Event, Holds, IsHistory, IsTidy, L
 use Rattle.mk_laws.proofs.Vocabulary.{access, ap, holder_number, left, refl, subst, sym, [], ◌+◌, ◌<◌, ◌∙◌, ◌∷◌, ◌≡◌}
 use Rattle.mk_books.specs.KnownPages.{KnownPages}
 use Rattle.mk_core.specs.{Layout.{count_of_words, index_of}, Words.becomes}
-use Rattle.mk_core.specs.{declared.accesses.Access.TheVariants.Exchange, declared.accesses.TableWord.TheVariants.Turn}
+use Rattle.mk_core.specs.declared.accesses.{Access.TheVariants.Exchange, TableWord.TheVariants.Turn}
 use Rattle.atomic_table.specs.{Seated.TableId, Table.{Allows, rest}}
 use Rattle.mk_words.proofs.Owed.{history_more, in_order_still, made_of, owed_call, perform_learns}
 use Rattle.mk_words.proofs.HandedMaps.{give_event, gives_at, take_event, takes_at}
 use Rattle.mk_words.specs.{Rule.{Kept, Mine, gives_map, no_part, no_step, takes_map}, States.{PassState, WordsState}}
-use Rattle.mk_words.specs.{States.{event_of, now_of}, PageMaps.IsMapOf, Passes.{IsInOrder, state_of}}
-use Rattle.mk_words.specs.{Seats.{CallersAreBeforeOver, Has}, Steps.{Makes, May, Tells}, declared.rule.View.View}
+use Rattle.mk_words.specs.{States.{event_of, now_of}, PageMaps.IsMapOf, Rule.{IsInOrder, state_of}}
+use Rattle.mk_words.specs.{States.{CallersAreBeforeOver, Has}, Steps.{Makes, May, Tells}, declared.rule.View.View}
 
 module _ (w : WordsState) (tid pid : TableId) (config key : Config) (me : Mine) (seat : Seat)
     (w_is : made_of tid config ≡ w) (one_table : (state_of pid me seat).table ≡ w) where

@@ -7,7 +7,7 @@ use Rattle.mk_laws.proofs.Vocabulary.{histories_keep_lengths, left, left_more, r
 use Rattle.mk_laws.proofs.Vocabulary.{subst, suc, sym, true, word_accessed, zero, [], ◌++◌, ◌∙◌, ◌∷◌, ◌≡◌, ◌≢◌}
 use Rattle.mk_books.specs.KnownPages.{KnownPages}
 use Rattle.mk_core.proofs.{Histories.last_enabled, RegionLemmas.{accesses_change, words_stand}}
-use Rattle.mk_core.specs.{History.{AreEnabledFrom, calls_from, left_from}, Cycles.is_give, Growing.AreOfOthers}
+use Rattle.mk_core.specs.{History.{AreEnabledFrom, calls_from, left_from, AreOfOthers}, Cycles.is_give}
 use Rattle.mk_core.specs.{Layout.{IsOfTable, in_order, index_of}, Words.{becomes, word_in, zero_words_of}}
 use Rattle.mk_core.specs.declared.accesses.TableWord.{TableWord}
 use Rattle.atomic_table.proofs.Lists.{at_set}
@@ -15,7 +15,7 @@ use Rattle.mk_words.proofs.Seats.{has_either, has_left, has_right, not_both, oth
 use Rattle.mk_words.proofs.{Seats.{others_none, others_one, others_own}, FreeTurns.{free_stays, map_there}}
 use Rattle.mk_words.proofs.{LongerLists.longer_lists, Overs.{overs_later, overs_with, set_there}}
 use Rattle.mk_words.{proofs.Tidy.{none_tidy, tidy_more, tidy_part}, specs.declared.rule.View.{View}}
-use Rattle.mk_words.specs.Seats.{CallersAreBeforeOver, Has, HasAll, HasCallers, all_seats, is_over}
+use Rattle.mk_words.specs.States.{CallersAreBeforeOver, Has, HasAll, HasCallers, all_seats, is_over}
 use Rattle.mk_words.specs.{PageMaps.{IsMapOf, is_handing}, Rule.{Adds, IsHome, Kept, Mine, Sees, adds, first_view}}
 use Rattle.mk_words.specs.{Rule.{no_part, part, seats_of, settles, view}, declared.rule.Part.Part}
 use Rattle.atomic_table.specs.Table.{Allows, Final, Seen, State, Step as TableStep, keeps}

@@ -3,10 +3,10 @@ use Rattle.mk_laws.proofs.Vocabulary.{AreOfOthers, Config, Event, IsHistory, IsL
 use Rattle.mk_laws.proofs.Vocabulary.{arith, earlier_part_is_history, enabled_meets, first_world, left, left_more}
 use Rattle.mk_laws.proofs.Vocabulary.{subst, word_accessed, world_behind, [], ◌++◌, ◌∙◌, ◌∷◌, ◌≡◌}
 use Rattle.mk_core.{proofs.Histories.last_enabled, specs.Layout.IsOfTable}
-use Rattle.mk_laws.proofs.{Known.Known, Known.known_left, ProtocolFrames.others_leave, Protocols.protocol_of}
+use Rattle.mk_laws.proofs.{Known.{Known, known_left}, ProtocolFrames.others_leave, Protocols.protocol_of}
 use Rattle.mk_laws.proofs.{Reaching.events_reach_the_table, SeatFrames.admitted_others_leave}
-use Rattle.mk_words.{proofs.Seats.others_own, specs.Laws.StepsStandBehindOthers, specs.Seats.Has, specs.States.IsPass}
-use Rattle.mk_words.{specs.States.PassState, specs.States.event_of, specs.States.world_of, specs.Steps.Makes}
+use Rattle.mk_words.{proofs.Seats.others_own, specs.{Laws.StepsStandBehindOthers, States.{Has, IsPass}}}
+use Rattle.mk_words.specs.{States.{PassState, event_of, world_of}, Steps.Makes}
 
 -- The events of others leave the seat its own; the event met its conditions after them, and the new list leaves what
 -- it leaves there.

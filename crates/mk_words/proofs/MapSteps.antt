@@ -7,13 +7,13 @@ use Rattle.mk_laws.proofs.Vocabulary.{is_in_range, length, length-set, ltb-true,
 use Rattle.mk_laws.proofs.Vocabulary.{subst, sym, tally_word, true, [], ◌++◌, ◌<◌, ◌==◌, ◌||◌, ◌∙◌, ◌∷◌, ◌≡◌, ◌≢◌}
 use Rattle.mk_laws.proofs.SameWords.{Behind}
 use Rattle.mk_books.specs.KnownPages.{KnownPages, Shows, is_bare, is_quarantined_page, is_uncleaned, is_uncleaned_under}
-use Rattle.mk_books.specs.{KnownPages.{with_header, with_used}, Members.{IsNext, page_at}}
+use Rattle.mk_books.specs.KnownPages.{with_header, with_used, IsNext, page_at}
 use Rattle.mk_words.proofs.{FreeTurns.{map_left, map_stays, page_words}, TurnSteps.{acts, gates_still}, Made.own_before}
 use Rattle.mk_words.proofs.{Seats.others_own, Unmarked.{is_mark, stays_unmarked}}
 use Rattle.mk_words.specs.PageMaps.{HasNoMarks, HeaderIsTold, IsMapOf, IsNextUncleaned, IsToldOf, MarkIsTold}
 use Rattle.mk_words.specs.{PageMaps.{QuarantineIsTold, UsedIsTold, is_told, page_told}, States.{IsTurn, PassState}}
 use Rattle.mk_words.specs.{States.{TurnState, call_of, event_of, now_of}, TurnSteps.{Acts, HasMap, gates_stay}}
-use Rattle.mk_words.specs.{TurnSteps.world_at, OneProof.turn_prop, Steps.{IsEnabledTo, Makes}}
+use Rattle.mk_words.specs.{TurnSteps.world_at, Laws.turn_prop, Steps.{IsEnabledTo, Makes}}
 
 no_mark : (s : Step) → is_told s ≡ false → is_mark s ≡ false
 no_mark (Step.Mark p v) untold = cc

@@ -5,7 +5,7 @@ use Rattle.mk_laws.proofs.Vocabulary.{ltb-true, marker_at, marker_behind, marker
 use Rattle.mk_laws.proofs.Vocabulary.{true, ◌<◌, ◌∙◌, ◌≡◌}
 use Rattle.mk_core.specs.Effects.{moment_behind}
 use Rattle.mk_words.{proofs.Made.{Made, made}, specs.Steps.{IsEnabledTo, Tells, found_by, moment_of}}
-use Rattle.mk_words.specs.{Markers.{Marks, is_markers, marker_in}, States.{PassState, event_of, now_of}}
+use Rattle.mk_words.specs.{Steps.{Marks, is_markers, marker_in}, States.{PassState, event_of, now_of}}
 
 -- a marker's step is a marker's
 

@@ -10,9 +10,9 @@ use Rattle.mk_laws.proofs.Vocabulary.{sym, true, [], ◌++◌, ◌+◌, ◌<◌,
 use Rattle.mk_laws.proofs.{Tallies.{same_ends, same_fulls}, Protocols.lists_keep_the_protocol, TallySteps.CountsNothing}
 use Rattle.mk_core.proofs.{Conditions.meets_enabled, Histories.last_enabled}
 use Rattle.mk_core.specs.{Frames.{CountsAreLeft, steady_of}, Counts.full_answers, Effects.moment_behind}
-use Rattle.mk_core.specs.{Growing.AreOfOthers, Moments.none_is_held}
+use Rattle.mk_core.specs.{History.AreOfOthers, Moments.none_is_held}
 use Rattle.mk_words.proofs.{Made.{made, pass_before}, LongerLists.longer_lists, Owed.history_more, TurnSteps.all_from}
-use Rattle.mk_words.specs.{Opening.{OnlyOpen, Opens, OthersMayOpen}, States.{IsTurn, PassState, event_of}}
+use Rattle.mk_words.specs.{Steps.{OnlyOpen, Opens, OthersMayOpen}, States.{IsTurn, PassState, event_of}}
 use Rattle.mk_words.specs.{States.now_of, Steps.IsEnabledTo, TurnSteps.{Acts, world_at}}
 
 -- The gates of the callers below this one aren't held, but for the holder's.

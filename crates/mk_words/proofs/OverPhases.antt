@@ -4,7 +4,7 @@ use Rattle.mk_laws.proofs.Vocabulary.{AreEnabledFrom, Config, Event, List, Step,
 use Rattle.mk_laws.proofs.Vocabulary.{phase_of, sym, world_behind, [], ◌∙◌, ◌∷◌, ◌≡◌, ◌≢◌}
 use Rattle.mk_core.specs.History.{left_from}
 use Rattle.mk_laws.proofs.CyclePhases.{moves_phase, phase_behind}
-use Rattle.mk_words.specs.{Laws.EndIsBehindOver, Seats.has_over, Seats.is_over}
+use Rattle.mk_words.specs.{Laws.EndIsBehindOver, States.{has_over, is_over}}
 
 not_over : (x : Step) (p : ℕ) → is_over x ≡ false → p ≢ 5 → phase_behind x p ≢ 5
 not_over x0 p out ne = grind arith

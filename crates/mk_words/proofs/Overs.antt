@@ -4,10 +4,11 @@ use Rattle.mk_laws.proofs.Vocabulary.{Bool, Caller, Config, Event, Host, IsEnabl
 use Rattle.mk_laws.proofs.Vocabulary.{ap, arith, enabled_meets, false, false_from_ne_true, inl, inr, list_any-append}
 use Rattle.mk_laws.proofs.Vocabulary.{or_cases, refl, subst, suc, sym, true, world_behind, zero, [], ◌++◌, ◌||◌, ◌∙◌}
 use Rattle.mk_laws.proofs.Vocabulary.{◌∷◌, ◌≡◌, ◌≢◌, ◌⊎◌}
-use Rattle.mk_core.specs.{Growing.AreOfOthers, History.AreEnabledFrom}
+use Rattle.mk_core.specs.History.{AreOfOthers, AreEnabledFrom}
 use Rattle.atomic_table.proofs.Lists.{at_set}
-use Rattle.mk_words.{proofs.Seats.not_both, specs.Rule.seats_of, specs.Seats.CallersAreBeforeOver, specs.Seats.Has}
-use Rattle.mk_words.{specs.Seats.HasCallers, specs.Seats.has_over, specs.Seats.is_over, specs.declared.rule.View.View}
+use Rattle.mk_words.{proofs.Seats.not_both, specs.{Rule.seats_of, States.{CallersAreBeforeOver, Has}}}
+use Rattle.mk_words.specs.States.{HasCallers, has_over, is_over}
+use Rattle.mk_words.specs.declared.rule.View.{View}
 use mathlib.Core.Option.{some, some-ne-none}
 use lib.ListN.{get_elem?}
 

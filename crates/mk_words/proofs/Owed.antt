@@ -5,7 +5,7 @@ use Rattle.mk_laws.proofs.Vocabulary.{Seat, Step, ℕ, access, ap, arith, false,
 use Rattle.mk_laws.proofs.{Vocabulary.{[], ◌++◌, ◌<◌, ◌∙◌, ◌∷◌, ◌≡◌}, Reaching.events_reach_the_table}
 use Rattle.mk_books.specs.KnownPages.{KnownPages}
 use Rattle.mk_core.proofs.{Histories.enabled_more, LayoutLemmas.indexes_within, RegionLemmas.first_are_zero}
-use Rattle.mk_core.specs.{Layout.{IsOfTable, count_of_words, index_of}, Growing.{Grows, is_same_seat}}
+use Rattle.mk_core.specs.{Layout.{IsOfTable, count_of_words, index_of}, History.{Grows, is_same_seat}}
 use Rattle.mk_core.specs.{History.{AreEnabledFrom, calls_from}, Words.{becomes, zero_words_of}}
 use Rattle.mk_core.specs.declared.accesses.TableWord.{TableWord}
 use Rattle.atomic_table.specs.{Table.{Allows, Final, Joins, Seen, Splits, opening}, Seated.TableId}
@@ -13,9 +13,9 @@ use Rattle.mk_words.proofs.{Cuts.{hands_over, joins, remembers, splits}, Keeps.{
 use Rattle.mk_words.proofs.{Keeps.{performs_at, place_there, settles_at}, Seats.{has_all, has_first, has_left}}
 use Rattle.mk_words.proofs.{Seats.{only_one, without_keeps, without_less}, Tidy.none_tidy, Undecided.undecided_admitted}
 use Rattle.mk_words.specs.Rule.{Adds, Kept, Mine, adds, beside, copy_of, first_view, goes_with, no_step, nobody}
-use Rattle.mk_words.specs.{Rule.{settles, stays_with, stores_word, told_by}, Seats.{CallersAreBeforeOver, Has, HasAll}}
-use Rattle.mk_words.specs.{Seats.{has_over, is_caller}, States.{PassState, WordsState, event_of, now_of}}
-use Rattle.mk_words.specs.{PageMaps.{IsMapOf, is_handing}, Passes.{IsInOrder, state_of}, Steps.{May, MayPerform, Tells}}
+use Rattle.mk_words.specs.{Rule.{settles, stays_with, stores_word, told_by}, States.{CallersAreBeforeOver, Has, HasAll}}
+use Rattle.mk_words.specs.States.{has_over, is_caller, PassState, WordsState, event_of, now_of}
+use Rattle.mk_words.specs.{PageMaps.{IsMapOf, is_handing}, Rule.{IsInOrder, state_of}, Steps.{May, MayPerform, Tells}}
 use Rattle.mk_words.specs.declared.rule.View.{View}
 use mathlib.Core.Option.{some}
 

@@ -4,7 +4,7 @@ use Rattle.std.proofs.lemmas.Bool.{cases_Bool}
 use Rattle.mk_geom.specs.{Addresses.{cell_at, is_heap_address, page_at_address}, declared.pages.Page.Page}
 use Rattle.mk_core.{proofs.Histories.{left_more}, specs.{declared.events.Step.Step, declared.events.Word.Word}}
 use Rattle.mk_core.specs.{Cells.pointed_cell, History.{World, first_world}, Words.{Words, header_at, named_word}}
-use Rattle.mk_words.specs.Pointing.{LooksForCell}
+use Rattle.mk_words.specs.TurnSteps.{LooksForCell}
 use Rattle.mk_words.specs.{States.{PassState, TurnState, event_of, now_of}, Steps.Finds, TurnSteps.Acts}
 
 -- What a look found is there after it.

@@ -4,8 +4,8 @@ use Rattle.mk_laws.proofs.Vocabulary.{Bool, Caller, Config, Event, Host, List, M
 use Rattle.mk_laws.proofs.Vocabulary.{eq-eqb, eqb-true, false, false_from_ne_true, if◌then◌else◌, inl, inr, is_one_of}
 use Rattle.mk_laws.proofs.Vocabulary.{list_any-append, ltb-true, or_cases, refl, subst, suc, sym, true, zero, [], ◌++◌}
 use Rattle.mk_laws.proofs.Vocabulary.{◌<◌, ◌||◌, ◌∙◌, ◌∷◌, ◌≡◌, ◌⊎◌}
-use Rattle.mk_core.specs.Growing.{AreOfOthers, is_same_seat}
-use Rattle.mk_words.specs.Seats.{Has, HasAll, all_seats, callers_below, markers_below, without_seat}
+use Rattle.mk_core.specs.History.{AreOfOthers, is_same_seat}
+use Rattle.mk_words.specs.States.{Has, HasAll, all_seats, callers_below, markers_below, without_seat}
 
 pub same_seat : (a b : Seat) → is_same_seat a b ≡ true → a ≡ b
 same_seat x0 x1 h = grind (arith, eqb-true)

@@ -1,7 +1,7 @@
 -- Header words that the turn's holder stores one after the other.
 use Rattle.mk_laws.proofs.Vocabulary.{Step, ap, arith, refl, subst, suc, sym, zero, ℕ, ◌+◌, ◌<◌, ◌∙◌, ◌≡◌, ◌≤◌}
 use Rattle.mk_words.proofs.TurnSteps.{still_turn}
-use Rattle.mk_words.specs.{RunSteps.StoresHeads, States.{IsTurn, PassState}, TurnSteps.Acts}
+use Rattle.mk_words.specs.{TurnSteps.{StoresHeads, Acts}, States.{IsTurn, PassState}}
 
 -- it still has the turn
 pub heads_keep_turn : (p : PassState) (first n : ℕ) (headers : ℕ → ℕ) (q : PassState)

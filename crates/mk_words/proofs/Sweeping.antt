@@ -2,15 +2,15 @@
 use Rattle.std.proofs.Common.{Bool, List, ap, append-nil, append_assoc, false, if◌then◌else◌, refl, subst, sym, true}
 use Rattle.std.proofs.{Common.{true≢false, [], ◌++◌, ◌∙◌, ◌∷◌, ◌≡◌}, lemmas.Bool.and_parts}
 use Rattle.mk_core.proofs.HistoryParts.{left_in_parts}
-use Rattle.mk_core.specs.{Accesses.found, Cycles.sweeps, Growing.{AreOfOthers, Finding, is_same_seat, own_from}}
+use Rattle.mk_core.specs.{Accesses.found, Cycles.sweeps, History.{AreOfOthers, Finding, is_same_seat, own_from}}
 use Rattle.mk_core.specs.{History.{World, left, left_from, world_behind}, Moments.{Moment, flight_of}}
-use Rattle.mk_core.specs.{declared.config.Config.Config, declared.events.Event.Event, declared.events.Seat.Seat}
-use Rattle.mk_core.specs.{declared.events.Step.Step, declared.seats.Flight.Flight}
+use Rattle.mk_core.specs.declared.{config.Config.Config, events.{Event.Event, Seat.Seat}}
+use Rattle.mk_core.specs.declared.{events.Step.Step, seats.Flight.Flight}
 use Rattle.mk_words.proofs.Doing.{not_own}
 use Rattle.mk_words.specs.Sweeping.{HaveNoMark, NothingIsSweptInTurn, NothingSweepsNothing, OtherKindsSweepNothing}
-use Rattle.mk_words.specs.{Sweeping.{StepsMaySweepNothing, SweepsNothing, SweepsNothingFrom, is_mark}, Doing.are_of}
+use Rattle.mk_words.specs.{Sweeping.{StepsMaySweepNothing, SweepsNothing, SweepsNothingFrom, is_mark}, Steps.are_of}
 use Rattle.mk_words.proofs.Made.{own_before}
-use Rattle.mk_words.specs.{Seats.Has, States.{PassState, event_of, world_of}, Steps.{Makes, moment_of}}
+use Rattle.mk_words.specs.{States.{Has, PassState, event_of, world_of}, Steps.{Makes, moment_of}}
 
 -- lists in parts, and lists of others
 

@@ -3,12 +3,12 @@ use Rattle.std.proofs.Common.{Bool, List, Option, ap, false, if◌then◌else◌
 use Rattle.std.proofs.{Common.{◌&&◌, ◌∙◌, ◌∷◌, ◌≡◌}, lemmas.Bool.{and_from, and_parts, not-true, or_cases}}
 use Rattle.std.specs.List.{list_all}
 use Rattle.mk_never.specs.declared.operations.Op.{Op}
-use Rattle.mk_core.specs.{Growing.{Finding, is_one_of, is_same_seat, own_from}, Accesses.found}
-use Rattle.mk_core.specs.{History.{World, world_behind}, declared.events.Event.Event, declared.events.Seat.Seat}
+use Rattle.mk_core.specs.{History.{Finding, is_one_of, is_same_seat, own_from}, Accesses.found}
+use Rattle.mk_core.specs.{History.{World, world_behind}, declared.events.{Event.Event, Seat.Seat}}
 use Rattle.mk_core.specs.declared.events.Step.{Step}
 use Rattle.mk_words.proofs.Doing.{does_step, does_then, not_own}
-use Rattle.mk_words.specs.{Doing.{AreOwnOrOfOthers, Does, are_of}, Taking.{TakesTurn, is_take, waits_for}}
-use Rattle.mk_words.{proofs.Seats.{not_both, same_seat, same_self}, specs.{Seats.Has, States.{PassState, world_of}}}
+use Rattle.mk_words.specs.{Steps.{AreOwnOrOfOthers, Does, are_of}, TurnSteps.{TakesTurn, is_take, waits_for}}
+use Rattle.mk_words.{proofs.Seats.{not_both, same_seat, same_self}, specs.{States.Has, States.{PassState, world_of}}}
 
 -- Its own events are takes.
 pub own_take : (p : PassState) (e : Event) → Has p.seats p.seat → waits_for p e ≡ true

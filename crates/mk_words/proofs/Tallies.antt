@@ -3,8 +3,8 @@ use Rattle.mk_laws.proofs.Vocabulary.{Config, Event, Holding, IsHistory, IsSettl
 use Rattle.mk_laws.proofs.Vocabulary.{has_place, held_by_pages, left, ne_eqb, phase_of, ◌≡◌}
 use Rattle.mk_geom.proofs.HeldWords.{pages_hold_mapped_words}
 use Rattle.mk_core.specs.Counts.{TalliesAreExact}
-use Rattle.mk_laws.proofs.{InvariantHistories.pages_show_the_storage, Tallies.fresh_is_told, Tallies.tallies_tell}
-use Rattle.mk_laws.specs.SettledPages.{is_freed_unmapped}
+use Rattle.mk_laws.proofs.{InvariantHistories.pages_show_the_storage, Tallies.{fresh_is_told, tallies_tell}}
+use Rattle.mk_laws.specs.Theorems.{is_freed_unmapped}
 
 -- Where nothing is under way, exact tallies are those of the words;
 pub settled_tallies : (c : Config) (es : List Event) → IsHistory c es → IsSettled (left c es) → TalliesAreExact c es

@@ -7,7 +7,7 @@ use Rattle.mk_laws.proofs.Vocabulary.{is_number_of, is_open_to, length, ltb-true
 use Rattle.mk_laws.proofs.Vocabulary.{others_are_held, phase_of, refl, seat_exists, slice_index, subst, suc, sym, true}
 use Rattle.mk_laws.proofs.{Vocabulary.{zero, ◌++◌, ◌+◌, ◌<◌, ◌==◌, ◌||◌, ◌∙◌, ◌≡◌, ◌≢◌}, SameWords.{Behind, reg_keeps}}
 use Rattle.mk_laws.proofs.{SameWords.tally_keeps, NextSteps.at_no_take, Protocols.lists_keep_the_protocol}
-use Rattle.mk_core.specs.{Bounded.all_below, Frames.HoldsAll, Moments.none_is_held, Order.is_in_order}
+use Rattle.mk_core.specs.{Words.all_below, Frames.HoldsAll, Moments.none_is_held, Conditions.is_in_order}
 use Rattle.mk_words.proofs.{CallSteps.{begins, goes}, FreeTurns.{hands_none, turn_word_stays}, Made.{Made, made}}
 use Rattle.mk_words.proofs.Tallies.{free_tallies}
 use Rattle.mk_words.specs.{States.{IsTurn, PassState, call_of, now_of, world_of}, TurnSteps.{Acts, GatesAre, IsFresh}}

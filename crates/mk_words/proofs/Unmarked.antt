@@ -15,7 +15,7 @@ use Rattle.mk_laws.proofs.{Known.{Known, known_left}, OrderlyLists.actor_of, Rea
 use Rattle.mk_laws.proofs.{SameWords.Behind, Views.{HoldsTurn, view_of}}
 use Rattle.mk_geom.specs.Addresses.{cell_under, word_at_address}
 use Rattle.mk_core.proofs.{Histories.last_enabled, PointedPages.{found_under, lies_under}}
-use Rattle.mk_core.specs.{StopConditions.{blackens, may_black, may_turn_black}, Bounded.all_below, Cells.pointed_cell}
+use Rattle.mk_core.specs.{MarkingConditions.{blackens, may_black, may_turn_black}, Words.all_below, Cells.pointed_cell}
 use Rattle.mk_core.specs.Readings.{WordsTellWhatStands}
 use Rattle.mk_words.specs.PageMaps.{HasNoMarks}
 

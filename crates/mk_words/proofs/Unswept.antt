@@ -1,12 +1,12 @@
 -- Who waits for the turn marks nothing: it only tries to take it.
 use Rattle.std.proofs.Common.{List, ap, false, not, refl, subst, true, [], ⊎_elim, ◌&&◌, ◌∷◌, ◌≡◌}
 use Rattle.std.{proofs.lemmas.Bool.{and_parts, not-true, or_cases}, specs.List.{list_all}}
-use Rattle.mk_core.specs.{Growing.{is_one_of, is_same_seat}, History.{World, world_behind}, Moments.flight_of}
-use Rattle.mk_core.specs.{declared.events.Event.Event, declared.events.Seat.Seat, declared.events.Step.Step}
+use Rattle.mk_core.specs.{History.{is_one_of, is_same_seat, World, world_behind}, Moments.flight_of}
+use Rattle.mk_core.specs.declared.events.{Event.Event, Seat.Seat, Step.Step}
 use Rattle.mk_words.proofs.Sweeping.{only_seen, other_step_sweeps, other_steps_sweep, sweeps_then}
-use Rattle.mk_words.specs.{Sweeping.{SweepsNothingFrom, is_mark}, Taking.{is_take, waits_for}}
-use Rattle.mk_words.specs.Unswept.{TakingSweepsNothing}
-use Rattle.mk_words.{proofs.Seats.{not_both, same_seat}, specs.{Seats.Has, States.{PassState, world_of}}}
+use Rattle.mk_words.specs.{Sweeping.{SweepsNothingFrom, is_mark}, TurnSteps.{is_take, waits_for}}
+use Rattle.mk_words.specs.Sweeping.{TakingSweepsNothing}
+use Rattle.mk_words.{proofs.Seats.{not_both, same_seat}, specs.{States.Has, States.{PassState, world_of}}}
 
 take_is_no_mark : (x : Step) → is_take x ≡ true → is_mark x ≡ false
 take_is_no_mark (Step.Take o) h = refl

@@ -3,9 +3,9 @@ use Rattle.std.proofs.Common.{Bool, List, Option, ap, append-nil, append_assoc, 
 use Rattle.std.{proofs.{Common.{◌&&◌, ◌++◌, ◌||◌, ◌∙◌, ◌∷◌, ◌≡◌}, lemmas.Bool.and_from}, specs.List.{list_all}}
 use Rattle.std.proofs.lemmas.List.Folds.{list_all-append}
 use Rattle.mk_never.specs.declared.operations.Op.{Op}
-use Rattle.mk_core.specs.{Growing.{AreOfOthers, is_one_of, is_same_seat}, declared.events.Event.Event}
+use Rattle.mk_core.specs.{History.{AreOfOthers, is_one_of, is_same_seat}, declared.events.Event.Event}
 use Rattle.mk_core.specs.declared.events.Step.{Step}
-use Rattle.mk_words.specs.Taking.{TakesTurn, Waits, is_take, waits_for}
+use Rattle.mk_words.specs.TurnSteps.{TakesTurn, Waits, is_take, waits_for}
 use Rattle.mk_words.{proofs.Seats.{same_self}, specs.{States.{PassState, event_of}, Steps.Makes}}
 
 -- the list of a pass that made a step

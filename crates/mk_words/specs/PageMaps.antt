@@ -1,10 +1,16 @@
 -- The page map of a heap: what it shows of the words, and the steps by which it changes hands or has to follow.
-use Rattle.std.specs.Prelude.{◌≡◌, ℕ, ◌<◌, ◌≤◌, ◌%◌, ◌^◌, ◌||◌, Bool, true, false, slice_index, slice_set, Option, Some}
-use Rattle.std.specs.Prelude.{None, List, []}
+use Rattle.std.specs.Prelude.{◌≡◌, ℕ, ◌/◌, ⊤, ◌<◌, ◌≤◌, ◌%◌, ◌^◌, ◌||◌, Bool, true, false, slice_index, slice_set}
+use Rattle.std.specs.Prelude.{Option, Some, None, List, []}
 use Rattle.mk_geom.specs.declared.pages.Page.{Page}
 use Rattle.mk_books.specs.KnownPages.{KnownPages, Shows, is_bare, is_uncleaned, is_uncleaned_under, with_header}
 use Rattle.mk_books.specs.KnownPages.{with_used}
-use Rattle.mk_core.specs.{declared.events.Step.Step, Words.{Words, header_at}}
+use Rattle.mk_core.specs.declared.accesses.TableWord.{TableWord, TheVariants.Named}
+use Rattle.mk_core.specs.{declared.events.{Word.Word, Step.Step}, Words.{Words, header_at}}
+
+-- A word of the heap stands on this page. Of other words it says nothing.
+abbrev pub IsOnPage : ℕ → TableWord → Type 0
+IsOnPage page (Named (Word.Heap n)) = page ≡ n / 64
+IsOnPage page _ = ⊤
 
 -- No mark is on the page, and nothing of it is black.
 pub record HasNoMarks (w : Words) (page : ℕ) : Type 0 where

@@ -1,16 +1,15 @@
--- The rule of the table, and what each step says of it.
+-- The rule of the table: what each step says of it, and what always holds of a pass.
 use Rattle.std.specs.Prelude.{◌≡◌, ◌≢◌, ℕ, List, [], ◌∷◌, ◌++◌}
+use Rattle.mk_books.specs.KnownPages.{KnownPages}
+use Rattle.mk_core.specs.{Accesses.found, Counts.IsTidy, History.{left, IsHistory, AreOfOthers, Grows}, Layout.in_order}
+use Rattle.mk_core.specs.{Words.Words, declared.accesses.Access.{Access, TheVariants.Store}}
+use Rattle.mk_core.specs.declared.{config.Config.Config, events.{Event.Event, Seat.Seat}}
+use Rattle.mk_core.specs.declared.events.{Seat.TheVariants.Host, Step.TheVariants.Leave}
+use Rattle.mk_words.specs.{declared.rule.{Part.Part, View.View}, States.{Has, CallersAreBeforeOver}}
+use Rattle.mk_words.specs.{States.{without_seat, all_seats, PassState}, PageMaps.IsMapOf}
+use Rattle.atomic_table.specs.{Table.{State, Me, Step as TableStep, step, rest}, Seated.TableId}
 use mathlib.Core.Option.{Option, some, none}
 use lib.ListN.{get_elem?}
-use Rattle.mk_books.specs.KnownPages.{KnownPages}
-use Rattle.mk_core.specs.{declared.config.Config.Config, declared.events.Seat.Seat}
-use Rattle.mk_core.specs.{declared.events.Seat.TheVariants.Host, declared.events.Step.TheVariants.Leave}
-use Rattle.mk_core.specs.{declared.events.Event.Event, declared.accesses.Access.Access}
-use Rattle.mk_core.specs.{declared.accesses.Access.TheVariants.Store, Words.Words, Layout.in_order, Accesses.found}
-use Rattle.mk_core.specs.{History.{left, IsHistory}, Counts.IsTidy, Growing.{AreOfOthers, Grows}}
-use Rattle.mk_words.specs.{declared.rule.Part.Part, declared.rule.View.View, Seats.{Has, CallersAreBeforeOver}}
-use Rattle.mk_words.specs.{Seats.{without_seat, all_seats}, PageMaps.IsMapOf}
-use Rattle.atomic_table.specs.Table.{State, Me, Step as TableStep, step, rest}
 
 -- seats, and the events that they have seen
 abbrev pub part : List Seat → List Event → Part
@@ -138,3 +137,37 @@ takes_map e st m found n =
 -- A `give` leaves the map in the slot.
 abbrev pub gives_map : Event → TableStep KnownPages → Mine → ℕ → Mine → Type 0
 gives_map e st m stored n = (n.1 ≡ rest m.1) × ((found : ℕ) × Adds e m.0 found n.0)
+
+-- a pass, from the view of its token and its seat
+abbrev pub state_of : TableId → Mine → Seat → PassState
+state_of id me seat =
+    record {
+      table = record { id = id; config = me.0.config };
+      seat = seat;
+      seats = me.0.own.seats;
+      seen = me.0.own.seen;
+    }
+
+-- Nothing that came is still beside what is the token's own, its own seat is one of its seats, and what it has seen is
+-- a history, and tidy.
+pub record IsInOrder (me : Mine) (seat : Seat) : Type 0 where
+  pub settled : me.0.came ≡ no_part
+  pub own : Has me.0.own.seats seat
+  pub history : IsHistory me.0.config me.0.own.seen
+  pub tidy : IsTidy me.0.config me.0.own.seen
+  pub before_over : CallersAreBeforeOver me.0.config me.0.own.seats me.0.own.seen
+
+-- a token that holds no slot, and one that holds that of the page map, in which a blank one lies meanwhile
+
+-- The token has no slot.
+abbrev pub NoSlot : List (ℕ × KnownPages) → Type 0
+NoSlot slots = slots ≡ []
+
+-- The token has the slot of the page map.
+abbrev pub MapSlot : List (ℕ × KnownPages) → Type 0
+MapSlot slots = (blank : KnownPages) × (slots ≡ (0, blank) ∷ [])
+
+-- A token is in order, and holds such slots.
+pub record IsHolding (such : List (ℕ × KnownPages) → Type 0) (me : Mine) (seat : Seat) : Type 0 where
+  pub order : IsInOrder me seat
+  pub slots : such me.1

@@ -1,9 +1,10 @@
 -- Sweeping marks: by a word of a cell that wasn't marked when it was looked at. Which of its steps make none.
-use Rattle.std.specs.Prelude.{◌≡◌, Bool, true, false, List, [], ◌∷◌, ◌++◌, ⊤}
-use Rattle.mk_core.specs.{declared.config.Config.Config, declared.events.Seat.Seat, declared.events.Event.Event}
-use Rattle.mk_core.specs.{declared.events.Step.Step, Cycles.sweeps, Growing.is_same_seat, History.{World, world_behind}}
+use Rattle.std.specs.Prelude.{◌≡◌, Bool, true, false, List, [], ◌∷◌, ◌++◌, ⊤, Option}
+use Rattle.mk_never.specs.declared.operations.Op.{Op}
+use Rattle.mk_core.specs.declared.{config.Config.Config, events.{Seat.Seat, Event.Event}}
+use Rattle.mk_core.specs.{declared.events.Step.Step, Cycles.sweeps, History.{is_same_seat, World, world_behind}}
 use Rattle.mk_core.specs.Moments.{flight_of}
-use Rattle.mk_words.specs.{States.{PassState, world_of}, Steps.{Makes, moment_of}, Doing.Does}
+use Rattle.mk_words.specs.{States.{PassState, world_of, Has}, Steps.{Makes, moment_of, Does}, TurnSteps.TakesTurn}
 
 -- No step of the seat in the list makes a sweeping mark.
 unfoldable pub SweepsNothingFrom : Config → Seat → World → List Event → Type 0
@@ -48,3 +49,8 @@ abbrev pub StepsMaySweepNothing : Type 0
 StepsMaySweepNothing =
     (p q : PassState) (s : Step) (m : Makes p s q)
     → sweeps p.table.config (moment_of m) (flight_of (moment_of m) p.seat) s ≡ false → SweepsNothing p q
+
+-- Taking the turn sweeps nothing.
+abbrev pub TakingSweepsNothing : Type 0
+TakingSweepsNothing =
+    (p : PassState) (o : Option Op) (q : PassState) → Has p.seats p.seat → TakesTurn p o q → SweepsNothing p q

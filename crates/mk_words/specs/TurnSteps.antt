@@ -1,15 +1,18 @@
--- What the steps of the turn's holder leave.
-use Rattle.std.specs.Prelude.{◌≡◌, ℕ, ◌%◌, ◌^◌, ◌++◌, Option, Some, None, Bool, true, false}
+-- What the steps of the turn's holder leave, and how a caller waits for the turn.
+use Rattle.std.specs.Prelude.{◌≡◌, ℕ, ◌%◌, ◌^◌, ◌++◌, Option, Some, None, Bool, true, false, ◌*◌, ◌⊎◌, min, not, ◌&&◌}
+use Rattle.std.specs.{Prelude.{◌||◌, List, ◌<◌, ◌+◌, suc, zero}, List.list_all}
 use Rattle.mk_never.specs.declared.operations.Op.{Op}
-use Rattle.mk_geom.specs.Addresses.{address_of}
+use Rattle.mk_geom.specs.Addresses.{address_of, is_heap_address, page_at_address}
 use Rattle.mk_books.specs.KnownPages.{KnownPages}
-use Rattle.mk_core.specs.{declared.events.Seat.TheVariants.Caller, declared.events.Step.Step}
+use Rattle.mk_core.specs.declared.events.{Seat.TheVariants.Caller, Step.Step}
 use Rattle.mk_core.specs.{declared.seats.Flight.Flight, Accesses.granted_base, Calls.{at_rest, begun}}
-use Rattle.mk_core.specs.{Moments.{nothing_done, none_is_held, others_are_held}, Words.phase_of, Ranges.has_phase}
-use Rattle.mk_core.specs.{TurnConditions.held_by_pages, Readings.Holds, History.{World, world_behind, left}}
-use Rattle.mk_core.specs.{Frames.{OwnIsLeft, HoldsAll, TurnIsLeft, CountsAreLeft, written_of}, Effects.progress}
+use Rattle.mk_core.specs.{Moments.{nothing_done, none_is_held, others_are_held}, Words.phase_of, Conditions.has_phase}
+use Rattle.mk_core.specs.{TurnConditions.held_by_pages, Readings.Holds, History.{World, world_behind, left, is_one_of}}
+use Rattle.mk_core.specs.{History.is_same_seat, Frames.{OwnIsLeft, HoldsAll, TurnIsLeft, CountsAreLeft, written_of}}
+use Rattle.mk_core.specs.{Effects.progress, declared.events.Event.Event, Counts.{TalliesAreExact, TalliesAreTidy}}
+use Rattle.mk_core.specs.declared.events.Word.{Word}
 use Rattle.mk_words.specs.{PageMaps.{IsMapOf, is_told}, States.{PassState, world_of, now_of, call_of, event_of}}
-use Rattle.mk_words.specs.Steps.{Makes, found_by}
+use Rattle.mk_words.specs.{States.TurnState, Steps.{Makes, found_by, Finds, IsEnabledTo}}
 
 -- the call that a `take` with this operation begins
 abbrev pub begun_for : Option Op → Flight
@@ -82,3 +85,71 @@ granted_address p = address_of (granted_base p.table.config (call_of p) (now_of 
 pub record HasMap (held : Bool) (p : PassState) (map : KnownPages) : Type 0 where
   pub shows : IsMapOf map (now_of p).words
   pub gates : GatesAre held p
+
+-- microseconds of the first sleep
+abbrev pub first_sleep : ℕ
+first_sleep = 50
+
+-- microseconds of the longest one
+abbrev pub longest_sleep : ℕ
+longest_sleep = 1000
+
+-- the sleep after one of this length
+abbrev pub sleep_after : ℕ → ℕ
+sleep_after sleep = min (2 * sleep) longest_sleep
+
+-- After a pause that was no sleep the next sleep is as long as it was to be, and else longer.
+abbrev pub PausesOnce : ℕ → ℕ → Type 0
+PausesOnce before after = (after ≡ before) ⊎ (after ≡ sleep_after before)
+
+-- it is a `take`
+abbrev pub is_take : Step → Bool
+is_take (Step.Take o) = true
+is_take _ = false
+
+-- an event of another, or a try to take the turn
+abbrev pub waits_for : PassState → Event → Bool
+waits_for p e = not (is_one_of p.seats e.seat) || (is_take e.step && is_same_seat e.seat p.seat)
+
+-- The pass has seen events of others, and has tried to take the turn.
+pub record Waits (p q : PassState) : Type 0 where
+  pub more : List Event
+  pub is : q ≡ record p { seen = p.seen ++ more }
+  pub only : list_all (waits_for p) more ≡ true
+
+-- It waited for the turn, and took it for this operation; the host takes it for none.
+pub record TakesTurn (p : PassState) (o : Option Op) (q : PassState) : Type 0 where
+  pub waited : PassState
+  pub waits : Waits p waited
+  pub takes : Finds waited (Step.Take o) 0 q
+
+-- So it has the turn, as one has it directly after its `take`.
+pub record HasTakenTurn (p : PassState) (o : Option Op) (t : TurnState) : Type 0 where
+  pub takes : TakesTurn p o t.pass
+  pub fresh : IsFresh t.pass o
+  pub exact : TalliesAreExact t.pass.table.config t.pass.seen
+  pub tidy : TalliesAreTidy t.pass.table.config t.pass.seen
+
+-- The header of each page may be looked at.
+abbrev pub MayLookAtHeaders : PassState → Type 0
+MayLookAtHeaders p = (page : ℕ) → page < p.table.config.pages → IsEnabledTo p (Step.Look (Word.Head page))
+
+-- The holder of the turn looked at the header of the value's page, once, and did nothing else. It did nothing at all
+-- where the value is no address of the heap.
+pub record LooksForCell (value : ℕ) (t u : TurnState) : Type 0 where
+  pub table : u.pass.table ≡ t.pass.table
+  pub outside : is_heap_address t.pass.table.config.pages value ≡ false → u ≡ t
+  pub inside : is_heap_address t.pass.table.config.pages value ≡ true
+      → Acts t.pass (Step.Look (Word.Head (page_at_address value))) u.pass
+
+-- It stored these header words one after the other, on `count` pages from page `first` on.
+abbrev pub StoresHeads : PassState → ℕ → ℕ → (ℕ → ℕ) → PassState → Type 0
+StoresHeads p first zero headers q = p ≡ q
+StoresHeads p first (suc n) headers q =
+    (r : PassState) × StoresHeads p first n headers r × Acts r (Step.Head (first + n) (headers n)) q
+
+-- It may store each of these header words after those before it.
+abbrev pub MayStoreHeads : PassState → ℕ → ℕ → (ℕ → ℕ) → Type 0
+MayStoreHeads p first count headers =
+    (n : ℕ) (q : PassState) → n < count → StoresHeads p first n headers q
+    → IsEnabledTo q (Step.Head (first + n) (headers n))

@@ -1,6 +1,6 @@
 //! What a seat does in a call, from what its pass had seen to what it has seen now: facts that add up over several
 //! calls, with no code.
-ghost use Rattle.mk_words.specs.Doing.{NothingIsDone, DoneInTurn, StepsAreDone};
+ghost use Rattle.mk_words.specs.Steps.{NothingIsDone, DoneInTurn, StepsAreDone};
 ghost use Rattle.mk_words.specs.Sweeping.{NothingSweepsNothing, NothingIsSweptInTurn, OtherKindsSweepNothing};
 ghost use Rattle.mk_words.specs.Sweeping.{StepsMaySweepNothing};
 

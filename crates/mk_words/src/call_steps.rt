@@ -8,7 +8,7 @@ ghost use Rattle.mk_core.specs.{Accesses.{caller_number, register_met, reg_acces
 ghost use Rattle.mk_core.specs.Calls.{still, word_met, page_met, g_of, value_written, one_if, progress_reg};
 ghost use Rattle.mk_core.specs.{Calls.{progress_read, progress_getg}, Effects.progress_probe};
 ghost use Rattle.mk_words.specs.{States.call_of, Steps.{IsEnabledTo, IsAdmittedTo, Finds, Goes}};
-ghost use Rattle.mk_words.specs.CallSteps.{register_of, LeavesRegisters, KeepsOtherRegisters, FindsHeld};
+ghost use Rattle.mk_words.specs.Steps.{register_of, LeavesRegisters, KeepsOtherRegisters, FindsHeld};
 ghost use Rattle.mk_core.specs.declared.events.Answer.TheVariants as answer;
 ghost use Rattle.mk_core.specs.declared.events.Step.TheVariants as step;
 

@@ -2,7 +2,7 @@
 ghost use Rattle.std.specs.Prelude.{◌≡◌, ◌≤◌, ◌%◌, ◌^◌, count_ones, slice_index};
 ghost use Rattle.std.specs.Mem.Slots.{slots_items, slots_len, IsFull};
 ghost use Rattle.mk_core.specs.Layout.{count_of_words, index_of_named, NamesWord};
-ghost use Rattle.mk_words.specs.Finals.{freed_bits_in};
+ghost use Rattle.mk_words.specs.States.{freed_bits_in};
 
 use crate::homes::MapHome;
 use crate::indexes::index_of;

@@ -3,8 +3,8 @@
 ghost use Rattle.std.specs.Prelude.{◌≡◌, ◌≢◌, ◌+◌, [], ◌∷◌, true, IfOk, IfErr};
 ghost use Rattle.mk_books.specs.KnownPages.{KnownPages};
 ghost use Rattle.mk_core.specs.{declared.accesses.Access.TheVariants.Exchange, Accesses.access, Moments.holder_number};
-ghost use Rattle.mk_core.specs.{Order.seat_exists, Readings.Holds};
-ghost use Rattle.mk_words.specs.{PageMaps.IsMapOf, States.now_of, Passes.{state_of, IsInOrder}};
+ghost use Rattle.mk_core.specs.{Conditions.seat_exists, Readings.Holds};
+ghost use Rattle.mk_words.specs.{PageMaps.IsMapOf, States.now_of, Rule.{state_of, IsInOrder}};
 ghost use Rattle.mk_words.specs.{Rule.{takes_map, gives_map, no_step}, Steps.{IsEnabledTo, May, Makes, Tells}};
 ghost use Rattle.mk_core.specs.declared.events.Step.TheVariants as step;
 

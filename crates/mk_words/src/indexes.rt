@@ -2,7 +2,7 @@
 ghost use Rattle.std.specs.Prelude.{◌≡◌, ◌≤◌};
 ghost use Rattle.mk_core.specs.declared.accesses.TableWord.TheVariants.{Named};
 ghost use Rattle.mk_core.specs.Layout.{count_of_words, index_of, index_of_named, IsOfTable, NamesWord};
-ghost use Rattle.mk_words.specs.Indexes.{IsOnPage};
+ghost use Rattle.mk_words.specs.PageMaps.{IsOnPage};
 
 use mk_core::{TableWord, Word};
 use mk_geom::PAGE_WORDS;

@@ -1,9 +1,9 @@
 //! A marker's pass: what a marker is at, kept beside the right to make its steps.
 ghost use Rattle.std.specs.Prelude.{◌≡◌, true, false};
 ghost use Rattle.mk_core.specs.{History.IsHistory, Counts.IsTidy, Moments.outside};
-ghost use Rattle.mk_core.specs.Order.{group_of};
-ghost use Rattle.mk_words.specs.{Seats.{CallersAreBeforeOver, Has}, PageMaps.is_handing};
-ghost use Rattle.mk_words.specs.{Markers.{is_markers, marker_in, Marks}, Steps.MayPerform};
+ghost use Rattle.mk_core.specs.Conditions.{group_of};
+ghost use Rattle.mk_words.specs.{States.{CallersAreBeforeOver, Has}, PageMaps.is_handing};
+ghost use Rattle.mk_words.specs.Steps.{is_markers, marker_in, Marks, MayPerform};
 
 use crate::passes::Pass;
 use crate::tokens::SeatToken;
@@ -29,7 +29,7 @@ pub struct MarkerPass {
 
 impl Model for MarkerPass {
     ghost use Rattle.std.specs.Prelude.{◌≡◌};
-    ghost use Rattle.mk_words.specs.{States.PassState, Markers.marker_in};
+    ghost use Rattle.mk_words.specs.{States.PassState, Steps.marker_in};
 
     ghost Value = { PassState };
 

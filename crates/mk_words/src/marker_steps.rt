@@ -1,7 +1,7 @@
 //! The steps of markers. A marker's pass keeps what the marker is at, so these need no further numbers.
 ghost use Rattle.std.specs.Prelude.{◌≡◌, None};
 ghost use Rattle.mk_core.specs.Moments.{outside};
-ghost use Rattle.mk_words.specs.{Markers.{marker_in, Marks, Claims}, Steps.{IsEnabledTo, Makes}};
+ghost use Rattle.mk_words.specs.Steps.{marker_in, Marks, Claims, IsEnabledTo, Makes};
 ghost use Rattle.mk_core.specs.declared.events.Step.TheVariants as step;
 
 use crate::marker_passes::MarkerPass;

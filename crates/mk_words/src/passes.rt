@@ -1,7 +1,7 @@
 //! Passes: who has one may make the steps of its seat.
 ghost use Rattle.std.specs.Prelude.{◌≡◌, true, false};
 ghost use Rattle.mk_core.specs.{Accesses.caller_number, History.IsHistory, Counts.IsTidy};
-ghost use Rattle.mk_words.specs.{Seats.{CallersAreBeforeOver, Has, is_caller}, PageMaps.is_handing};
+ghost use Rattle.mk_words.specs.{States.{CallersAreBeforeOver, Has, is_caller}, PageMaps.is_handing};
 ghost use Rattle.mk_words.specs.{Steps.{MayPerform, Tells}};
 
 use crate::indexes::page_of;

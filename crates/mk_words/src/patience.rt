@@ -1,6 +1,6 @@
 //! How one waits for what may take long. No promise rests on it, but how long each sleep is.
 ghost use Rattle.std.specs.{Prelude.{◌≡◌, ◌*◌, ◌<◌, ◌≤◌, IfSome, IfNone}, Duration.as_nanos};
-ghost use Rattle.mk_words.specs.Sleeps.{first_sleep, sleep_after, PausesOnce};
+ghost use Rattle.mk_words.specs.TurnSteps.{first_sleep, sleep_after, PausesOnce};
 
 use crate::words::Words;
 use crossbeam_utils::Backoff;
@@ -25,7 +25,7 @@ pub struct Patience {
 
 impl Model for Patience {
     ghost use Rattle.std.specs.Prelude.{ℕ, ◌≤◌};
-    ghost use Rattle.mk_words.specs.Sleeps.{longest_sleep};
+    ghost use Rattle.mk_words.specs.TurnSteps.{longest_sleep};
 
     ghost Value = { ℕ };
 

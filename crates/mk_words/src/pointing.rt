@@ -2,7 +2,7 @@
 ghost use Rattle.std.specs.Prelude.{◌≡◌};
 ghost use Rattle.mk_core.specs.Cells.{pointed_cell};
 ghost use Rattle.mk_words.specs.States.{now_of};
-ghost use Rattle.mk_words.specs.Pointing.{LooksForCell, MayLookAtHeaders};
+ghost use Rattle.mk_words.specs.TurnSteps.{LooksForCell, MayLookAtHeaders};
 
 use crate::gates::Gates;
 use crate::turns::TurnAt;

@@ -2,7 +2,7 @@
 ghost use Rattle.std.specs.Prelude.{◌≡◌, true, false, OnOk, OnErr};
 ghost use Rattle.mk_core.specs.Moments.{is_held, others_are_held};
 ghost use Rattle.mk_words.specs.{Steps.{IsEnabledTo, IsAdmittedTo, Finds, may_decide}, TurnSteps.Acts};
-ghost use Rattle.mk_words.specs.{Seats.HasCallers, States.now_of};
+ghost use Rattle.mk_words.specs.States.{HasCallers, now_of};
 ghost use Rattle.mk_core.specs.declared.events.Step.TheVariants as step;
 
 use crate::turns::{Stopped, Turn, TurnAt};

@@ -1,7 +1,7 @@
 //! The steps of the turn's holder that it takes only while the gates of all other callers are held.
 ghost use Rattle.std.specs.Prelude.{◌≡◌, true, false};
 ghost use Rattle.mk_core.specs.Moments.{none_is_held, is_number_of};
-ghost use Rattle.mk_words.specs.{Opening.{OthersMayOpen, Opens}, States.now_of, Steps.IsEnabledTo};
+ghost use Rattle.mk_words.specs.{Steps.{OthersMayOpen, Opens, IsEnabledTo}, States.now_of};
 ghost use Rattle.mk_words.specs.TurnSteps.{Acts, IsStopped};
 ghost use Rattle.mk_core.specs.declared.events.Step.TheVariants as step;
 

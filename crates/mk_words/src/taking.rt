@@ -4,7 +4,7 @@
 ghost use Rattle.std.specs.Prelude.{◌≡◌};
 ghost use Rattle.mk_core.specs.Counts.{TalliesAreExact, TalliesAreTidy};
 ghost use Rattle.mk_words.specs.{Steps.IsEnabledTo, TurnSteps.IsFresh};
-ghost use Rattle.mk_words.specs.{Taking.{HasTakenTurn, TakesTurn}, Unswept.TakingSweepsNothing};
+ghost use Rattle.mk_words.specs.{TurnSteps.{HasTakenTurn, TakesTurn}, Sweeping.TakingSweepsNothing};
 ghost use Rattle.mk_core.specs.declared.events.Step.TheVariants as step;
 
 use crate::passes::Pass;

@@ -1,8 +1,8 @@
 //! A token of the table with the seat whose steps it takes: what a pass and a turn have in common.
 ghost use Rattle.std.specs.Prelude.{◌≡◌, false, true};
 ghost use Rattle.mk_core.specs.{Accesses.caller_number, History.IsHistory, Counts.IsTidy};
-ghost use Rattle.mk_words.specs.{Indexes.IsOnPage, PageMaps.is_handing, Seats.{CallersAreBeforeOver, Has, is_caller}};
-ghost use Rattle.mk_words.specs.{Passes.{state_of, IsInOrder}, Steps.{MayPerform, Tells}};
+ghost use Rattle.mk_words.specs.{PageMaps.{IsOnPage, is_handing}, States.{CallersAreBeforeOver, Has, is_caller}};
+ghost use Rattle.mk_words.specs.{Rule.{state_of, IsInOrder}, Steps.{MayPerform, Tells}};
 
 use crate::homes::MapHome;
 use crate::indexes::{index_near, page_of};
@@ -26,7 +26,7 @@ pub(crate) trait Slots {
 pub(crate) struct NoSlot;
 
 impl Slots for NoSlot {
-    ghost use Rattle.mk_words.specs.Passes.{NoSlot};
+    ghost use Rattle.mk_words.specs.Rule.{NoSlot};
 
     ghost such = { NoSlot };
 }
@@ -35,7 +35,7 @@ impl Slots for NoSlot {
 pub(crate) struct MapSlot;
 
 impl Slots for MapSlot {
-    ghost use Rattle.mk_words.specs.Passes.{MapSlot};
+    ghost use Rattle.mk_words.specs.Rule.{MapSlot};
 
     ghost such = { MapSlot };
 }
@@ -59,7 +59,7 @@ impl<S: Slots> Model for TokenWith<S> {
 
     ghost Value = { PassState };
 
-    ghost use Rattle.mk_words.specs.Passes.{state_of, IsHolding};
+    ghost use Rattle.mk_words.specs.Rule.{state_of, IsHolding};
 
     ghost view = { λ t. state_of t.token.table_id t.token.me t.seat };
 

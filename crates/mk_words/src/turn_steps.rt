@@ -3,7 +3,7 @@ ghost use Rattle.std.specs.Prelude.{◌≡◌, ◌≢◌, ◌%◌, ◌^◌, true
 ghost use Rattle.mk_core.specs.declared.accesses.Access.TheVariants.{Load};
 ghost use Rattle.mk_core.specs.{declared.accesses.TableWord.TheVariants.Named, Accesses.{register_met, reg_access}};
 ghost use Rattle.mk_core.specs.{Calls.{d_of, progress_reg}, Words.header_at};
-ghost use Rattle.mk_words.specs.{Indexes.IsOnPage, States.{call_of, now_of}, CallSteps.register_of};
+ghost use Rattle.mk_words.specs.{PageMaps.IsOnPage, States.{call_of, now_of}, Steps.register_of};
 ghost use Rattle.mk_words.specs.Steps.{IsEnabledTo, IsAdmittedTo, Finds, Goes, may_decide};
 ghost use Rattle.mk_words.specs.TurnSteps.{Acts, granted_address};
 ghost use Rattle.mk_core.specs.declared.events.Step.TheVariants as step;

@@ -2,8 +2,8 @@
 ghost use Rattle.std.specs.Prelude.{◌≡◌, ◌+◌, ◌<◌, IfOk, IfErr, length, true};
 ghost use Rattle.mk_core.specs.{Calls.at_rest};
 ghost use Rattle.mk_core.specs.{Counts.{TalliesAreExact, TalliesAreTidy, IsTidy}, History.IsHistory};
-ghost use Rattle.mk_words.specs.{Indexes.IsOnPage, Seats.{CallersAreBeforeOver, Has}, States.{IsTurn, call_of}};
-ghost use Rattle.mk_words.specs.{OneProof.turn_prop, PageMaps.{IsToldOf, is_told, page_told}};
+ghost use Rattle.mk_words.specs.{PageMaps.IsOnPage, States.{CallersAreBeforeOver, Has, IsTurn, call_of}};
+ghost use Rattle.mk_words.specs.{Laws.turn_prop, PageMaps.{IsToldOf, is_told, page_told}};
 ghost use Rattle.mk_words.specs.{Steps.{IsEnabledTo, MayPerform, Finds, Tells}};
 ghost use Rattle.mk_words.specs.TurnSteps.{IsFresh, StaysTurn, GatesAre, Acts};
 ghost use Rattle.mk_core.specs.declared.events.Step.TheVariants as step;
@@ -35,7 +35,7 @@ pub type Stopped = TurnAt<AllHeld>;
 
 impl<G: Gates> Model for TurnAt<G> {
     ghost use Rattle.std.specs.Coded.{codes};
-    ghost use Rattle.mk_words.specs.{OneProof.turn_prop, States.TurnState, TurnSteps.HasMap};
+    ghost use Rattle.mk_words.specs.{Laws.turn_prop, States.TurnState, TurnSteps.HasMap};
 
     ghost Value = { TurnState };
 

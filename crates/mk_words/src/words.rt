@@ -1,11 +1,11 @@
 //! The shared words, and the passes to them.
 ghost use Rattle.std.specs.Prelude.{◌≡◌, ◌≤◌, [], ◌∷◌, ◌++◌, IfOk, All, false, length, replicate, true};
 ghost use Rattle.mk_geom.specs.Storages.{free_page};
-ghost use Rattle.mk_core.specs.{declared.events.Seat.TheVariants.Host, Config.IsWithinLimits};
-ghost use Rattle.mk_core.specs.{Growing.{Grows, is_same_seat}, Moments.{marker_at, outside}};
+ghost use Rattle.mk_core.specs.{declared.events.Seat.TheVariants.Host, Moments.IsWithinLimits};
+ghost use Rattle.mk_core.specs.{History.{Grows, is_same_seat}, Moments.{marker_at, outside}};
 ghost use Rattle.mk_books.specs.KnownPages.{Shows};
-ghost use Rattle.mk_words.specs.{Seats.{Has, HasAll, all_seats, without_seat, is_caller, has_over}, States.IsPass};
-ghost use Rattle.mk_words.specs.{Finals.{history_of, config_of, HasTallies}, States.now_of};
+ghost use Rattle.mk_words.specs.States.{Has, HasAll, all_seats, without_seat, is_caller, has_over, IsPass};
+ghost use Rattle.mk_words.specs.States.{history_of, config_of, HasTallies, now_of};
 
 use crate::finals::{Final, freed_bits, last_word};
 use crate::homes::MapHome;
@@ -34,7 +34,7 @@ pub struct Words {
 impl Model for Words {
     ghost use Rattle.std.specs.Prelude.{◌≡◌};
     ghost use Rattle.mk_words.specs.States.{WordsState};
-    ghost use Rattle.mk_core.specs.{Config.IsWithinLimits, Layout.count_of_words};
+    ghost use Rattle.mk_core.specs.{Moments.IsWithinLimits, Layout.count_of_words};
 
     ghost Value = { WordsState };
 

@@ -72,7 +72,7 @@ pub enum Sequel {
 }
 
 impl Sequel {
-    ghost use Rattle.mk_check.specs.Spots.{sequel_to};
+    ghost use Rattle.mk_check.specs.Trees.{sequel_to};
 
     /// What comes where this node is the next one.
     fn to(node: Node) -> Sequel
@@ -106,7 +106,7 @@ pub struct Sequels {
 }
 
 impl Sequels {
-    ghost use Rattle.mk_check.specs.Spots.{no_sequels, sequels_before};
+    ghost use Rattle.mk_check.specs.Trees.{no_sequels, sequels_before};
 
     fn unknown() -> Sequels
         ensures { result ≡ no_sequels }
@@ -145,7 +145,7 @@ impl Sequels {
 }
 
 impl Node {
-    ghost use Rattle.mk_check.specs.Spots.{instruction_of_node};
+    ghost use Rattle.mk_check.specs.Trees.{instruction_of_node};
 
     /// The instruction of a line. Another node has none that asks for an operation.
     fn instruction(self) -> Instruction
@@ -176,7 +176,7 @@ pub struct Tree {
 
 impl Model for Tree {
     ghost use Rattle.std.specs.Prelude.{List};
-    ghost use Rattle.mk_check.specs.{declared.feeding.tree.Node.Node, Spots.{nodes_of, IsMarkedTree}};
+    ghost use Rattle.mk_check.specs.{declared.feeding.tree.Node.Node, Trees.{nodes_of, IsMarkedTree}};
 
     ghost Value = { List Node };
 
@@ -186,7 +186,7 @@ impl Model for Tree {
 }
 
 impl Tree {
-    ghost use Rattle.mk_check.specs.{Spots.{asks_at, instruction_of_node, sequels_of}, Steps.asks_first};
+    ghost use Rattle.mk_check.specs.{Trees.{asks_at, instruction_of_node, sequels_of}, Steps.asks_first};
     ghost use Rattle.mk_check.specs.Trees.{IsTree, IsBelow, node_at, steps_at, steps_from, trees};
 
     /// A tree without nodes.

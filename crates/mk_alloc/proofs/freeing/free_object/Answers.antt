@@ -1,7 +1,7 @@
 use Rattle.mk_alloc.proofs.{Vocabulary.{Op, PassState, ap, refl, sym, ◌∙◌}, CalledTurns.{Taken, taken_is, took_by}}
 use Rattle.mk_alloc.proofs.FreedTurns.{Frees, Refuses, double_answered, freed, freed_keeps, freed_object, refused_keeps}
 use Rattle.mk_alloc.proofs.{FreedTurns.unloaded, freeing.free_object.Goals.{After-run_if_due-turn, After-take-turn}}
-use Rattle.mk_alloc.specs.Retired.{FindsFreed}
+use Rattle.mk_alloc.specs.Retiring.{FindsFreed}
 use Rattle.mk_alloc.proofs.freeing.free_object.Goals as goal
 
 -- the turn of the call, as it was taken

@@ -1,5 +1,5 @@
 use Rattle.std.proofs.Common.{drop, ◌≡◌, ◌≤◌}
-use Rattle.mk_geom.specs.{PageUses.longest_free_range, PageWords.uses_of_pages}
+use Rattle.mk_geom.specs.PageUses.{longest_free_range, uses_of_pages}
 use Rattle.mk_books.proofs.FreeRangeLemmas.{longest_with}
 use Rattle.mk_books.proofs.counting.longest_range.Given as goal
 

@@ -1,5 +1,5 @@
 use Rattle.std.proofs.Common.{◌+◌, ◌≡◌, ◌≤◌}
-use Rattle.mk_geom.specs.{PageUses.resident_pages, PageWords.uses_of_pages}
+use Rattle.mk_geom.specs.PageUses.{resident_pages, uses_of_pages}
 use Rattle.mk_books.proofs.{FreeRangeLemmas.SeesRanges, PlaceLemmas.resident_from}
 use Rattle.mk_books.proofs.fitting.large_fit.Given as goal
 

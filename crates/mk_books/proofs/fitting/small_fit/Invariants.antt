@@ -1,5 +1,5 @@
 use Rattle.std.{proofs.Common.{◌+◌, ◌≡◌, ◌≤◌}, specs.Option.{option_or}}
-use Rattle.mk_geom.specs.{PageUses.{cell_place, first_where, is_free_page, resident_pages}, PageWords.uses_of_pages}
+use Rattle.mk_geom.specs.PageUses.{cell_place, first_where, is_free_page, resident_pages, uses_of_pages}
 use Rattle.mk_books.proofs.PlaceLemmas.{cell_from, free_page_from, resident_from}
 use Rattle.mk_books.proofs.fitting.small_fit.Given as goal
 

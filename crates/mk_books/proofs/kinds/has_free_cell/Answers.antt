@@ -1,7 +1,7 @@
 use Rattle.std.specs.{Bool.then_some, Int.trailing_ones}
 use Rattle.mk_books.proofs.kinds.has_free_cell.Goals as goal
 use Rattle.mk_books.proofs.{Vocabulary.{Bool, ℕ, ap, arith, is_some, nat_lt, sym, w64, ◌∙◌, ◌≡◌}, BlockSets.cells_few}
-use Rattle.mk_geom.specs.Classes.{cells_of}
+use Rattle.mk_geom.specs.Addresses.{cells_of}
 use Rattle.mk_books.proofs.UsedBitLemmas.{first_where-bits_of}
 
 some_where : (test : Bool) (n : ℕ) → test ≡ is_some (then_some test n)

@@ -1,5 +1,5 @@
-use Rattle.std.proofs.{Common.arith, lemmas.Grind.common_steps, lemmas.List.Sums.count_by-le-length}
-use Rattle.mk_geom.specs.PageWords.{bits_of}
+use Rattle.std.proofs.{Common.arith, lemmas.{Grind.common_steps, List.Sums.count_by-le-length}}
+use Rattle.mk_geom.specs.PageUses.{bits_of}
 use Rattle.mk_books.proofs.UsedBitLemmas.{count_ones-masked, length-bits_of}
 use Rattle.mk_books.proofs.page_uses.count_set.Goals as goal
 

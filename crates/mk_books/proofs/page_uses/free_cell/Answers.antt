@@ -1,5 +1,5 @@
 use Rattle.std.proofs.Common.{ap, not, sym, ◌∙◌}
-use Rattle.mk_geom.specs.{PageUses.first_where, PageWords.bits_of, PageWords.use_of_page}
+use Rattle.mk_geom.specs.PageUses.{first_where, bits_of, use_of_page}
 use Rattle.mk_books.proofs.FreeCellLemmas.{cells_taken_alike, same_flags}
 use Rattle.mk_books.proofs.page_uses.free_cell.Goals as goal
 

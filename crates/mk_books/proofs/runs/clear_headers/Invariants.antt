@@ -1,6 +1,6 @@
 use Rattle.std.proofs.Common.{◌≡◌}
 use Rattle.mk_books.proofs.runs.clear_headers.Given as goal
-use Rattle.mk_books.specs.Runs.{with_headers}
+use Rattle.mk_books.specs.KnownPages.{with_headers}
 
 abbrev pub invariant-loop-distance : goal.invariant-loop-distance
 invariant-loop-distance l = record { is : l.pages ≡ with_headers l.initial.pages l.first l.distance (λ _. 0) }

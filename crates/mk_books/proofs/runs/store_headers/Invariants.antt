@@ -1,6 +1,6 @@
 use Rattle.std.proofs.Common.{◌≡◌}
 use Rattle.mk_books.proofs.runs.store_headers.Given as goal
-use Rattle.mk_books.specs.Runs.{run_word, with_headers}
+use Rattle.mk_books.specs.KnownPages.{run_word, with_headers}
 
 abbrev pub invariant-loop-distance : goal.invariant-loop-distance
 invariant-loop-distance l =

@@ -1,6 +1,6 @@
 use Rattle.std.proofs.lemmas.List.{reverse-append}
 use Rattle.mk_check.proofs.Vocabulary.{ap, map-append, sym, ◌+◌, ◌∙◌}
-use Rattle.mk_check.{proofs.CountLemmas.counts-with_item, specs.Counts.counts_with}
+use Rattle.mk_check.{proofs.CountLemmas.counts-with_item, specs.Blocks.counts_with}
 use Rattle.mk_check.proofs.lengths.script_length.Goals as goal
 
 pub loop-item-preserved : goal.loop-item-preserved

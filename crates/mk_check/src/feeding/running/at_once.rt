@@ -1,6 +1,6 @@
 //! A script that goes on after an answer at which nothing is printed. No memory is taken.
 ghost use Rattle.std.specs.Prelude.{◌≡◌, ◌<◌, length, false, IsTrue};
-ghost use Rattle.mk_check.specs.{AtOnce.{ClosesToOp, LeavesToOp, MayTake, TakesLine}, Spots.sequels_of};
+ghost use Rattle.mk_check.specs.{Feeding.{ClosesToOp, LeavesToOp, MayTake, TakesLine}, Trees.sequels_of};
 ghost use Rattle.mk_check.specs.Trees.{FramesAreWithin, HasStopped, IsTree, PlaceFits, PlaceIsWithin, node_at};
 ghost use Rattle.mk_core.specs.declared.events.Answer.TheVariants as answer;
 

@@ -4,7 +4,7 @@ use Rattle.mk_laws.proofs.Vocabulary.{progress_reg, refl, refused, subst, sym, t
 use Rattle.mk_geom.specs.Addresses.{heap_word_at}
 use Rattle.mk_core.specs.{declared.seats.Stage.TheVariants.{Dirty, Leave, LoadP, Probe, Write}, Calls.value_written}
 use Rattle.mk_core.specs.Effects.{progress_probe}
-use Rattle.mk_heap.specs.{Below.Words.CallSteps.register_of, Below.Words.States.{PassState, WordsState}}
+use Rattle.mk_heap.specs.Below.Words.{Steps.register_of, States.{PassState, WordsState}}
 use Rattle.mk_clients.proofs.accesses.set_ptr.Goals.{After-reg_load-to, After-reg_load-value, After-write}
 use Rattle.mk_clients.proofs.{accesses.set_ptr.Goals.{Else-is_unmapped, In_ok-enter}, CallFacts.{admitted_now, enters}}
 use Rattle.mk_clients.proofs.CallFacts.{IsMidCall, goes_on, next_may}

@@ -1,8 +1,8 @@
 use Rattle.mk_laws.proofs.Vocabulary.{Caller, Config, List, Marker, Seat, ap, arith, cases_Bool, inl, inr, lt-ltb}
 use Rattle.mk_laws.proofs.Vocabulary.{marker_at, outside, refl, seat_exists, subst, sym, true, [], ◌++◌, ◌∷◌, ◌≡◌}
-use Rattle.mk_core.specs.{Growing.is_same_seat, History.left_from}
+use Rattle.mk_core.specs.History.{is_same_seat, left_from}
 use Rattle.mk_heap.proofs.Below.Words.Seats.{has_all, has_first, has_left, has_right, same_seat, without_keeps}
-use Rattle.mk_heap.specs.{Below.Words.Seats.{Has, all_seats, without_seat}, Below.Words.States.{PassState, now_of}}
+use Rattle.mk_heap.specs.Below.Words.States.{Has, all_seats, without_seat, PassState, now_of}
 use Rattle.mk_clients.proofs.lives.one_life.Goals as goal
 
 pub split-caller-requires-clause-here : goal.split-caller-requires-clause-here

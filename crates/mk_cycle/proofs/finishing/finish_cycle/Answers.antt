@@ -1,5 +1,5 @@
 use Rattle.mk_words.proofs.Below.Laws.Vocabulary.{Config, Step, ap, is_end, refl, subst, ◌<◌, ◌∙◌}
-use Rattle.mk_cycle.{proofs.Vocabulary.{PassState, does_step, only_seen_by}, specs.Closing.{ClosesAsPromised}}
+use Rattle.mk_cycle.{proofs.Vocabulary.{PassState, does_step, only_seen_by}, specs.Stops.{ClosesAsPromised}}
 use Rattle.mk_cycle.proofs.FinishedCycles.{ended_free, finishes_cycle, gives_call, gives_free, has_released}
 use Rattle.mk_cycle.proofs.{finishing.finish_cycle.Goals.After-count_cycle, ClosedBy.promised_later}
 use Rattle.mk_cycle.proofs.{EndSteps.end_allowed, KeptInParts.same_config}

@@ -3,7 +3,7 @@ use Rattle.mk_words.proofs.PointedCells.{found_there}
 use Rattle.mk_cycle.proofs.HeldGates.{found_held, gate_look_allowed, gate_within, held_now, may_hold_still, such_then}
 use Rattle.mk_cycle.proofs.gates.hold_gate.Goals.{After-look}
 use Rattle.mk_cycle.proofs.gates.hold_gate.Goals as goal
-use Rattle.mk_cycle.specs.Holding.{HoldsSuch, only_gate}
+use Rattle.mk_cycle.specs.Stops.{HoldsSuch, only_gate}
 use Rattle.mk_words.specs.States.{now_of}
 
 pub look-requires-clause-enabled : goal.look-requires-clause-enabled

@@ -3,7 +3,7 @@ use Rattle.mk_words.proofs.Below.Laws.Vocabulary.{Seat, ap, subst, ◌∙◌, �
 use Rattle.mk_cycle.proofs.HeldGates.{still_loaded, such_holds, such_then}
 use Rattle.mk_cycle.proofs.HoldingSteps.{all_held_below, still_held_or_own}
 use Rattle.mk_cycle.proofs.gates.hold_gates.Goals as goal
-use Rattle.mk_cycle.specs.Holding.{HoldsSuch, all_others}
+use Rattle.mk_cycle.specs.Stops.{HoldsSuch, all_others}
 use Rattle.mk_words.specs.States.{PassState}
 
 pub loop-caller-init : goal.loop-caller-init

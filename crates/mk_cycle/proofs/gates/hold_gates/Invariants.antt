@@ -1,5 +1,5 @@
 use Rattle.std.proofs.Common.{ℕ, ◌<◌}
-use Rattle.mk_cycle.specs.Holding.{HoldsSuch, IsHeldOrOwn, all_others}
+use Rattle.mk_cycle.specs.Stops.{HoldsSuch, IsHeldOrOwn, all_others}
 use Rattle.mk_cycle.proofs.gates.hold_gates.Given as goal
 
 abbrev pub invariant-loop-caller : goal.invariant-loop-caller

@@ -1,7 +1,7 @@
 use Rattle.mk_words.proofs.Below.Laws.Vocabulary.{false, is_number_of, or_right, ◌≡◌}
 use Rattle.mk_cycle.proofs.HeldGates.{gate_of_others, such_wider}
 use Rattle.mk_cycle.proofs.gates.hold_other.Goals as goal
-use Rattle.mk_cycle.specs.Holding.{HoldsSuch}
+use Rattle.mk_cycle.specs.Stops.{HoldsSuch}
 
 pub hold_gate-requires : goal.hold_gate-requires
 hold_gate-requires g c = record {

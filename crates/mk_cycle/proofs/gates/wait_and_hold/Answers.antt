@@ -1,7 +1,7 @@
 use Rattle.mk_words.proofs.Below.Laws.Vocabulary.{eq-eqb, refl}
 use Rattle.mk_cycle.proofs.HeldGates.{hold_may_come, may_hold_still}
 use Rattle.mk_cycle.proofs.gates.wait_and_hold.Goals as goal
-use Rattle.mk_cycle.specs.Holding.{HoldsSuch}
+use Rattle.mk_cycle.specs.Stops.{HoldsSuch}
 
 pub trying-init : goal.trying-init
 trying-init g c = record { steps = HoldsSuch.none_yet; waits = c.requires.not_held }

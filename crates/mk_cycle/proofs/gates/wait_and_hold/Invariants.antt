@@ -1,5 +1,5 @@
 use Rattle.mk_words.proofs.Below.Laws.Vocabulary.{false, is_held, ◌≡◌}
-use Rattle.mk_cycle.specs.Holding.{HoldsSuch, only_gate}
+use Rattle.mk_cycle.specs.Stops.{HoldsSuch, only_gate}
 use Rattle.mk_cycle.proofs.gates.wait_and_hold.Given as goal
 use Rattle.mk_words.specs.States.{now_of}
 

@@ -1,5 +1,5 @@
 use Rattle.std.proofs.Common.{vec_len}
-use Rattle.mk_cycle.specs.{Grays.LooksOn, Noted.{AreNoted, listed}, Stops.still_words}
+use Rattle.mk_cycle.specs.{Grays.{LooksOn, AreNoted, listed}, Stops.still_words}
 use Rattle.mk_cycle.proofs.grays.gray_noted.Given as goal
 
 abbrev pub invariant-loop-noted : goal.invariant-loop-noted

@@ -3,7 +3,7 @@ use Rattle.mk_words.proofs.Below.Laws.Vocabulary.{Words, â„•, ap, subst, sym, â—
 use Rattle.mk_cycle.proofs.{Notes.{black_left_out, none_last, noted_as}, StopSteps.{looks_from, looks_then}}
 use Rattle.mk_cycle.proofs.grays.next_gray.Goals as goal
 use Rattle.mk_cycle.proofs.grays.next_gray.Goals.{After-another_gray, in-Some+else-is_gray, in_default}
-use Rattle.mk_cycle.specs.{Grays.{HasNoGray, LooksOn}, Noted.with_last}
+use Rattle.mk_cycle.specs.Grays.{HasNoGray, LooksOn, with_last}
 use Rattle.mk_words.specs.States.{TurnState}
 
 -- what was looked at of the cell that was noted last

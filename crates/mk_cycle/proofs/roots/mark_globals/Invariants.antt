@@ -1,5 +1,5 @@
 use Rattle.mk_words.proofs.Below.Laws.Vocabulary.{ℕ, ◌*◌, ◌<◌}
-use Rattle.mk_cycle.specs.{Grays.GlobalIsWell, Noted.listed, Scans.MarksAndNotes}
+use Rattle.mk_cycle.specs.Grays.{GlobalIsWell, listed, MarksAndNotes}
 use Rattle.mk_cycle.proofs.roots.mark_globals.Given as goal
 
 abbrev pub invariant-loop-group : goal.invariant-loop-group

@@ -1,7 +1,7 @@
 use Rattle.mk_words.proofs.Below.Laws.Vocabulary.{Word, ◌+◌}
 use Rattle.mk_cycle.proofs.roots.mark_group.Given as goal
 use Rattle.mk_cycle.proofs.RootMarks.{RootsNoted}
-use Rattle.mk_cycle.specs.Noted.{listed}
+use Rattle.mk_cycle.specs.Grays.{listed}
 
 abbrev pub invariant-loop-i : goal.invariant-loop-i
 invariant-loop-i l =

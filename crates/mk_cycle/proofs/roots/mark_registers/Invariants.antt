@@ -1,5 +1,5 @@
 use Rattle.mk_words.proofs.Below.Laws.Vocabulary.{ℕ, ◌<◌}
-use Rattle.mk_cycle.specs.{Grays.RegistersAreWell, Noted.listed, Scans.MarksAndNotes}
+use Rattle.mk_cycle.specs.Grays.{RegistersAreWell, listed, MarksAndNotes}
 use Rattle.mk_cycle.proofs.roots.mark_registers.Given as goal
 
 abbrev pub invariant-loop-caller : goal.invariant-loop-caller

@@ -2,7 +2,7 @@ use Rattle.mk_words.proofs.Below.Laws.Vocabulary.{ap, arith, sym, ◌+◌, ◌�
 use Rattle.mk_cycle.proofs.ScannedWords.{due_kept, none_scanned, one_scanned, scans_as, scans_then, scans_to}
 use Rattle.mk_cycle.proofs.scanning.scan_few.Goals as goal
 use Rattle.mk_cycle.proofs.{Notes.{marks_nothing, none_last}, scanning.scan_few.Goals.After-mark_value-noted}
-use Rattle.mk_cycle.specs.{Noted.{listed, with_last}, Scans.Scans}
+use Rattle.mk_cycle.specs.Grays.{listed, with_last, Scans}
 
 pub loop-i-init : goal.loop-i-init
 loop-i-init c = none_scanned (omega arith) (marks_nothing c.requires.may.wanted)

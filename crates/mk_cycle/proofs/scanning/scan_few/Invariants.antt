@@ -1,4 +1,4 @@
-use Rattle.mk_cycle.specs.{Noted.listed, Scans.Scans}
+use Rattle.mk_cycle.specs.Grays.{listed, Scans}
 use Rattle.mk_cycle.proofs.scanning.scan_few.Given as goal
 
 abbrev pub invariant-loop-i : goal.invariant-loop-i

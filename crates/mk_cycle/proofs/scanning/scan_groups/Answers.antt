@@ -2,7 +2,7 @@ use Rattle.mk_words.proofs.Below.Laws.Vocabulary.{ℕ, arith, ◌*◌, ◌+◌, 
 use Rattle.mk_cycle.proofs.ScannedWords.{all_scanned, due_kept, none_scanned, scans_then, scans_to}
 use Rattle.mk_cycle.proofs.scanning.scan_groups.Goals as goal
 use Rattle.mk_cycle.proofs.{Notes.marks_nothing, scanning.scan_groups.Goals.After-scan_part-2}
-use Rattle.mk_cycle.specs.{Noted.listed, Scans.Scans}
+use Rattle.mk_cycle.specs.Grays.{listed, Scans}
 
 pub loop-part-init : goal.loop-part-init
 loop-part-init c = none_scanned (omega arith) (marks_nothing c.requires.may.wanted)

@@ -1,5 +1,5 @@
 use Rattle.mk_words.proofs.Below.Laws.Vocabulary.{◌*◌}
-use Rattle.mk_cycle.specs.{Noted.listed, Scans.Scans}
+use Rattle.mk_cycle.specs.Grays.{listed, Scans}
 use Rattle.mk_cycle.proofs.scanning.scan_groups.Given as goal
 
 abbrev pub invariant-loop-part : goal.invariant-loop-part

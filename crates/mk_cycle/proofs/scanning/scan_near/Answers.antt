@@ -2,7 +2,7 @@ use Rattle.mk_words.proofs.Below.Laws.Vocabulary.{arith, ◌*◌, ◌/◌}
 use Rattle.mk_cycle.proofs.ScannedWords.{all_scanned, due_kept, scans_then, scans_to}
 use Rattle.mk_cycle.proofs.scanning.scan_near.Goals as goal
 use Rattle.mk_cycle.proofs.scanning.scan_near.Goals.{After-scan_from}
-use Rattle.mk_cycle.specs.{Noted.listed, Scans.Scans}
+use Rattle.mk_cycle.specs.Grays.{listed, Scans}
 
 pub scan_from-requires-clause-due : goal.scan_from-requires-clause-due
 scan_from-requires-clause-due c = due_kept c.requires.due c.scan_part.ensures.marks.more

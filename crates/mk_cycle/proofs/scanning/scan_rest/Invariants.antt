@@ -1,5 +1,5 @@
 use Rattle.mk_words.proofs.Below.Laws.Vocabulary.{Some}
-use Rattle.mk_cycle.specs.{Noted.with_last, Scans.Scans}
+use Rattle.mk_cycle.specs.Grays.{with_last, Scans}
 use Rattle.mk_cycle.proofs.scanning.scan_rest.Given as goal
 
 abbrev pub invariant-loop-i : goal.invariant-loop-i

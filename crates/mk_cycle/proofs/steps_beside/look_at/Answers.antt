@@ -1,7 +1,7 @@
 use Rattle.mk_words.proofs.Below.Laws.Vocabulary.{refl, subst, sym, true, ◌≡◌}
 use Rattle.mk_cycle.proofs.steps_beside.look_at.Goals as goal
 use Rattle.mk_cycle.proofs.BesideSteps.{goes_look, no_register}
-use Rattle.mk_core.specs.Ranges.{is_word}
+use Rattle.mk_core.specs.Conditions.{is_word}
 use Rattle.mk_cycle.proofs.{Allowed.look_allowed, MayAct.calm_admitted}
 use Rattle.mk_words.specs.States.{WordsState}
 

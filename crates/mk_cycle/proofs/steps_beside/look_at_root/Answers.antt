@@ -1,7 +1,7 @@
 use Rattle.mk_words.proofs.Below.Laws.Vocabulary.{refl, subst, sym, true, ◌≡◌}
 use Rattle.mk_cycle.proofs.steps_beside.look_at_root.Goals as goal
 use Rattle.mk_cycle.proofs.BesideSteps.{finds_in_root, may_look_at_root, root_hand}
-use Rattle.mk_core.specs.Ranges.{is_word}
+use Rattle.mk_core.specs.Conditions.{is_word}
 use Rattle.mk_cycle.proofs.MayAct.{calm_admitted}
 use Rattle.mk_words.specs.States.{WordsState}
 

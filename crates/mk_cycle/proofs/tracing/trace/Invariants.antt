@@ -1,6 +1,6 @@
 use Rattle.mk_cycle.proofs.tracing.trace.Given as goal
 use Rattle.mk_cycle.proofs.Blackened.{white_cells}
-use Rattle.mk_cycle.specs.{Grays.{ColoursMore, MarksOn}, Noted.{AreNoted, with_last}, Stops.still_words}
+use Rattle.mk_cycle.specs.{Grays.{ColoursMore, MarksOn, AreNoted, with_last}, Stops.still_words}
 
 abbrev pub invariant-loop-gray : goal.invariant-loop-gray
 invariant-loop-gray l = record {

@@ -1,6 +1,6 @@
 use Rattle.mk_words.proofs.Below.Laws.Vocabulary.{refl, subst, sym, true, ◌≡◌}
 use Rattle.mk_cycle.proofs.{Vocabulary.WordsState, Allowed.look_allowed, MayAct.calm_admitted}
-use Rattle.mk_core.specs.Ranges.{is_word}
+use Rattle.mk_core.specs.Conditions.{is_word}
 use Rattle.mk_cycle.proofs.turn_steps.look_among.Goals as goal
 
 pub look_among-requires-clause-enabled : goal.look_among-requires-clause-enabled

@@ -1,6 +1,6 @@
 use Rattle.mk_words.proofs.Below.Laws.Vocabulary.{Word, lt-ltb, refl, subst, sym, true, ◌*◌, ◌≡◌}
 use Rattle.mk_cycle.proofs.{Vocabulary.WordsState, Allowed.look_allowed, GivingSteps.look_frees, MayAct.calm_admitted}
-use Rattle.mk_core.specs.Ranges.{is_word}
+use Rattle.mk_core.specs.Conditions.{is_word}
 use Rattle.mk_cycle.proofs.wiping.look_at_heap.Goals as goal
 
 pub look_on_page-requires-clause-enabled : goal.look_on_page-requires-clause-enabled

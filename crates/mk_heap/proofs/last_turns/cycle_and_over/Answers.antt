@@ -1,6 +1,6 @@
 use Rattle.mk_alloc.proofs.{Below.Laws.Vocabulary.{ap, arith, subst, sym, ◌∙◌}, UnsweptTurns.keeps_then}
 use Rattle.mk_alloc.proofs.FinishedCycles.{Never, unbegun_finished}
-use Rattle.mk_alloc.specs.{Below.Words.Seats.HasCallers, Below.Words.States.WordsState}
+use Rattle.mk_alloc.specs.Below.Words.States.{HasCallers, WordsState}
 use Rattle.mk_heap.proofs.{HostTurns.both_begin, LastTurns.{last_turns, still_behind_both}, BegunHosts.over_begun}
 use Rattle.mk_heap.{proofs.ClientSteps.{has_said_over}, specs.Hosts.{HostState, with_seen}}
 use Rattle.mk_heap.proofs.last_turns.cycle_and_over.Goals as goal

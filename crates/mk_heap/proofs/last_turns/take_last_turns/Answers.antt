@@ -1,5 +1,5 @@
 use Rattle.mk_alloc.proofs.{Below.Laws.Vocabulary.{false, subst, sym, ◌≡◌}, FinishedCycles.{Never, unbegun_finished}}
-use Rattle.mk_alloc.specs.{Below.Words.Seats.HasCallers, Below.Words.States.WordsState}
+use Rattle.mk_alloc.specs.Below.Words.States.{HasCallers, WordsState}
 use Rattle.mk_heap.proofs.{HostTurns.over_begins, LastTurns.still_behind_over, BegunHosts.over_begun}
 use Rattle.mk_heap.proofs.ClientSteps.{has_said_over}
 use Rattle.std.proofs.Common.{rules}

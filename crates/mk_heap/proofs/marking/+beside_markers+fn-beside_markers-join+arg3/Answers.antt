@@ -1,7 +1,7 @@
 use Rattle.std.proofs.Common.{rules}
 use Rattle.mk_alloc.proofs.Below.Laws.Vocabulary.{arith, subst, sym, ℕ, ◌+◌, ◌-◌, ◌<◌, ◌∙◌, ◌≡◌}
 use Rattle.mk_heap.proofs.Crews.{first_marker, joins_more, joins_none, marker_made}
-use Rattle.mk_heap.specs.{Crews.{HasMade, IsMarkersPass}, Hosts.HostState}
+use Rattle.mk_heap.specs.Hosts.{HasMade, IsMarkersPass, HostState}
 use Rattle.mk_heap.proofs.marking.+beside_markers+fn-beside_markers-join+arg3.Goals as goal
 
 -- All markers are made.

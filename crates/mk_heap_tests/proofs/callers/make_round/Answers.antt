@@ -3,7 +3,7 @@ use Rattle.mk_heap_tests.proofs.NullCalls.{stays_answered, stays_done, stays_rea
 use Rattle.mk_heap_tests.proofs.callers.make_round.Goals.{After-get_global-loaded, After-move_ptr-moved}
 use Rattle.mk_heap_tests.proofs.callers.make_round.Goals.{After-same-same, After-set_global-stored}
 use Rattle.mk_laws.proofs.Vocabulary.{Answer, Op, arith}
-use Rattle.mk_heap_tests.specs.Passes.{StaysNull}
+use Rattle.mk_heap_tests.specs.HeldObjects.{StaysNull}
 use Rattle.mk_heap_tests.proofs.callers.make_round.Goals as goal
 
 -- The register is null after each call, as it was before.

@@ -1,5 +1,5 @@
 use Rattle.mk_laws.proofs.Vocabulary.{true, ◌≡◌}
-use Rattle.mk_heap_tests.specs.Passes.{StaysNull}
+use Rattle.mk_heap_tests.specs.HeldObjects.{StaysNull}
 use Rattle.mk_heap_tests.proofs.callers.make_rounds.Given as goal
 
 pub record IsUnderWay (l : goal.Live-loop-round) : Type 0 where

@@ -1,7 +1,7 @@
 use Rattle.mk_laws.proofs.Vocabulary.{subst}
 use Rattle.mk_heap_tests.proofs.NewTurns.{double_back, double_may_give, freed_back, freed_may_give, is_unloaded}
 use Rattle.mk_heap_tests.proofs.NewTurns.{may_retire, phase, taken_table}
-use Rattle.mk_run.specs.Below.Objects.Retired.{Retires}
+use Rattle.mk_run.specs.Below.Objects.Retiring.{Retires}
 use Rattle.mk_heap_tests.proofs.retiring.retire.Goals as goal
 
 pub take-turn-requires-clause-enabled : goal.take-turn-requires-clause-enabled

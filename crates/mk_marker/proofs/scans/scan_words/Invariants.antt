@@ -1,6 +1,6 @@
 use Rattle.mk_words.proofs.Below.Laws.Vocabulary.{◌+◌, ◌≡◌}
 use Rattle.mk_marker.specs.Steps.{IsOf, IsScanning, SameScan, ScansOn, words_left}
-use Rattle.mk_words.specs.Markers.{marker_in}
+use Rattle.mk_words.specs.Steps.{marker_in}
 use Rattle.mk_marker.proofs.scans.scan_words.Given as goal
 
 abbrev pub invariant-words : goal.invariant-words

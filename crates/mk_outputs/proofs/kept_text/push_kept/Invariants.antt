@@ -1,5 +1,5 @@
 use Rattle.mk_laws.proofs.Vocabulary.{drop, ◌++◌, ◌≡◌}
-use Rattle.mk_outputs.specs.KeptText.{kept_text}
+use Rattle.mk_outputs.specs.RunOutputs.{kept_text}
 use Rattle.mk_outputs.proofs.kept_text.push_kept.Given as goal
 
 -- the lines so far, and those of the entries that are left

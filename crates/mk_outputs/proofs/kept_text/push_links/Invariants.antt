@@ -1,5 +1,5 @@
 use Rattle.mk_laws.proofs.Vocabulary.{drop, ◌++◌, ◌≡◌}
-use Rattle.mk_outputs.specs.KeptText.{links_text}
+use Rattle.mk_outputs.specs.RunOutputs.{links_text}
 use Rattle.mk_outputs.proofs.kept_text.push_links.Given as goal
 
 -- the lines so far, and those of the words that are left

@@ -1,6 +1,6 @@
 use Rattle.std.proofs.{Common.{IfOk, subst, sym}, lemmas.Result.IfOk-weaker}
 use Rattle.mk_outputs.{proofs.Seen.{request_is_seen, text_is_seen}, specs.declared.commands.Command.{Command}}
-use Rattle.mk_outputs.specs.{Outputs.IsOutput, Seen.IsSeen, declared.outputs.Output.Output}
+use Rattle.mk_outputs.specs.{Outputs.IsOutput, Laws.IsSeen, declared.outputs.Output.Output}
 use Rattle.mk_outputs.proofs.outputs.output_of.Goals as goal
 
 pub returns-in_ok-text-in-OnText-clause-seen : goal.returns-in_ok-text-in-OnText-clause-seen

@@ -1,6 +1,6 @@
 use Rattle.std.proofs.{Common.{false, ◌≡◌}, lemmas.Result.IfOk-weaker}
 use Rattle.mk_check.specs.Declarations.{config_of}
-use Rattle.mk_run.specs.{Below.Cycles.Begun.CyclesHoldGatesFirst, Below.Heaps.Reports.history_of}
+use Rattle.mk_run.specs.Below.{Cycles.BeginCycle.CyclesHoldGatesFirst, Heaps.Hosts.history_of}
 use Rattle.mk_run.specs.Headline.{cycles_go_on}
 use Rattle.mk_run.proofs.SweptRuns.{run_sweeps}
 use Rattle.std.specs.Prelude.{Err, IfOk, Ok, Result}

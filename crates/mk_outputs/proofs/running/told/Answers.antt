@@ -1,7 +1,7 @@
 use Rattle.std.proofs.Common.{append_assoc, ap, ℕ, List, ◌++◌, ◌∙◌, ◌≡◌}
 use Rattle.std.specs.List.{flat_map}
 use Rattle.mk_check.specs.declared.text.Text.{Text}
-use Rattle.mk_outputs.{proofs.PrintedTexts.run_is_output, specs.KeptText.kept_text}
+use Rattle.mk_outputs.{proofs.PrintedTexts.run_is_output, specs.RunOutputs.kept_text}
 use Rattle.mk_script.specs.declared.items.Item.{Item}
 use Rattle.mk_run.specs.Below.Chains.declared.kept.Kept.{Kept}
 use Rattle.mk_outputs.proofs.running.told.Goals as goal

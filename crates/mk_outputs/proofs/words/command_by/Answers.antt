@@ -2,7 +2,7 @@ use Rattle.std.proofs.Common.{None, Option, Some, map, refl, string_bytes, subst
 use Rattle.clap.specs.{Words.app_of, declared.parser.matches.ArgMatches.ArgMatches}
 use Rattle.mk_outputs.proofs.words.command_by.Goals as goal
 use Rattle.mk_outputs.proofs.Taken.{Finds, answer_is}
-use Rattle.mk_outputs.specs.Naming.{form_of, made_of}
+use Rattle.mk_outputs.specs.Told.{form_of, made_of}
 
 pub returns-in-Some : goal.returns-in-Some
 returns-in-Some c =

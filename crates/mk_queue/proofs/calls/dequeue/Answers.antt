@@ -1,5 +1,5 @@
 use Rattle.mk_jobs.proofs.JobKinds.{ends_as_its_kind}
-use Rattle.mk_queue.specs.{Points.queue_plan, declared.jobs.Job.{Job}}
+use Rattle.mk_queue.specs.{Queue.queue_plan, declared.jobs.Job.{Job}}
 use Rattle.mk_queue.proofs.Fitting.{Fits, ends_fit, enqueues, enqueues_on}
 use Rattle.mk_queue.proofs.calls.dequeue.Goals as goal
 

@@ -1,6 +1,6 @@
 use Rattle.mk_replay.proofs.{Vocabulary.{Ok, form_of, texts_of}, FormsInTurn.{goes_on, single}}
 use Rattle.mk_laws.proofs.Vocabulary.{ap, sym, ◌∙◌}
-use Rattle.mk_replay.specs.Entries.{forms_so_far, with_form}
+use Rattle.mk_replay.specs.Schedules.{forms_so_far, with_form}
 use Rattle.mk_replay.proofs.lines.replace_forms.Goals as goal
 
 pub loop-piece-init : goal.loop-piece-init

@@ -1,4 +1,4 @@
-use Rattle.mk_replay.{proofs.Vocabulary.{texts_of}, specs.Entries.{forms_so_far, forms_with}}
+use Rattle.mk_replay.{proofs.Vocabulary.{texts_of}, specs.Schedules.{forms_so_far, forms_with}}
 use Rattle.mk_laws.proofs.Vocabulary.{take, ◌≡◌}
 use Rattle.mk_replay.proofs.lines.replace_forms.Given as goal
 

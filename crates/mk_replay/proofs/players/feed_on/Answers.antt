@@ -1,4 +1,4 @@
-use Rattle.mk_replay.{proofs.{Vocabulary.{IfOk-weaker, rules}, RunLaws.{fed_ended, fed_more}}, specs.Players.{FeedsOn}}
+use Rattle.mk_replay.{proofs.{Vocabulary.{IfOk-weaker, rules}, RunLaws.{fed_ended, fed_more}}, specs.Replays.{FeedsOn}}
 use Rattle.mk_check.{proofs.FeedLaws.waits_for_op, specs.Feeding.TakesAnswer as FeedTakesAnswer}
 use Rattle.mk_replay.proofs.players.feed_on.Goals as goal
 

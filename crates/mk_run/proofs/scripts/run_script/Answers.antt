@@ -3,7 +3,7 @@ use Rattle.mk_run.proofs.Vocabulary.{IsChecked, PassState, StaysAdmitted, answer
 use Rattle.mk_run.proofs.ScriptCalls.{asked_stays_admitted, exists_on, follows_now, has_room, refused_within, runs_on}
 use Rattle.mk_run.proofs.{ScriptCalls.seat_is, AtOnceOrLater.{IsAnsweredAs, answered_at_once, answered_later}}
 use Rattle.mk_run.proofs.scripts.run_script.Goals.{In-None, In-Some, Joined-answer_at_once, in-None}
-use Rattle.mk_run.{proofs.scripts.run_script.Goals.{in-Some-answer_at_once}, specs.Scripts.{script_of}}
+use Rattle.mk_run.{proofs.scripts.run_script.Goals.{in-Some-answer_at_once}, specs.Running.{script_of}}
 use Rattle.mk_heap.proofs.{Below.Objects.UnsweptTurns.keeps_still, Dispatched.{put_off_waits, stays_admitted_after}}
 use Rattle.mk_heap.proofs.Dispatched.{then_seen}
 use Rattle.mk_run.proofs.scripts.run_script.Goals as goal

@@ -1,5 +1,5 @@
 use Rattle.mk_script.proofs.Vocabulary.{is_placed, rules, subst, sym, texts_of, true, ◌∙◌, ◌≡◌, ◌≢◌}
-use Rattle.mk_script.{proofs.Placed.placed_plain, specs.ScopeOf.Reads, specs.Stops.checked_behind}
+use Rattle.mk_script.{proofs.Placed.placed_plain, specs.{Lines.Reads, Grammar.checked_behind}}
 use Rattle.mk_script.specs.declared.keywords.Keyword.TheVariants.{TypeLine}
 use Rattle.mk_script.proofs.line.placed_line.Goals as goal
 

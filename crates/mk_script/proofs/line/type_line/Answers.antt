@@ -1,7 +1,7 @@
 use Rattle.mk_script.proofs.Vocabulary.{Ok, ap, are_fields, arith, fields_of, length, length-map, nat_tests}
 use Rattle.mk_script.proofs.Vocabulary.{subst, sym, texts_of, true, ◌<◌, ◌>>=◌, ◌∙◌, ◌≡◌}
-use Rattle.mk_script.{proofs.Converted.hands_fault, proofs.Placed.named_type, proofs.Placed.placed_type}
-use Rattle.mk_script.specs.{ScopeOf.Reads, Stops.checked_behind, declared.items.Item.TheVariants.TypeLine}
+use Rattle.mk_script.proofs.{Converted.hands_fault, Placed.{named_type, placed_type}}
+use Rattle.mk_script.specs.{Lines.Reads, Grammar.checked_behind, declared.items.Item.TheVariants.TypeLine}
 use Rattle.mk_script.proofs.line.type_line.Goals as goal
 
 pub returns-in_err-name : goal.returns-in_err-name

@@ -1,4 +1,4 @@
-use Rattle.mk_script.{proofs.Vocabulary.{items_behind, length, lines_of, [], ◌≡◌}, specs.ScopeOf.{IsScopeOf}}
+use Rattle.mk_script.{proofs.Vocabulary.{items_behind, length, lines_of, [], ◌≡◌}, specs.Lines.{IsScopeOf}}
 use Rattle.mk_script.proofs.parsing.items.Given as goal
 
 -- the items so far are of the lines so far, and the text that is left decides

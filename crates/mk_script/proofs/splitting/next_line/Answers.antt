@@ -1,6 +1,6 @@
 use Rattle.mk_script.proofs.Vocabulary.{ap, arith, drop, length, subst, sym, take, texts_of, ◌++◌, ◌+◌, ◌-◌, ◌∙◌, ◌≡◌}
 use Rattle.mk_script.proofs.WordsOfFirst.{IsCut, byte_read, ends_at, ends_past, line_read, space_read}
-use Rattle.mk_script.specs.Words.{kept_word}
+use Rattle.mk_script.specs.Grammar.{kept_word}
 use Rattle.mk_script.proofs.splitting.next_line.Goals as goal
 
 pub loop-place-preserved-then-byte-gt32 : goal.loop-place-preserved-then-byte-gt32

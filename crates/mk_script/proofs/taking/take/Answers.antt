@@ -1,5 +1,5 @@
 use Rattle.mk_script.proofs.Vocabulary.{Ok, ap, arith, sym, [], ◌++◌, ◌∙◌, ◌∷◌, ◌≡◌}
-use Rattle.mk_script.{proofs.PassedLines.fresh_if, specs.{Lines.checked_item, Stops.{checked_behind, kept_if}}}
+use Rattle.mk_script.{proofs.PassedLines.fresh_if, specs.{Lines.checked_item, Grammar.{checked_behind, kept_if}}}
 use Rattle.mk_script.proofs.taking.take.Goals as goal
 
 pub returns : goal.returns

@@ -1,5 +1,5 @@
 use Rattle.mk_jobs.proofs.JobKinds.{ends_as_its_kind}
-use Rattle.mk_stack.specs.{Points.stack_plan, declared.jobs.Job.{Job}}
+use Rattle.mk_stack.specs.{Stack.stack_plan, declared.jobs.Job.{Job}}
 use Rattle.mk_stack.proofs.Fitting.{Fits, ends_fit, pushes, pushes_on}
 use Rattle.mk_stack.proofs.calls.push.Goals as goal
 

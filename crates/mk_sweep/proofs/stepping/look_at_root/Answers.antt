@@ -1,6 +1,6 @@
 use Rattle.mk_sweep.proofs.{Vocabulary.WordsState, SweepSteps.{on_root, root_in_hand}}
 use Rattle.mk_cycle.proofs.{Below.Laws.Vocabulary.{subst, sym, true, ◌≡◌}, MaySteps.may_look}
-use Rattle.mk_core.specs.Ranges.{is_word}
+use Rattle.mk_core.specs.Conditions.{is_word}
 use Rattle.mk_sweep.proofs.stepping.look_at_root.Goals as goal
 
 pub look-requires-clause-enabled : goal.look-requires-clause-enabled

@@ -2,7 +2,7 @@ use Rattle.std.proofs.Common.{length-append}
 use Rattle.mk_sweep.proofs.Vocabulary.{IsScannedWord, WordsState, has_bit, header_in, header_of, still_words, words_if}
 use Rattle.mk_sweep.proofs.{Vocabulary.{words_of_cells, words_under, world_of}, ScannedCells.used_word}
 use Rattle.mk_sweep.proofs.{SweepSteps.word_alike, SweptWords.{no_words, same_words, words_then}}
-use Rattle.mk_sweep.{proofs.WordLists.{cell_more, words_of_scanned}, specs.Sweeping.{SweepsWords}}
+use Rattle.mk_sweep.{proofs.WordLists.{cell_more, words_of_scanned}, specs.Sweeps.{SweepsWords}}
 use Rattle.mk_cycle.proofs.Below.Laws.Vocabulary.{Bool, List, ℕ, ap, arith, length, refl, subst, sym, ◌*◌, ◌++◌, ◌+◌}
 use Rattle.mk_cycle.proofs.Below.Laws.Vocabulary.{◌<◌, ◌∙◌, ◌≡◌}
 use Rattle.mk_sweep.proofs.sweeping.sweep_cells.Goals as goal

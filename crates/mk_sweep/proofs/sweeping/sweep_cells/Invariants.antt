@@ -1,4 +1,4 @@
-use Rattle.mk_sweep.{proofs.Vocabulary.{words_of_cells}, specs.Sweeping.{SweepsWords}}
+use Rattle.mk_sweep.{proofs.Vocabulary.{words_of_cells}, specs.Sweeps.{SweepsWords}}
 use Rattle.mk_cycle.proofs.Below.Laws.Vocabulary.{length, ◌*◌, ◌≡◌, ◌≤◌}
 use Rattle.mk_sweep.proofs.sweeping.sweep_cells.Given as goal
 

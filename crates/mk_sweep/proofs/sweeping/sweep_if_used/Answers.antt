@@ -1,5 +1,5 @@
 use Rattle.std.proofs.lemmas.List.FromFn.{length-range_with_len}
-use Rattle.mk_sweep.{proofs.{Vocabulary.words_if, SweptWords.no_words}, specs.Sweeping.{SweepsWords}}
+use Rattle.mk_sweep.{proofs.{Vocabulary.words_if, SweptWords.no_words}, specs.Sweeps.{SweepsWords}}
 use Rattle.mk_cycle.proofs.Below.Laws.Vocabulary.{Bool, ap, length, subst, sym}
 use Rattle.mk_sweep.proofs.sweeping.sweep_if_used.Goals as goal
 

@@ -1,6 +1,6 @@
 use Rattle.std.proofs.Common.{length-append}
 use Rattle.mk_sweep.proofs.{Vocabulary.{still_words, words_below, words_on}, SweptWords.{no_words, same_words}}
-use Rattle.mk_sweep.{proofs.{SweptWords.words_then, WordLists.{page_more, words_kept}}, specs.Sweeping.{SweepsWords}}
+use Rattle.mk_sweep.{proofs.{SweptWords.words_then, WordLists.{page_more, words_kept}}, specs.Sweeps.{SweepsWords}}
 use Rattle.mk_cycle.proofs.Below.Laws.Vocabulary.{List, ℕ, arith, refl, subst, ◌++◌, ◌+◌, ◌≡◌}
 use Rattle.mk_sweep.proofs.sweeping.sweep_pages.Goals as goal
 

@@ -1,4 +1,4 @@
-use Rattle.mk_sweep.{proofs.Vocabulary.{still_words, words_below}, specs.Sweeping.{SweepsWords}}
+use Rattle.mk_sweep.{proofs.Vocabulary.{still_words, words_below}, specs.Sweeps.{SweepsWords}}
 use Rattle.mk_cycle.proofs.Below.Laws.Vocabulary.{length, ◌*◌, ◌≡◌, ◌≤◌}
 use Rattle.mk_sweep.proofs.sweeping.sweep_pages.Given as goal
 

@@ -1,6 +1,6 @@
 use Rattle.std.specs.List.{range_with_len}
 use Rattle.mk_sweep.proofs.{Vocabulary.world_of, SweptWords.{no_words, one_word, same_words, words_then}}
-use Rattle.mk_sweep.{proofs.{SweepSteps.word_alike, WordLists.word_more}, specs.Sweeping.{SweepsWords}}
+use Rattle.mk_sweep.{proofs.{SweepSteps.word_alike, WordLists.word_more}, specs.Sweeps.{SweepsWords}}
 use Rattle.mk_cycle.proofs.Below.Laws.Vocabulary.{ℕ, arith, subst, sym, ◌+◌, ◌≡◌}
 use Rattle.mk_sweep.proofs.sweeping.sweep_words.Goals as goal
 

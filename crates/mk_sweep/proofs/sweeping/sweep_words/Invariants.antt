@@ -1,5 +1,5 @@
 use Rattle.std.specs.List.{range_with_len}
-use Rattle.mk_sweep.specs.Sweeping.{SweepsWords}
+use Rattle.mk_sweep.specs.Sweeps.{SweepsWords}
 use Rattle.mk_sweep.proofs.sweeping.sweep_words.Given as goal
 
 abbrev pub invariant-loop-i : goal.invariant-loop-i

@@ -1,4 +1,4 @@
-use Rattle.mk_trace.{proofs.{Vocabulary.{StayExact, ends}, LaterOps.AreCalled}, specs.Players.{IsBetweenCalls}}
+use Rattle.mk_trace.{proofs.{Vocabulary.{StayExact, ends}, LaterOps.AreCalled}, specs.Calls.{IsBetweenCalls}}
 use Rattle.mk_laws.proofs.Vocabulary.{◌+◌, ◌≤◌}
 use Rattle.mk_trace.proofs.calls.refuses.Given as goal
 

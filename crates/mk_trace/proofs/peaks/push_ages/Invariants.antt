@@ -1,6 +1,6 @@
 use Rattle.std.specs.String.{string_bytes}
 use Rattle.mk_laws.proofs.Vocabulary.{drop, ◌++◌, ◌≡◌}
-use Rattle.mk_trace.specs.Printed.{text_of_ages}
+use Rattle.mk_trace.specs.Peaks.{text_of_ages}
 use Rattle.mk_trace.proofs.peaks.push_ages.Given as goal
 
 -- the lines so far, and those of the ages that are left

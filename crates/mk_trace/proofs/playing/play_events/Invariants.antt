@@ -1,4 +1,4 @@
-use Rattle.mk_trace.{proofs.Vocabulary.{StayExact, ends}, specs.{Calls.HasPlayed, Players.IsBetweenCalls}}
+use Rattle.mk_trace.{proofs.Vocabulary.{StayExact, ends}, specs.{Calls.HasPlayed, Calls.IsBetweenCalls}}
 use Rattle.mk_laws.proofs.Vocabulary.{take, ◌*◌, ◌≤◌}
 use Rattle.mk_trace.proofs.playing.play_events.Given as goal
 

@@ -1,6 +1,6 @@
 use Rattle.mk_why.proofs.{Vocabulary.Root, MadeEntries.{IsLedBack, led_first, led_more, led_to_root}}
 use Rattle.mk_sweep.proofs.Below.Laws.Vocabulary.{List, Option, ℕ, subst, sym, ◌∙◌}
-use Rattle.mk_why.specs.Entries.{IsLed, root_of}
+use Rattle.mk_why.specs.Searching.{IsLed, root_of}
 use Rattle.mk_why.proofs.entries.chain.Goals as goal
 
 pub loop-link-init : goal.loop-link-init

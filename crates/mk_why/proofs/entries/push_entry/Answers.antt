@@ -1,4 +1,4 @@
-use Rattle.mk_why.{proofs.{LazyTables.read_with, Vocabulary.{Found, Storage, entry_at}}, specs.Entries.{IsMadeOf}}
+use Rattle.mk_why.{proofs.{LazyTables.read_with, Vocabulary.{Found, Storage, entry_at}}, specs.Searching.{IsMadeOf}}
 use Rattle.mk_sweep.proofs.Below.Laws.Vocabulary.{Option, subst, sym, ◌≡◌}
 use Rattle.mk_why.proofs.entries.push_entry.Goals as goal
 

@@ -1,6 +1,6 @@
 use Rattle.std.specs.Mem.Slots.{slots_items}
 use Rattle.mk_laws.proofs.Vocabulary.{◌*◌, ◌-◌, ◌≡◌, ◌≤◌}
-use Rattle.mk_words.specs.Finals.{freed_bits_in}
+use Rattle.mk_words.specs.States.{freed_bits_in}
 use Rattle.mk_words.proofs.finals.freed_bits.Given as goal
 
 abbrev pub invariant-loop-page : goal.invariant-loop-page

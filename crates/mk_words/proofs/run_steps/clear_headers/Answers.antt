@@ -1,7 +1,7 @@
 use Rattle.mk_laws.proofs.Vocabulary.{arith, subst, suc, ℕ, ◌+◌, ◌∙◌, ◌≡◌}
 use Rattle.mk_words.proofs.run_steps.clear_headers.Goals as goal
 use Rattle.mk_words.proofs.StoredHeads.{heads_keep_table, heads_keep_turn}
-use Rattle.mk_words.specs.RunSteps.{StoresHeads}
+use Rattle.mk_words.specs.TurnSteps.{StoresHeads}
 
 pub store_header-requires-clause-one_table : goal.store_header-requires-clause-one_table
 store_header-requires-clause-one_table c = heads_keep_table c.args.pass.now c.args.first c.loop-distance.distance

@@ -1,6 +1,6 @@
-use Rattle.mk_books.specs.Runs.{run_word}
+use Rattle.mk_books.specs.KnownPages.{run_word}
 use Rattle.mk_words.proofs.run_steps.store_headers.Given as goal
-use Rattle.mk_words.specs.RunSteps.{StoresHeads}
+use Rattle.mk_words.specs.TurnSteps.{StoresHeads}
 
 abbrev pub invariant-loop-distance : goal.invariant-loop-distance
 invariant-loop-distance l =

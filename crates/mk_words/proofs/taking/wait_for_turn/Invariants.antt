@@ -1,5 +1,5 @@
 use Rattle.mk_core.specs.declared.events.Step.{Step}
-use Rattle.mk_words.specs.Taking.{Waits}
+use Rattle.mk_words.specs.TurnSteps.{Waits}
 use Rattle.mk_words.proofs.taking.wait_for_turn.Given as goal
 use Rattle.mk_words.specs.Steps.{IsEnabledTo}
 

@@ -3,7 +3,7 @@ use Rattle.mk_books.proofs.RunsTold.{MapIsTold, freed_stored, moved_map_told}
 use Rattle.mk_books.proofs.Showing.{written_in}
 use Rattle.mk_books.proofs.page_map.PageMap.run_freed.Goals as goal
 use Rattle.mk_books.proofs.page_map.PageMap.run_freed.Goals.{After-move_pages}
-use Rattle.mk_books.specs.Runs.{StandsOn}
+use Rattle.mk_books.specs.KnownPages.{StandsOn}
 
 told : (c : After-move_pages) → MapIsTold c.args.self.now c.args.first c.args.count (λ _. 0)
     (written_in c.clear_headers.new.pages c.self.inside.pages.items c.self.inside.pages.len)

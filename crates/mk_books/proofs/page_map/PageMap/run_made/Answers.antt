@@ -3,7 +3,7 @@ use Rattle.mk_books.proofs.RunsTold.{MapIsTold, made_stored, moved_map_told}
 use Rattle.mk_books.proofs.Showing.{written_in}
 use Rattle.mk_books.proofs.page_map.PageMap.run_made.Goals as goal
 use Rattle.mk_books.proofs.page_map.PageMap.run_made.Goals.{After-move_pages}
-use Rattle.mk_books.specs.Runs.{AreBare, run_word}
+use Rattle.mk_books.specs.KnownPages.{AreBare, run_word}
 use Rattle.mk_geom.specs.PageUses.{PartOfRun}
 use Rattle.std.specs.Prelude.{true}
 

@@ -3,7 +3,7 @@ use Rattle.mk_books.proofs.RunsTold.{MapIsTold, map_told, unmapped_enough, unmap
 use Rattle.mk_books.proofs.Showing.{written_in}
 use Rattle.mk_books.proofs.page_map.PageMap.run_unmapped.Goals as goal
 use Rattle.mk_books.proofs.page_map.PageMap.run_unmapped.Goals.{After-store_headers}
-use Rattle.mk_books.specs.Runs.{StandsOn, run_word}
+use Rattle.mk_books.specs.KnownPages.{StandsOn, run_word}
 
 told : (c : After-store_headers)
     → MapIsTold c.args.self.now c.args.first c.args.count (run_word c.args.head c.args.next)

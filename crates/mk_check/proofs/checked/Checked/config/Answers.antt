@@ -1,7 +1,7 @@
 use Rattle.mk_check.proofs.Vocabulary.{ap, globals_of, is_whole, length, pages_of, resident_of, script_names, subst}
 use Rattle.mk_check.proofs.Vocabulary.{sym, types_of, ◌∙◌}
-use Rattle.mk_core.specs.Config.{IsWithinLimits}
-use Rattle.mk_check.proofs.{ConfigLemmas.config_is, ConfigLemmas.config_within, GrammarLemmas.length-global_names}
+use Rattle.mk_core.specs.Moments.{IsWithinLimits}
+use Rattle.mk_check.proofs.{ConfigLemmas.{config_is, config_within}, GrammarLemmas.length-global_names}
 use Rattle.mk_check.proofs.checked.Checked.config.Goals as goal
 
 pub globals-requires : goal.globals-requires

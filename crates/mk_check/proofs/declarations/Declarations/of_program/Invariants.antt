@@ -1,4 +1,4 @@
-use Rattle.mk_check.{proofs.Vocabulary.{take}, specs.Lookups.{AreDeclared}}
+use Rattle.mk_check.{proofs.Vocabulary.{take}, specs.Typing.{AreDeclared}}
 use Rattle.mk_check.proofs.declarations.Declarations.of_program.Given as goal
 
 abbrev pub invariant-loop-item : goal.invariant-loop-item

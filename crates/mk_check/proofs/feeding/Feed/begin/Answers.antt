@@ -4,7 +4,7 @@ use Rattle.mk_check.proofs.Vocabulary.{ap, arith, blocks_from, depth_of, fed_bef
 use Rattle.mk_check.proofs.Vocabulary.{script_of, script_scope, steps_at, subst, sym, trees, [], ◌++◌, ◌∙◌, ◌≡◌}
 use Rattle.mk_check.proofs.{Stands.{start_stands, start_stops}, NumberedParts.numbered_steps}
 use Rattle.mk_check.proofs.{feeding.Feed.begin.Goals.{In_ok-run, In_ok-running}, FewBlocks.text_has_few_blocks}
-use Rattle.mk_check.specs.{Building.steps_before, Feed.newline, Numbering.elements_of_script}
+use Rattle.mk_check.specs.{Building.steps_before, Feed.newline, Feeding.elements_of_script}
 use Rattle.mk_check.proofs.feeding.Feed.begin.Goals as goal
 
 -- the tree's steps are those of the script

@@ -1,5 +1,5 @@
 use Rattle.mk_check.proofs.{Vocabulary.{PartCount, arith, ◌+◌}, CountLemmas.{reverse-none, reverse-set}}
-use Rattle.mk_check.{proofs.lengths.OpenParts.add.Goals.{in-Some, in_default}, specs.Counts.{saturated_count}}
+use Rattle.mk_check.{proofs.lengths.OpenParts.add.Goals.{in-Some, in_default}, specs.Blocks.{saturated_count}}
 use Rattle.mk_check.proofs.lengths.OpenParts.add.Goals as goal
 
 pub returns : goal.returns

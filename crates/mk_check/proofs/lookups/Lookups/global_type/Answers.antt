@@ -1,7 +1,7 @@
 use Rattle.std.specs.{Borrow.Bor, Option.option_copied}
 use Rattle.mk_check.proofs.Vocabulary.{List, ℕ, ap, global_type, map, number_of_name, slice_get, sym, ◌∙◌}
 use Rattle.mk_check.proofs.{DeclaredPlaces.global_type_is, LookupLemmas.seen_at}
-use Rattle.mk_check.specs.{Declarations.declared_type, Lookups.{Reading, declared_for}}
+use Rattle.mk_check.specs.{Declarations.declared_type, Typing.{Reading, declared_for}}
 use Rattle.mk_check.proofs.lookups.Lookups.global_type.Goals as goal
 
 pub returns : goal.returns

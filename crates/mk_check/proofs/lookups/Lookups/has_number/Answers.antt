@@ -1,7 +1,7 @@
 use Rattle.std.{proofs.Common.nat_lt, specs.List.list_any}
 use Rattle.mk_check.proofs.Vocabulary.{ap, around, bytes_eq, number_names, number_of_name, ◌∙◌}
 use Rattle.mk_check.proofs.DeclaredPlaces.{number_within}
-use Rattle.mk_check.specs.Lookups.{Reading}
+use Rattle.mk_check.specs.Typing.{Reading}
 use Rattle.mk_check.proofs.lookups.Lookups.has_number.Goals as goal
 
 pub returns : goal.returns

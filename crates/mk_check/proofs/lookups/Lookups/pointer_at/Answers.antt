@@ -1,5 +1,5 @@
 use Rattle.mk_check.proofs.Vocabulary.{ap, around, pointer_at, ◌∙◌}
-use Rattle.mk_check.specs.Lookups.{Reading}
+use Rattle.mk_check.specs.Typing.{Reading}
 use Rattle.mk_check.proofs.lookups.Lookups.pointer_at.Goals as goal
 
 pub returns : goal.returns

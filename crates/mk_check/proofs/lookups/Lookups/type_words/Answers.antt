@@ -1,7 +1,7 @@
 use Rattle.std.specs.{Borrow.Bor, Option.option_copied}
 use Rattle.mk_check.proofs.Vocabulary.{List, TypeWord, ap, type_words, map, number_of_name, slice_get, sym, ◌∙◌}
 use Rattle.mk_check.proofs.{DeclaredPlaces.type_words_are, LookupLemmas.seen_at}
-use Rattle.mk_check.specs.{Declarations.declared_words, Lookups.{Reading, declared_for}}
+use Rattle.mk_check.specs.{Declarations.declared_words, Typing.{Reading, declared_for}}
 use Rattle.mk_check.proofs.lookups.Lookups.type_words.Goals as goal
 
 pub returns : goal.returns

@@ -2,7 +2,7 @@ use Rattle.std.proofs.Common.{min, set}
 use Rattle.std.specs.Borrow.{Bor}
 use Rattle.mk_check.proofs.Vocabulary.{List, ap, arith, get_or, length, length-map, map-append, subst, sym, [], ℕ, ◌++◌}
 use Rattle.mk_check.proofs.{Vocabulary.{◌<◌, ◌∙◌, ◌∷◌, ◌≡◌}, TableLemmas.index-added}
-use Rattle.mk_check.specs.{NameTables.IsIndex, NamesInScope.referred_names}
+use Rattle.mk_check.specs.{Declarations.IsIndex, Feed.referred_names}
 use Rattle.mk_check.proofs.name_table.NameTable.add.Goals as goal
 
 pub invariant_of-self-2 : goal.invariant_of-self-2

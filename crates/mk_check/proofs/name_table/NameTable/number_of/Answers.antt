@@ -2,7 +2,7 @@ use Rattle.std.specs.Borrow.{Bor}
 use Rattle.mk_check.proofs.Vocabulary.{List, ap, arith, drop, get_or, length, length-map, number_of_name, subst}
 use Rattle.mk_check.proofs.Vocabulary.{sym, ℕ, ◌+◌, ◌<◌, ◌∙◌, ◌≡◌, ◌≤◌}
 use Rattle.mk_check.proofs.TableLemmas.{found, missed, others_before, skipped, test_at}
-use Rattle.mk_check.specs.{NameTables.{IsIndex, key_of}, NamesInScope.referred_names}
+use Rattle.mk_check.specs.{Declarations.{IsIndex, key_of}, Feed.referred_names}
 use Rattle.mk_check.proofs.name_table.NameTable.number_of.Goals as goal
 
 pub loop-place-init : goal.loop-place-init

@@ -1,7 +1,7 @@
 use Rattle.std.specs.{Borrow.Bor, Option.option_copied}
 use Rattle.mk_check.proofs.Vocabulary.{At, List, ap, map, number_of_name, slice_get, sym, ◌∙◌}
 use Rattle.mk_check.proofs.{DeclaredPlaces.pointer_at_is, LookupLemmas.seen_at}
-use Rattle.mk_check.specs.{Lookups.declared_for, Typing.declared_place}
+use Rattle.mk_check.specs.Typing.{declared_for, declared_place}
 use Rattle.mk_check.proofs.registers.Registers.pointer_at.Goals as goal
 
 pub returns : goal.returns

@@ -1,8 +1,8 @@
 use Rattle.mk_alloc.proofs.Below.Laws.Vocabulary.{ap, subst, sym, ◌∙◌}
 use Rattle.mk_heap.proofs.Ended.{HasAllHome, ends_counted, ends_unmade, ends_whole, home}
 use Rattle.mk_heap.proofs.{HostsKept.{home_host, home_is, home_view, is_home}, heaps.Heap.close.Goals.After-is_in_order}
-use Rattle.mk_heap.specs.{Hosts.{AllAreJoined, HostState}, Reports.MarkersAreBelow}
-use Rattle.mk_alloc.specs.Below.Words.Finals as final
+use Rattle.mk_heap.specs.Hosts.{AllAreJoined, HostState, MarkersAreBelow}
+use Rattle.mk_alloc.specs.Below.Words.States as final
 use Rattle.mk_heap.proofs.heaps.Heap.close.Goals as goal
 
 host : (c : After-is_in_order)

@@ -1,5 +1,5 @@
 use Rattle.mk_alloc.proofs.Below.Laws.Vocabulary.{Config, Host, ap, subst, sym, [], ◌∙◌}
-use Rattle.mk_alloc.specs.{Below.Words.Seats.all_seats, Below.Words.States.{PassState, WordsState}}
+use Rattle.mk_alloc.specs.Below.Words.States.{all_seats, PassState, WordsState}
 use Rattle.mk_heap.{proofs.HostsKept.first_is_host, specs.Hosts.IsHost}
 use Rattle.mk_heap.proofs.heaps.Heap.new.Goals as goal
 

@@ -1,9 +1,9 @@
 use Rattle.mk_alloc.proofs.Below.Laws.Vocabulary.{arith, refl, subst, sym, ◌∙◌}
 use Rattle.mk_alloc.proofs.Below.Words.Sweeping.{other_step_sweeps, sweeps_then}
 use Rattle.mk_alloc.proofs.SaidCloses.{begin_says_none, finish_says, said_then}
-use Rattle.mk_alloc.specs.{Below.Cycles.Begun.EachIsBegun, Below.Cycles.EngineLaw.IsAtPhase}
-use Rattle.mk_alloc.specs.{Below.Words.Sweeping.SweepsNothing, Below.Words.States.PassState}
-use Rattle.mk_alloc.specs.Closes.{EachIsFinished, EachIsSaid}
+use Rattle.mk_alloc.specs.Below.Cycles.{BeginCycle.EachIsBegun, EngineLaw.IsAtPhase}
+use Rattle.mk_alloc.specs.Below.Words.{Sweeping.SweepsNothing, States.PassState}
+use Rattle.mk_alloc.specs.TurnCycles.{EachIsFinished, EachIsSaid}
 use Rattle.mk_heap.proofs.{HomeCallers.{hosts_seat, none_by_phase, step_overs}, MovedHosts.{MovesOn, begin_moves}}
 use Rattle.mk_heap.proofs.MovedHosts.{finish_moves, idle_moves, moved_is_host, moves_more, taken_own}
 use Rattle.mk_heap.proofs.Overs.{cycle_idle, give_allowed, given_no_turn, given_phase, idle_may_give}

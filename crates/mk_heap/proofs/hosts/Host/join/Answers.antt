@@ -1,6 +1,7 @@
 use Rattle.mk_alloc.proofs.Below.Laws.Vocabulary.{ap, subst, sym, ◌∙◌}
-use Rattle.mk_alloc.specs.{Below.Words.Sweeping.SweepsNothing, Below.Words.Seats.has_over, Below.Words.States.PassState}
-use Rattle.mk_core.specs.Growing.{Grows}
+use Rattle.mk_alloc.specs.Below.Words.{Sweeping.SweepsNothing, States.has_over}
+use Rattle.mk_alloc.specs.Below.Words.States.{PassState}
+use Rattle.mk_core.specs.History.{Grows}
 use Rattle.mk_heap.proofs.{HostsKept.{home_host, home_is, home_view, is_home, joined_is_host}, BegunHosts.grown_sweeps}
 use Rattle.mk_heap.{proofs.HomeCallers.{joined_overs}, specs.Hosts.{HostState, with_joined}}
 use Rattle.mk_heap.proofs.hosts.Host.join.Goals as goal

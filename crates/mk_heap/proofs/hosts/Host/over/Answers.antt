@@ -1,6 +1,6 @@
 use Rattle.mk_alloc.proofs.Below.Laws.Vocabulary.{refl, subst, sym}
-use Rattle.mk_alloc.specs.{Below.Cycles.EngineLaw.IsAtPhase, Below.Words.Sweeping.SweepsNothing}
-use Rattle.mk_alloc.specs.{Below.Words.States.PassState, Closes.EachIsSaid}
+use Rattle.mk_alloc.specs.Below.{Cycles.EngineLaw.IsAtPhase, Words.Sweeping.SweepsNothing}
+use Rattle.mk_alloc.specs.{Below.Words.States.PassState, TurnCycles.EachIsSaid}
 use Rattle.mk_heap.proofs.{HostsKept.{home_is, home_view, is_home}, MovedHosts.{idle_moves, moved_is_host, moves_more}}
 use Rattle.mk_heap.proofs.Overs.{give_allowed, given_no_turn, over_keeps, over_may_give, tidy_kept}
 use Rattle.mk_heap.proofs.{BegunHosts.{given_sweeps, idle_then_sweeps}, HomeCallers.callers_home}

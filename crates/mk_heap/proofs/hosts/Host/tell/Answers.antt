@@ -1,5 +1,5 @@
 use Rattle.mk_alloc.proofs.Below.Laws.Vocabulary.{Host, Seat, ap, refl, subst, ◌∙◌, ◌≡◌}
-use Rattle.mk_alloc.specs.{Below.Words.Sweeping.SweepsNothing, Below.Words.Seats.{Has, has_over}}
+use Rattle.mk_alloc.specs.Below.Words.{Sweeping.SweepsNothing, States.{Has, has_over}}
 use Rattle.mk_alloc.specs.Below.Words.States.{PassState}
 use Rattle.mk_heap.proofs.{HomeCallers.{hosts_seat, step_overs, taken_overs}, MovedHosts.{moved_is_host, moves_more}}
 use Rattle.mk_heap.proofs.{MovedHosts.{taken_own, turn_moves}, Overs.{give_allowed, given_no_turn, look_admitted}}

@@ -1,6 +1,6 @@
 use Rattle.mk_words.proofs.Below.Laws.Vocabulary.{subst}
 use Rattle.mk_core.proofs.PhaseTests.{not_in_word}
-use Rattle.mk_marker.{proofs.Worked.finds_phase, specs.Working.FindsPhase}
+use Rattle.mk_marker.{proofs.Worked.finds_phase, specs.Markers.FindsPhase}
 use Rattle.mk_words.specs.States.{PassState}
 use Rattle.mk_marker.proofs.markers.Marker.attend.Goals as goal
 

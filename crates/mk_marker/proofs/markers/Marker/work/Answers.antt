@@ -1,5 +1,5 @@
 use Rattle.mk_words.proofs.Below.Laws.Vocabulary.{ap, eqb-false, subst, sym, ◌%◌, ◌∙◌}
-use Rattle.mk_marker.{proofs.Worked.{finds_no_work, scans_a_cell}, specs.Working.{FindsNoWork, ScansACell}}
+use Rattle.mk_marker.{proofs.Worked.{finds_no_work, scans_a_cell}, specs.Markers.{FindsNoWork, ScansACell}}
 use Rattle.mk_words.specs.States.{PassState, WordsState}
 use Rattle.mk_marker.proofs.markers.Marker.work.Goals as goal
 

@@ -1,7 +1,7 @@
 use Rattle.std.specs.Option.{option_or}
 use Rattle.mk_replay.proofs.Vocabulary.{IfOk-weaker, TakesStep}
 use Rattle.mk_laws.proofs.Vocabulary.{Bool, None, Some, subst, sym, true, ◌∙◌, ◌≡◌}
-use Rattle.mk_replay.{proofs.RunLaws.last_takes, specs.Players.PlayerTakesAnswer}
+use Rattle.mk_replay.{proofs.RunLaws.last_takes, specs.Replays.PlayerTakesAnswer}
 use Rattle.mk_replay.proofs.players.Player.follow.Goals as goal
 
 pub returns-in-Some : goal.returns-in-Some

@@ -1,4 +1,4 @@
-use Rattle.mk_replay.{proofs.{Vocabulary.{IfOk-weaker, TakesStep, rules}, RunLaws.one_takes}, specs.Players.{TakeEvent}}
+use Rattle.mk_replay.{proofs.{Vocabulary.{IfOk-weaker, TakesStep, rules}, RunLaws.one_takes}, specs.Replays.{TakeEvent}}
 use Rattle.mk_laws.proofs.Vocabulary.{Bool, length, slice_set, subst, ◌<◌}
 use Rattle.mk_replay.proofs.replaying.Run.follow.Goals as goal
 

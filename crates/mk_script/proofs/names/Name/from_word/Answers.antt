@@ -1,5 +1,5 @@
 use Rattle.mk_script.proofs.Vocabulary.{Some, ap, sym, true, ◌∙◌, ◌≡◌}
-use Rattle.mk_script.specs.Names.{begins_name}
+use Rattle.mk_script.specs.Operands.{begins_name}
 use Rattle.mk_script.proofs.PaddedNames.{before_zeros, named, one_byte_put, passed, short_word, whole_word, zeros_after}
 use Rattle.mk_script.proofs.names.Name.from_word.Goals as goal
 

@@ -1,5 +1,5 @@
 use Rattle.mk_script.proofs.Vocabulary.{drop, list_all, replicate, take, ◌++◌, ◌-◌, ◌≡◌}
-use Rattle.mk_script.specs.Names.{is_name_byte}
+use Rattle.mk_script.specs.Operands.{is_name_byte}
 use Rattle.mk_script.proofs.names.Name.from_word.Given as goal
 
 -- the bytes so far are put in place, and those that are left decide

@@ -2,7 +2,7 @@ use Rattle.mk_laws.proofs.Vocabulary.{Step, ap, subst, sym, [], ◌∙◌, ◌�
 use Rattle.atomic_table.specs.Table.{rest}
 use Rattle.mk_words.proofs.{HandingCalls.{give_makes, give_order, order_of_view, still_state, took}, Owed.same_id}
 use Rattle.mk_words.{proofs.handing.TurnToken.give.Goals.{After-exchange-empty}, specs.Steps.{Makes}}
-use Rattle.mk_words.specs.{Passes.{IsInOrder, state_of}, PageMaps.IsMapOf, Rule.Mine, States.{PassState, now_of}}
+use Rattle.mk_words.specs.{Rule.{IsInOrder, state_of, Mine}, PageMaps.IsMapOf, States.{PassState, now_of}}
 use Rattle.mk_words.proofs.handing.TurnToken.give.Goals as goal
 
 pub exchange-empty-requires : goal.exchange-empty-requires

@@ -1,6 +1,6 @@
 use Rattle.mk_laws.proofs.Vocabulary.{Config, MarkerState, ap, marker_behind, marker_may, subst, sym, true, ◌∙◌, ◌≡◌}
 use Rattle.mk_words.proofs.Markers.{marks, own_met}
-use Rattle.mk_words.specs.{Markers.Marks, States.PassState, States.WordsState, Steps.IsEnabledTo}
+use Rattle.mk_words.specs.{Steps.{Marks, IsEnabledTo}, States.{PassState, WordsState}}
 use Rattle.mk_words.proofs.marker_passes.MarkerPass.perform_marking.Goals as goal
 
 pub marker_behind-self-inside-requires-clause-own : goal.marker_behind-self-inside-requires-clause-own

@@ -1,6 +1,6 @@
 use Rattle.mk_laws.proofs.Vocabulary.{◌-◌, ◌≤◌}
 use Rattle.mk_words.proofs.Opening.{AreOpened}
-use Rattle.mk_words.specs.Opening.{Opens, OthersMayOpen}
+use Rattle.mk_words.specs.Steps.{Opens, OthersMayOpen}
 use Rattle.mk_words.proofs.stopped.Stopped.open_all.Given as goal
 
 abbrev pub invariant-loop-caller : goal.invariant-loop-caller

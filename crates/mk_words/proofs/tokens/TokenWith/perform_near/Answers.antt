@@ -1,5 +1,5 @@
 use Rattle.mk_laws.proofs.Vocabulary.{subst}
-use Rattle.mk_words.specs.{Passes.state_of, States.PassState, Steps.Tells}
+use Rattle.mk_words.specs.{Rule.state_of, States.PassState, Steps.Tells}
 use Rattle.mk_words.proofs.tokens.TokenWith.perform_near.Goals as goal
 
 pub returns : goal.returns

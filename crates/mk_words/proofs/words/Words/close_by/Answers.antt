@@ -1,8 +1,8 @@
 use Rattle.std.specs.Mem.Slots.{slots_items}
 use Rattle.mk_laws.proofs.Vocabulary.{Config, ap, subst, sym, ◌∙◌}
-use Rattle.mk_words.proofs.{Closing.tallies_told, Owed.close_call, Owed.copy_call, Owed.same_id}
+use Rattle.mk_words.proofs.{Closing.tallies_told, Owed.{close_call, copy_call, same_id}}
 use Rattle.mk_words.specs.States.{PassState, WordsState}
-use Rattle.mk_words.specs.{Passes.state_of, Rule.Mine, Seats.HasAll, declared.rule.View.View}
+use Rattle.mk_words.specs.{Rule.{state_of, Mine}, States.HasAll, declared.rule.View.View}
 use Rattle.mk_words.proofs.words.Words.close_by.Goals as goal
 
 pub split_seat-memory-requires : goal.split_seat-memory-requires

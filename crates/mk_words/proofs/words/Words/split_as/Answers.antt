@@ -1,6 +1,6 @@
 use Rattle.mk_laws.proofs.Vocabulary.{Seat, ap, false, subst, sym, true, ◌∙◌, ◌≡◌}
 use Rattle.mk_words.proofs.Owed.{kept_by_split, made_by_split, same_config, same_id, split_call}
-use Rattle.mk_words.specs.{Rule.Mine, Seats.Has, Seats.has_over, Seats.is_caller, States.PassState}
+use Rattle.mk_words.specs.{Rule.Mine, States.{Has, has_over, is_caller, PassState}}
 use Rattle.mk_words.proofs.words.Words.split_as.Goals as goal
 
 pub split_seat-requires : goal.split_seat-requires

@@ -1,5 +1,5 @@
 use Rattle.mk_check.proofs.Vocabulary.{IsBelow, List, Node, length, subst, sym}
-use Rattle.mk_check.{proofs.Spots.IsMarkedTree_push, specs.Spots.IsMarkedTree, specs.declared.feeding.tree.Spot.Spot}
+use Rattle.mk_check.{proofs.Spots.IsMarkedTree_push, specs.{Trees.IsMarkedTree, declared.feeding.tree.Spot.Spot}}
 use Rattle.mk_check.proofs.feeding.tree.Tree.push.Goals as goal
 
 pub invariant_of-self-2 : goal.invariant_of-self-2

@@ -1,14 +1,16 @@
--- Condition 7 for the kinds of the turn's holder that mark, begin, close and end a cycle.
+-- Condition 7 for the kinds of step that mark, begin, close and end a cycle, and for the markers' kinds and `over`.
 use Rattle.std.specs.Prelude.{ℕ, ◌^◌, Bool, true, false, ◌&&◌, ◌||◌, not, nat_lt, ◌==◌, List, Option, slice_index}
-use Rattle.std.specs.{Prelude.bit_and, List.list_all}
-use Rattle.mk_geom.specs.{declared.addresses.Cell.Cell, declared.pages.Place.Place}
+use Rattle.std.specs.{Prelude.{bit_and, Some, None, is_some, is_none, if◌then◌else◌}, List.list_all}
+use Rattle.mk_geom.specs.{declared.addresses.Cell.Cell, declared.pages.Place.Place, Addresses.{header_of, cell_at}}
+use Rattle.mk_geom.specs.Addresses.{page_at_address}
 use Rattle.mk_core.specs.{declared.config.Config.Config, declared.seats.Flight.Flight, declared.seats.Hand.Hand}
 use Rattle.mk_core.specs.{declared.seats.Marker.Marker, declared.seats.Presence.Presence}
-use Rattle.mk_core.specs.{declared.seats.Presence.TheVariants.Attending, Words.{Words, header_at, used_at}}
-use Rattle.mk_core.specs.{Bits.without, Bounded.{all_below, is_some_and}, Cells.{header_in, head_page, cells_under}}
-use Rattle.mk_core.specs.Cells.{cell_bits, has_no_pointers, pointed_cell, is_marked, points_well, words_point_well}
+use Rattle.mk_core.specs.{declared.seats.Presence.TheVariants.{Attending, Out}, Words.{Words, header_at, used_at}}
+use Rattle.mk_core.specs.{Words.{without, all_below, is_some_and}, Cells.{header_in, head_page, cells_under, cell_bits}}
+use Rattle.mk_core.specs.Cells.{has_no_pointers, pointed_cell, is_marked, points_well, words_point_well}
 use Rattle.mk_core.specs.{Cells.none_is_left_unmarked, declared.seats.Object.Object, NewPlaces.{object_made, bits_made}}
-use Rattle.mk_core.specs.{TurnConditions.place_now, Moments.{Moment, is_phase}}
+use Rattle.mk_core.specs.{TurnConditions.place_now, Moments.{Moment, is_phase}, declared.events.Word.Word}
+use Rattle.mk_core.specs.{declared.seats.Scan.Scan, declared.seats.SeenHeader.SeenHeader, Conditions.host_has_turn}
 
 -- the marker attends
 abbrev pub is_attending : Presence → Bool
@@ -99,3 +101,61 @@ blackens pages w page value k = (value == 2 ^ k) && may_turn_black pages w (reco
 abbrev pub may_black : Config → Moment → ℕ → ℕ → Bool
 may_black c m page value =
     none_attends m.seats.markers && not (all_below 32 (λ k. not (blackens c.pages m.words page value k)))
+
+-- the marker is out
+abbrev pub is_out : Presence → Bool
+is_out Out = true
+is_out _ = false
+
+-- the words that a marker looks at
+abbrev pub is_markers_word : Word → Bool
+is_markers_word Word.Phase = true
+is_markers_word (Word.Mark p) = true
+is_markers_word (Word.Black p) = true
+is_markers_word (Word.Head p) = true
+is_markers_word _ = false
+
+-- the last look was at the page's header, and showed a cell of this index
+abbrev pub has_seen_cell : Option SeenHeader → ℕ → ℕ → Bool
+has_seen_cell None page k = false
+has_seen_cell (Some seen) page k = (seen.page == page) && nat_lt k (cells_under (header_of seen.header))
+
+-- the cell into which the open hand points by the header that was seen of its page
+abbrev pub cell_seen : Config → Option SeenHeader → Option ℕ → Option Cell
+cell_seen c (Some seen) (Some value) = if seen.page == page_at_address value then cell_at c.pages seen.header value
+    else None
+cell_seen c _ _ = None
+
+-- the scan has a next word
+abbrev pub has_next_word : Option Scan → Bool
+has_next_word (Some scan) = nat_lt scan.next scan.end
+has_next_word None = false
+
+-- there is a scan, and it has no next word
+abbrev pub is_scanned : Option Scan → Bool
+is_scanned (Some scan) = not (nat_lt scan.next scan.end)
+is_scanned None = false
+
+-- the own condition of `mlook`
+abbrev pub may_mlook : Marker → Word → Bool
+may_mlook x w = is_attending x.presence && is_markers_word w
+
+-- the own condition of `claim`
+abbrev pub may_claim : Marker → ℕ → ℕ → Bool
+may_claim x page k = is_attending x.presence && is_none x.scan && has_seen_cell x.seen page k
+
+-- the own condition of `mload`
+abbrev pub may_mload : Marker → Bool
+may_mload x = has_next_word x.scan && is_none x.hand
+
+-- the own condition of `mmark`
+abbrev pub may_mmark : Config → Marker → Bool
+may_mmark c x = is_some (cell_seen c x.seen x.hand)
+
+-- the own condition of `mblack`
+abbrev pub may_mblack : Marker → Bool
+may_mblack x = is_scanned x.scan && is_none x.hand
+
+-- the own condition of `over`
+abbrev pub may_end_all : Config → Moment → Bool
+may_end_all c m = host_has_turn c m && is_phase m.words 0
