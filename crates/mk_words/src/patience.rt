@@ -70,6 +70,8 @@ impl Patience {
 
     /// Pauses once, if another has the turn. Who has waited long is late while it sleeps. When it wakes it pauses as at
     /// first, since others may let it have the turn then.
+    #[cold]
+    #[inline(never)]
     pub fn pause_for_turn<R: Wait>(&mut self, rt: &R, words: &Words)
         ensures { PausesOnce self.old self.new }
     {

@@ -68,6 +68,7 @@ fn clear_headers(pass: &mut TurnToken, words: &Words, first: u64, count: u64)
 impl<G: Gates> TurnAt<G> {
     /// Makes a mapped run of this many free pages. The first page's header word will be `head`, the second's `next`,
     /// and each of the others 16 more than that of the page before it.
+    #[inline(always)]
     pub fn make_run(&mut self, words: &Words, first: u64, count: u64, head: u64, next: u64)
         requires one_table { self.old.pass.table ≡ words.now }
         requires within { first + count ≤ words.now.config.pages }

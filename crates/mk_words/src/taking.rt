@@ -15,7 +15,7 @@ use mk_never::Op;
 use std::sync::Wait;
 
 /// Waits for the turn, and takes it.
-#[inline(never)]
+#[inline(always)]
 fn wait_for_turn<R: Wait>(rt: &R, words: &Words, home: Pass, op: Option<Op>) -> Turn
     requires one_table { home.table ≡ words.now }
     requires enabled { IsEnabledTo home (step.Take op) }
