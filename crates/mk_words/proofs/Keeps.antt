@@ -5,7 +5,7 @@ use Rattle.mk_laws.proofs.Vocabulary.{IsWithinLimits, List, Seat, TalliesAreTidy
 use Rattle.mk_laws.proofs.Vocabulary.{append-nil, append_assoc, enabled_meets, enabled_parts, false, first_world}
 use Rattle.mk_laws.proofs.Vocabulary.{histories_keep_lengths, left, left_more, refl, set-get_or, slice_index, slice_set}
 use Rattle.mk_laws.proofs.Vocabulary.{subst, suc, sym, true, word_accessed, zero, [], ◌++◌, ◌∙◌, ◌∷◌, ◌≡◌, ◌≢◌}
-use Rattle.mk_books.specs.KnownPages.{KnownPages}
+use Rattle.mk_core.specs.Below.Books.KnownPages.{KnownPages}
 use Rattle.mk_core.proofs.{Histories.last_enabled, RegionLemmas.{accesses_change, words_stand}}
 use Rattle.mk_core.specs.{History.{AreEnabledFrom, calls_from, left_from, AreOfOthers, Grows}, Cycles.is_give}
 use Rattle.mk_core.specs.{Layout.{IsOfTable, in_order, index_of}, Words.{becomes, word_in, zero_words_of}}

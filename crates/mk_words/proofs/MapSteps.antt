@@ -7,8 +7,9 @@ use Rattle.mk_laws.proofs.Vocabulary.{is_in_range, length, length-set, ltb-true,
 use Rattle.mk_laws.proofs.Vocabulary.{subst, sym, tally_word, true, [], ◌++◌, ◌<◌, ◌==◌, ◌||◌, ◌∙◌, ◌∷◌, ◌≡◌, ◌≢◌}
 use Rattle.mk_laws.proofs.SameWords.{Behind}
 use Rattle.std.specs.Prelude.{slice_set}
-use Rattle.mk_books.specs.KnownPages.{KnownPages, Shows, is_bare, is_quarantined_page, is_uncleaned, is_uncleaned_under}
-use Rattle.mk_books.specs.KnownPages.{with_header, with_used, IsNext, page_at}
+use Rattle.mk_core.specs.Below.Books.KnownPages.{KnownPages, Shows, is_bare, is_quarantined_page, is_uncleaned}
+use Rattle.mk_core.specs.Below.Books.KnownPages.{is_uncleaned_under}
+use Rattle.mk_core.specs.Below.Books.KnownPages.{with_header, with_used, IsNext, page_at}
 use Rattle.mk_words.proofs.{FreeTurns.{map_left, map_stays, page_words}, TurnSteps.{acts, gates_still}, Made.own_before}
 use Rattle.mk_words.proofs.{Seats.others_own, Unmarked.{is_mark, stays_unmarked}}
 use Rattle.mk_words.specs.PageMaps.{HasNoMarks, IsMapOf, IsNextUncleaned, is_told, page_told}

@@ -3,7 +3,7 @@ use Rattle.std.proofs.Common.{replicate}
 use Rattle.mk_laws.proofs.Vocabulary.{Access, Caller, Config, Event, Host, IsHistory, IsTidy, IsWithinLimits, List}
 use Rattle.mk_laws.proofs.Vocabulary.{Seat, Step, ℕ, access, ap, arith, false, refl, subst, sym, true, word_accessed}
 use Rattle.mk_laws.proofs.{Vocabulary.{[], ◌++◌, ◌<◌, ◌∙◌, ◌∷◌, ◌≡◌}, Reaching.events_reach_the_table}
-use Rattle.mk_books.specs.KnownPages.{KnownPages}
+use Rattle.mk_core.specs.Below.Books.KnownPages.{KnownPages}
 use Rattle.mk_core.proofs.{Histories.enabled_more, LayoutLemmas.indexes_within, RegionLemmas.first_are_zero}
 use Rattle.mk_core.specs.{Layout.{IsOfTable, count_of_words, index_of}, History.{Grows, is_same_seat}}
 use Rattle.mk_core.specs.{History.{AreEnabledFrom, calls_from}, Words.{becomes, zero_words_of}}

@@ -1,7 +1,8 @@
 -- What a map shows after it was told of a step: of each of the four.
 use Rattle.mk_laws.proofs.Vocabulary.{List, Page, Step, ℕ, ◌%◌, ◌^◌, ◌||◌, ◌≡◌}
-use Rattle.mk_books.specs.KnownPages.{KnownPages, Shows, is_bare, is_uncleaned, is_uncleaned_under, with_header}
-use Rattle.mk_books.specs.KnownPages.{with_used}
+use Rattle.mk_core.specs.Below.Books.KnownPages.{KnownPages, Shows, is_bare, is_uncleaned, is_uncleaned_under}
+use Rattle.mk_core.specs.Below.Books.KnownPages.{with_header}
+use Rattle.mk_core.specs.Below.Books.KnownPages.{with_used}
 use Rattle.std.specs.Prelude.{slice_set}
 
 -- The map shows the new header, and knows if the page is still to be cleaned.

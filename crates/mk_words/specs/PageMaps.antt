@@ -1,6 +1,6 @@
 -- The page map of a heap: what it shows of the words, and the steps by which it changes hands or has to follow.
 use Rattle.std.specs.Prelude.{◌≡◌, ℕ, ◌/◌, ⊤, ◌<◌, ◌≤◌, Bool, true, false, slice_index, Option, Some, None, []}
-use Rattle.mk_books.specs.KnownPages.{KnownPages, Shows, is_uncleaned}
+use Rattle.mk_core.specs.Below.Books.KnownPages.{KnownPages, Shows, is_uncleaned}
 use Rattle.mk_core.specs.declared.accesses.TableWord.{TableWord, TheVariants.Named}
 use Rattle.mk_core.specs.{declared.events.{Word.Word, Step.Step}, Words.{Words, header_at}}
 

@@ -1,6 +1,6 @@
 -- The rule of the table: what each step says of it, and what always holds of a pass.
 use Rattle.std.specs.Prelude.{◌≡◌, ◌≢◌, ℕ, List, [], ◌∷◌, ◌++◌}
-use Rattle.mk_books.specs.KnownPages.{KnownPages}
+use Rattle.mk_core.specs.Below.Books.KnownPages.{KnownPages}
 use Rattle.mk_core.specs.{Accesses.found, Counts.IsTidy, History.{left, IsHistory, AreOfOthers, Grows}, Layout.in_order}
 use Rattle.mk_core.specs.{Words.Words, declared.accesses.Access.{Access, TheVariants.Store}}
 use Rattle.mk_core.specs.declared.{config.Config.Config, events.{Event.Event, Seat.Seat}}

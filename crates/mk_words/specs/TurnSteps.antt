@@ -3,7 +3,7 @@ use Rattle.std.specs.Prelude.{◌≡◌, ℕ, ◌%◌, ◌^◌, ◌++◌, Option
 use Rattle.std.specs.{Prelude.{◌||◌, List, ◌<◌, ◌+◌, suc, zero}, List.list_all}
 use Rattle.mk_never.specs.declared.operations.Op.{Op}
 use Rattle.mk_geom.specs.Addresses.{address_of, is_heap_address, page_at_address}
-use Rattle.mk_books.specs.KnownPages.{KnownPages}
+use Rattle.mk_core.specs.Below.Books.KnownPages.{KnownPages}
 use Rattle.mk_core.specs.declared.events.{Seat.TheVariants.Caller, Step.Step}
 use Rattle.mk_core.specs.{declared.seats.Flight.Flight, Accesses.granted_base, Calls.{at_rest, begun}}
 use Rattle.mk_core.specs.{Moments.{nothing_done, none_is_held, others_are_held}, Words.phase_of, Conditions.has_phase}

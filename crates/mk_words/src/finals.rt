@@ -9,7 +9,7 @@ use crate::homes::MapHome;
 use crate::indexes::index_of;
 use crate::rule::View;
 use atomic_table::{Closed, Seat as Token};
-use mk_books::QuarantineWord;
+use mk_core::lower::books::QuarantineWord;
 use mk_core::{TableWord, Word};
 use std::alloc::Global;
 

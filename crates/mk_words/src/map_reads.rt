@@ -3,7 +3,7 @@
 ghost use Rattle.std.specs.Prelude.{◌≡◌, ◌<◌, ◌≤◌};
 ghost use Rattle.mk_geom.specs.PageUses.{first_where, is_free_page, range_start, resident_pages};
 ghost use Rattle.mk_geom.specs.PageUses.{uses_of_pages};
-ghost use Rattle.mk_books.specs.KnownPages.{IsNext, has_free_cell, has_freed_cells, is_free, is_in_use};
+ghost use Rattle.mk_core.specs.Below.Books.KnownPages.{IsNext, has_free_cell, has_freed_cells, is_free, is_in_use};
 ghost use Rattle.mk_core.specs.Words.{page_of};
 ghost use Rattle.mk_words.specs.{PageMaps.{HasNoMarks, IsNextUncleaned}, States.now_of};
 

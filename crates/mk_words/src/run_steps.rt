@@ -1,7 +1,7 @@
 //! Steps of the turn's holder that store the header words of a whole run. The page map is told of all of them at once,
 //! which takes fewer instructions than a call for each page.
 ghost use Rattle.std.specs.Prelude.{◌≡◌, ◌+◌, ◌*◌, ◌<◌, ◌≤◌, ◌^◌, true, false, ℕ};
-ghost use Rattle.mk_books.specs.KnownPages.{HeadersSay, StandsOn, AreBare, run_word};
+ghost use Rattle.mk_core.specs.Below.Books.KnownPages.{HeadersSay, StandsOn, AreBare, run_word};
 ghost use Rattle.mk_geom.specs.PageUses.{PartOfRun};
 ghost use Rattle.mk_words.specs.{TurnSteps.{MayStoreHeads, StoresHeads}, States.{IsTurn, now_of}};
 ghost use Rattle.mk_words.specs.{Steps.IsEnabledTo, TurnSteps.Acts};

@@ -17,7 +17,7 @@ use std::marker::{Brand, Model, PhantomData};
 /// The slots that a token holds.
 pub(crate) trait Slots {
     ghost use Rattle.std.specs.Prelude.{List, ℕ};
-    ghost use Rattle.mk_books.specs.KnownPages.{KnownPages};
+    ghost use Rattle.mk_core.specs.Below.Books.KnownPages.{KnownPages};
 
     ghost such: { List (ℕ × KnownPages) → Type 0 };
 }
@@ -36,7 +36,7 @@ pub(crate) struct MapSlot;
 
 impl Slots for MapSlot {
     ghost use Rattle.std.specs.Prelude.{◌≡◌, [], ◌∷◌};
-    ghost use Rattle.mk_books.specs.KnownPages.{KnownPages};
+    ghost use Rattle.mk_core.specs.Below.Books.KnownPages.{KnownPages};
 
     ghost such = { λ slots. (blank : KnownPages) × (slots ≡ (0, blank) ∷ []) };
 }

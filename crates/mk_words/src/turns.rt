@@ -13,7 +13,7 @@ use crate::indexes::page_of;
 use crate::passes::Pass;
 use crate::tokens::TurnToken;
 use crate::words::Words;
-use mk_books::{PageMap, QuarantineWord};
+use mk_core::lower::books::{PageMap, QuarantineWord};
 use mk_core::{Access, Seat, Step, TableWord};
 use mk_never::Op;
 use std::marker::{Model, PhantomData};
