@@ -8,7 +8,7 @@ use Rattle.mk_alloc.proofs.SaidCloses.{does_say_none, finish_says, nothing_said,
 use Rattle.mk_alloc.proofs.FinishedCycles.{Never, finished_then, never_by_none, unbegun_finished}
 use Rattle.mk_alloc.specs.TurnCycles.{EachIsFinished, EachIsSaid}
 use Rattle.mk_alloc.specs.{TurnCalls.{CallsSweepNothing, SweepNothingWhereHeld}, Rooms.KeepsYet}
-use Rattle.mk_cycle.specs.{Stops.IsToldAtClose, BeginCycle.{EachIsBegunYet, HoldsFirst}, EngineLaw.Ways}
+use Rattle.mk_cycle.specs.{Stops.IsToldAtClose, BeginCycle.{EachIsBegun, HoldsFirst}, EngineLaw.Ways}
 use Rattle.mk_core.specs.Cycles.{is_give}
 use Rattle.mk_cycle.proofs.Begun.{begun_then, does_begin_none, finish_begins_none, left_then, nothing_begun}
 use Rattle.mk_cycle.proofs.HeldFirst.{step_holds}
@@ -156,7 +156,7 @@ module _ {V : Type 0} {ways : Ways V} where
 
   -- and then the close is wanted or the turn given back.
   pub left_keeps : {p q r : PassState} → q ≡ record p { seen = q.seen } → (ways.sweeps ≡ false → SweepsNothing p q)
-      → EachIsBegunYet ways.begins p q → EachIsSaid ways.tells p q → PassKeeps ways q r → HoldsFirst q r
+      → EachIsBegun true ways.begins p q → EachIsSaid ways.tells p q → PassKeeps ways q r → HoldsFirst q r
       → (ways.on ≡ false → EachIsFinished ways.closes p r) → PassKeeps ways p r
   left_keeps {p} {q} {r} same reached begun said two holds finished = record {
     reached = λ none. sweeps_then p q r same (reached none) (two.reached none);

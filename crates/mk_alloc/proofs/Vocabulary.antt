@@ -50,7 +50,6 @@ pub use Rattle.mk_alloc.specs.TurnCycles.{FreesFirst, HasNoPlace, IsDueIn, RunsO
 pub use Rattle.mk_alloc.specs.TurnCycles.{has_step, is_grant, is_of_cycle, is_want, lets_go, within_turn}
 pub use Rattle.mk_cycle.proofs.{Calm.frees_none, CleaningSteps.calm_keeps, KeptInParts.{free_then, gates_behind}}
 pub use Rattle.mk_cycle.proofs.{KeptInParts.same_config, OwnSteps.no_more_calls}
-pub use Rattle.mk_cycle.specs.{TurnKeeps.{unchanged, Done, KeepsGates, LeavesTurn}, BeginCycle.BeginsCycle}
-pub use Rattle.mk_cycle.specs.{EngineLaw.{IsAtPhase, is_pending_free, is_pending_free_at}, FinishCycle.FinishesCycle}
-pub use Rattle.mk_cycle.specs.TurnKeeps.{begins_marking, clears, closes_marks, holds_gates, is_giving_back}
-pub use Rattle.mk_cycle.specs.TurnKeeps.{sets_tallies}
+pub use Rattle.mk_cycle.specs.{BeginCycle.BeginsCycle, EngineLaw.{IsAtPhase, is_pending_free, is_pending_free_at}}
+pub use Rattle.mk_cycle.specs.{FinishCycle.FinishesCycle, Tracing.is_tracing, TurnKeeps.{unchanged, Done, KeepsGates}}
+pub use Rattle.mk_cycle.specs.TurnKeeps.{LeavesTurn, begins_marking, clears, holds_gates, is_giving_back, sets_tallies}

@@ -15,8 +15,8 @@ use Rattle.mk_caller.specs.{Below.Words.Sweeping.SweepsNothing, States.caller_of
 use Rattle.mk_alloc.specs.TurnCycles.{EachIsFinished, EachIsSaid, HasNoPlace, RunsOneCycle, has_step, is_grant, is_hold}
 use Rattle.mk_alloc.specs.{TurnCycles.{is_want, lets_go}, Placing.{IsOutOfStop, is_look, IsUnplaced, Requests}}
 use Rattle.mk_alloc.specs.{Placing.{object_for, place_now_for}, declared.objects.Request.Request}
-use Rattle.mk_cycle.specs.{BeginCycle.{EachIsBegun, EachIsBegunYet, BeginsCycle}, EngineLaw.{IsFreeForCycle, IsAtPhase}}
-use Rattle.mk_cycle.specs.{EngineLaw.Ways, TurnKeeps.{KeepsGates, LeavesTurn, unchanged}, FinishCycle.FinishesCycle}
+use Rattle.mk_cycle.specs.{BeginCycle.{EachIsBegun, BeginsCycle}, EngineLaw.{IsFreeForCycle, IsAtPhase, Ways}}
+use Rattle.mk_cycle.specs.{TurnKeeps.{KeepsGates, LeavesTurn, unchanged}, FinishCycle.FinishesCycle}
 
 -- An allocation is as it was, but that it may be released, and no longer fresh.
 pub record StaysOrIsReleased (a b : PlacedAllocation) : Type 0 where
@@ -92,14 +92,14 @@ pub record MayRunCycle (w : WordsState) (pages : ℕ) (p : PassState) : Type 0 w
 -- it begins.
 pub record PassKeeps {V : Type 0} (ways : Ways V) (p q : PassState) : Type 0 where
   pub reached : ways.sweeps ≡ false → SweepsNothing p q
-  pub begun : EachIsBegun ways.begins p q
+  pub begun : EachIsBegun false ways.begins p q
   pub said : EachIsSaid ways.tells p q
   pub finished : ways.on ≡ false → EachIsFinished ways.closes p q
 
 -- So it keeps in a turn that goes on: a cycle that was begun may still be on.
 pub record KeepsYet {V : Type 0} (ways : Ways V) (p q : PassState) : Type 0 where
   pub reached : ways.sweeps ≡ false → SweepsNothing p q
-  pub begun : EachIsBegunYet ways.begins p q
+  pub begun : EachIsBegun true ways.begins p q
   pub said : EachIsSaid ways.tells p q
   pub finished : ways.on ≡ false → EachIsFinished ways.closes p q
 

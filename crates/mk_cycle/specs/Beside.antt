@@ -17,18 +17,11 @@ seen_since p q = drop (length p.seen) q.seen
 abbrev pub done_since : PassState → PassState → List Finding
 done_since p q = done_in p (seen_since p q)
 
--- looks at a root
-
--- they are one register, or one global
-abbrev pub is_same_root : Word → Word → Bool
-is_same_root (Word.Reg j r) (Word.Reg k s) = (j == k) && (r == s)
-is_same_root (Word.Global g) (Word.Global h) = g == h
-is_same_root _ _ = false
-
--- it is a look at this word
+-- it is a look at this root
 abbrev pub looks_at : Word → Step → Bool
-looks_at x (Step.Look y) = is_same_root x y
-looks_at x _ = false
+looks_at (Word.Reg j r) (Step.Look (Word.Reg k s)) = (j == k) && (r == s)
+looks_at (Word.Global g) (Step.Look (Word.Global h)) = g == h
+looks_at _ _ = false
 
 -- it is a look at a root
 abbrev pub looks_at_root : Step → Bool
@@ -39,15 +32,9 @@ looks_at_root _ = false
 abbrev pub LooksAt : Word → PassState → PassState → Type 0
 LooksAt x p q = list_any (λ (f : Finding). looks_at x f.event.step) (done_since p q) ≡ true
 
--- Each value that its looks found in roots points well now.
-
 -- what the look found points well now
 abbrev pub found_well : ℕ → Words → Finding → Bool
 found_well pages w f = not (looks_at_root f.event.step) || points_well pages w f.found
-
--- So does all that was found at roots.
-abbrev pub FoundPointsWell : PassState → PassState → Type 0
-FoundPointsWell p q = list_all (found_well p.table.config.pages (now_of q).words) (done_since p q) ≡ true
 
 -- Its marks are of what stood in a root, or in a cell that was marked.
 abbrev pub MarksReachedAlone : PassState → PassState → Type 0
@@ -64,12 +51,12 @@ pub record IsBeside (p : PassState) : Type 0 where
   pub free : IsFreeForCycle p
   pub marking : IsAtPhase p 1
 
--- From one to the other its holder looked, marked, and held or opened gates.
+-- From one to the other its holder looked, marked, and held or opened gates. What it found at roots points well.
 pub record MarksBeside (p q : PassState) : Type 0 where
   pub does : Does begins_marking p q
   pub keeps : LeavesTurn unchanged p q
   pub reached : MarksReachedAlone p q
-  pub found : FoundPointsWell p q
+  pub found : list_all (found_well p.table.config.pages (now_of q).words) (done_since p q) ≡ true
   pub well : StaysWell p q
 
 -- The same of a turn.

@@ -6,8 +6,8 @@ use Rattle.mk_core.specs.{History.World, declared.{events.Word.Word, seats.Fligh
 use Rattle.mk_core.specs.{declared.{seats.Stage.Stage, events.Step.Step}, Words.phase_of, Cycles.MarksAreClosed}
 use Rattle.mk_words.specs.{States.{PassState, WordsState, world_of, now_of, call_of}, Below.Laws.Theorems.has_place}
 use Rattle.mk_words.specs.Steps.{Does, count_done, IsEnabledTo, Makes}
-use Rattle.mk_cycle.specs.TurnKeeps.{is_want, begins_marking, closes_marks, LeavesTurn, KeepsGates, IsGone, unchanged}
-use Rattle.mk_cycle.specs.TurnKeeps.{but_phase}
+use Rattle.mk_cycle.specs.TurnKeeps.{is_want, begins_marking, LeavesTurn, KeepsGates, IsGone, unchanged, but_phase}
+use Rattle.mk_cycle.specs.Tracing.is_tracing
 
 -- Whether a cycle that a free begins goes on after the call, and whether they make sweeping marks; what they do
 -- directly after a `begin`; what a value promises of the world in which it closed marks last, and what it did in that
@@ -51,12 +51,6 @@ pub record IsTurnAmong (n : ℕ) (w : WordsState) (p : PassState) (pages : ℕ) 
   pub is_turn : IsTurnAt n w p
   pub count : pages ≡ w.config.pages
 
--- What an engine does in `begin`: it looks, marks, and holds gates that it opens again.
-pub record BeginsMarking (p q : PassState) : Type 0 where
-  pub does : Does begins_marking p q
-  pub keeps : LeavesTurn unchanged p q
-  pub gates : KeepsGates p q
-
 -- Before all else that it does it wants the close.
 pub record WantsFirst (p q : PassState) : Type 0 where
   pub wanted : PassState
@@ -66,7 +60,7 @@ pub record WantsFirst (p q : PassState) : Type 0 where
 
 -- What it does in `close_marks`: it wants the close, first and once, and then it may close, with all marks closed.
 pub record ClosesMarks (p q : PassState) : Type 0 where
-  pub does : Does closes_marks p q
+  pub does : Does is_tracing p q
   pub wants : WantsFirst p q
   pub one_want : count_done is_want does ≡ 1
   pub keeps : LeavesTurn but_phase p q

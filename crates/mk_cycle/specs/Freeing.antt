@@ -34,14 +34,7 @@ abbrev pub sum_below : ℕ → (ℕ → ℕ) → ℕ
 sum_below zero f = 0
 sum_below (suc n) f = sum_below n f + f n
 
--- the cells of a page that are in the snapshot and marked, as bits
-abbrev pub left_marked : Words → ℕ → ℕ
-left_marked w p = bit_and (slice_index w.snapshot p) (slice_index w.marks p)
-
--- how many cells of a page are left unmarked, the words of these, how many of them are held, and how many cells are
--- marked
-
--- the cells of a page that are in the snapshot and not marked
+-- how many cells of a page are in the snapshot and not marked
 abbrev pub cells_unmarked : Words → ℕ → ℕ
 cells_unmarked w p = count_ones (left_unmarked w p)
 
@@ -53,11 +46,9 @@ words_unmarked w p = cells_unmarked w p * words_under (header_in w p)
 abbrev pub held_unmarked : Words → ℕ → ℕ
 held_unmarked w p = if is_unmapped_header (header_in w p) then 0 else words_unmarked w p
 
--- the cells that are in the snapshot and marked
+-- how many cells of a page are in the snapshot and marked
 abbrev pub cells_marked : Words → ℕ → ℕ
-cells_marked w p = count_ones (left_marked w p)
-
--- on one page, and on the first pages, of this many
+cells_marked w p = count_ones (bit_and (slice_index w.snapshot p) (slice_index w.marks p))
 
 -- what a page's release comes to
 abbrev pub released_on : Words → ℕ → Released
@@ -97,7 +88,7 @@ but_pages s = record s { pages = []; freed = []; snapshot = []; fresh_words = 0 
 abbrev pub IsUnmapped : PassState → ℕ → Type 0
 IsUnmapped p n = IsWordOfMapped p.table.config (world_of p).allocations n → ⊥
 
--- and lies in the heap
+-- The word lies in the heap, and no mapped allocation has it.
 pub record IsUnmappedWord (p : PassState) (n : ℕ) : Type 0 where
   pub within : n < 64 * p.table.config.pages
   pub unmapped : IsUnmapped p n

@@ -9,8 +9,6 @@ use Rattle.mk_words.specs.States.{PassState, WordsState, now_of, call_of, TurnSt
 use Rattle.mk_words.specs.{TurnSteps.{IsStopped, Acts}, Steps.Does, Sweeping.SweepsNothing}
 use Rattle.mk_cycle.specs.{TurnKeeps.{holds_gates, LeavesTurn, unchanged}, FinishCycle.MakesRelease}
 
--- A caller's New or Free has loaded what it loads, so that any step of a holder may come.
-
 -- a stage at which a Free's register was loaded
 abbrev pub is_loaded_at : Stage → Bool
 is_loaded_at Stage.Turn = true
@@ -74,8 +72,6 @@ pub data HoldsSuch (such : ℕ → Bool) (t : TurnState) : TurnState → Type 0 
   then_tries : {u v : TurnState} (j : ℕ) → such j ≡ true → HoldsSuch such t u → Acts u.pass (Step.Hold j) v.pass
       → HoldsSuch such t v
 
--- this gate, and those of all other callers
-
 -- only this caller's gate
 abbrev pub only_gate : ℕ → ℕ → Bool
 only_gate caller j = j == caller
@@ -115,11 +111,8 @@ pub record IsToldAtClose (tells : Config → World → Type 0) (p q : PassState)
   pub is : q.seen ≡ p.seen ++ before ++ event_of p Step.Close ∷ behind
   pub told : tells p.table.config (left p.table.config (p.seen ++ before))
 
--- What an engine does in the stop, up to the `close`: it is said of the pass that held the gates, and of the one that
--- may close.
-
--- From what the one pass had seen to what the other has seen gates were held, then the engine did this, and then came
--- the `close` and the `release`.
+-- From what the one pass had seen to what the other has seen gates were held, then the engine did its part, from the
+-- pass that held them to the one that may close, and then came the `close` and the `release`.
 pub record IsClosedBy (closes : PassState → PassState → Type 0) (p q : PassState) : Type 0 where
   pub held : PassState
   pub released : PassState

@@ -147,11 +147,6 @@ pub record MakesLastCycle (s : Seat) (tells : Config → World → Type 0) (c : 
 abbrev pub EndsWithCycle : (Config → World → Type 0) → Config → List Event → Type 0
 EndsWithCycle tells c es = MakesLastCycle Host tells c es
 
--- it is a register
-abbrev pub is_register : Word → Bool
-is_register (Word.Reg k r) = true
-is_register _ = false
-
 -- It took the turn, looked at the word and found this number, and gave the turn back.
 pub record TellsWord (p : PassState) (x : Word) (n : ℕ) (q : PassState) : Type 0 where
   pub taken : PassState
