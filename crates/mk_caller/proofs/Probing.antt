@@ -67,7 +67,7 @@ module _ (c : Config) (es : List Event) (k : ℕ) (h : IsHistory c es) (lt : k <
   some = ap (λ (s : Stage). has_some_q s f.op) at
 
   not_null : v ≢ Null
-  not_null is = car.some_q some (car.q has ∙ ap (λ (x : Value). Rattle.mk_core.specs.Image.image_of
+  not_null is = car.some_q some (car.q has ∙ ap (λ (x : Value). Rattle.mk_core.specs.History.image_of
       (bases_of w.allocations) x) is)
 
   pub gets_to : (b : Bool) → is_unmapped_header (header_in w.now.words (page_met f)) ≡ b → GetsTo b n v (i_of f.op)

@@ -63,7 +63,7 @@ same_word n m (Ptr a t o) i x y = pointer_word m a t o i y ∙ sym (pointer_word
 -- The deciding call of a history is admitted at its place.
 admitted_there : {p q : PassState} {o : Op} {a : Answer} → (c : Called p o a q)
     → AreAdmitted p.table.config.globals (never_behind p.table.config (p.seen ++ c.decided.before))
-    (asked (Rattle.mk_core.specs.Decided.entry_of (caller_of_pass p) o (Rattle.std.specs.Prelude.Some a)))
+    (asked (Rattle.mk_core.specs.Calls.entry_of (caller_of_pass p) o (Rattle.std.specs.Prelude.Some a)))
 admitted_there {p} {q} {o} {a} c =
     let es : List Event = p.seen ++ c.decided.before in
     let whole : q.seen ≡ (es ++ c.decided.event ∷ []) ++ c.decided.behind = ap (λ (x : PassState). x.seen) c.is

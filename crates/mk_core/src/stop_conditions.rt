@@ -73,7 +73,7 @@ impl Table {
     }
 
     /// Whether the page has such a cell, it is marked, and its words point well or aren't scanned.
-    #[tactic(auto, unfolding(crate::specs::StopConditions::may_turn_black))]
+    #[tactic(auto, unfolding(crate::specs::MarkingConditions::may_turn_black))]
     fn may_turn_black(&self, pages: u64, cell: Cell) -> bool
         ensures { result ≡ may_turn_black pages self.now cell }
     {
