@@ -1,7 +1,7 @@
 -- Parts of a turn in which it goes on: the parts of cycles decide nothing, and what goes on in two parts goes on.
 use Rattle.mk_alloc.proofs.Vocabulary.{Acts, Answer, BeginsCycle, Bool, Caller, Config, Decided, Does, Done, Event}
 use Rattle.mk_alloc.proofs.Vocabulary.{FinishesCycle, Flight, IsEnabledTo, IsHistory, IsOutOfStop, IsQuiet, IsTurn}
-use Rattle.mk_alloc.proofs.Vocabulary.{KeepsGates, LeavesTurn, List, Looks, None, Op, Option, PassState}
+use Rattle.mk_alloc.proofs.Vocabulary.{KeepsGates, LeavesTurn, List, OnlyDoes, None, Op, Option, PassState}
 use Rattle.mk_alloc.proofs.Vocabulary.{PlacedAllocation, Some, Stage, Steady, Step, TalliesAreTidy, TurnGoesOn, ℕ}
 use Rattle.mk_alloc.proofs.Vocabulary.{and_from, ap, append-nil, arith, call_of, caller_of_pass, calm_keeps}
 use Rattle.mk_alloc.proofs.Vocabulary.{does_nothing, ends, entry_of, eq-eqb, free_then, fresh_words_of, full_answers}
@@ -23,7 +23,7 @@ use Rattle.mk_cycle.specs.{EngineLaw.IsFreeForCycle, TurnKeeps.{IsGone, done_of}
 pub phase_allowed : {p : PassState} → IsTurn p → IsFreeForCycle p → IsEnabledTo p (Step.Look Word.Phase)
 phase_allowed {p} t free = look_allowed p t free Word.Phase refl refl
 
-pub looked : {p q : PassState} → IsTurn p → IsFreeForCycle p → Acts p (Step.Look Word.Phase) q → Looks p q
+pub looked : {p q : PassState} → IsTurn p → IsFreeForCycle p → Acts p (Step.Look Word.Phase) q → OnlyDoes is_look p q
 looked {p} {q} t free a = record {
   does = does_once a.makes refl;
   keeps = calm_keeps p (Step.Look Word.Phase) q a t a.makes.pass.history refl free unchanged refl;
@@ -75,7 +75,7 @@ quiet_kept quiet k gates =
 
 -- where it looks, begins a cycle, or finishes one.
 
-pub quiet_looked : {p q : PassState} → IsQuiet p → Looks p q → IsQuiet q
+pub quiet_looked : {p q : PassState} → IsQuiet p → OnlyDoes is_look p q → IsQuiet q
 quiet_looked quiet k = quiet_kept quiet k.keeps k.gates
 
 -- Of what was done in the turn a cycle's begin and its end change the own cycle alone.
@@ -134,7 +134,7 @@ pub undecided_part : {p q : PassState} → IsTurn p → IsCallers p → IsQuiet 
 undecided_part t seat quiet after d history call =
     grind (arith, widened, cycles_in_turn, seen_behind, is_of_cycles, goes_undecided, does_stretch, append-nil)
 
-pub looked_on : {p q : PassState} → IsTurn p → IsCallers p → IsQuiet p → Looks p q → IsHistory q.table.config q.seen
+pub looked_on : {p q : PassState} → IsTurn p → IsCallers p → IsQuiet p → OnlyDoes is_look p q → IsHistory q.table.config q.seen
     → TurnGoesOn None p q
 looked_on t seat quiet k history =
     undecided_part t seat quiet (quiet_looked quiet k) (widened (λ x h. grind arith) k.does) history k.keeps.call.call

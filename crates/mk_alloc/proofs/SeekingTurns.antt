@@ -1,19 +1,18 @@
 -- A New seeks room: the parts of its turn one after the other.
 use Rattle.mk_caller.proofs.Below.Laws.Vocabulary.{eqb-false, inr, is_undecided_new}
-use Rattle.mk_alloc.proofs.{JoinedLooks.{looks_object, looks_unplaced}, Vocabulary.{Answer, AsksRoom, BeginsCycle}}
-use Rattle.mk_alloc.proofs.Vocabulary.{Bool, Config, Does, Done, FinishesCycle, FitsNowhere, Flight, HasNoPlace}
-use Rattle.mk_alloc.proofs.Vocabulary.{IsAtPhase, IsHistory, IsOutOfStop, IsPlaced, IsQuiet, IsTurn, IsUnplaced, List}
-use Rattle.mk_alloc.proofs.Vocabulary.{Looks, Misfits, None, Object, OnlyLooks, Option, PassState, PlacedAllocation}
-use Rattle.mk_alloc.proofs.Vocabulary.{Seeks, Some, Steady, TurnGoesOn, ℕ, acting_caller, ap, arith, call_of, false}
-use Rattle.mk_alloc.proofs.Vocabulary.{is_look, looks_left, new_is_acting, now_of, object_for, object_made, only_seen}
-use Rattle.mk_alloc.proofs.Vocabulary.{own_seat, phase_of, place_after, place_now_for, refl, subst, world_of, ◌==◌, ◌∙◌}
-use Rattle.mk_alloc.proofs.{Vocabulary.◌≡◌, CalmStretches.{cycles_in_turn, is_of_cycles}}
-use Rattle.mk_alloc.proofs.{CycleParts.{begin_done, finish_done}, Going.{IsCallers, begun_on, finished_on, look_part}}
-use Rattle.mk_alloc.proofs.{Going.{looked_on, on_then, same_phase}, GrantParts.{calm_last, finish_room, grants_none}}
-use Rattle.mk_alloc.proofs.GrantParts.{last_behind, no_place, none_behind, none_last, none_then, nowhere_then}
-use Rattle.mk_alloc.proofs.GrantParts.{part_begun, room_kept, room_lacks, room_then}
-use Rattle.mk_alloc.proofs.PlacedTurns.{looked_beside, place_part, placed_on, served_by}
-use Rattle.mk_alloc.proofs.{FullLeaves.{cycles_leave, leaves_then}, Parts.Part, Stretches.widened}
+use Rattle.mk_alloc.proofs.{Parts.Part, Stretches.widened, JoinedLooks.{looks_object, looks_unplaced}}
+use Rattle.mk_alloc.proofs.{CalmStretches.{cycles_in_turn, is_of_cycles}, CycleParts.{begin_done, finish_done}}
+use Rattle.mk_alloc.proofs.{FullLeaves.{cycles_leave, leaves_then}, PlacedTurns.{looked_beside, place_part, placed_on}}
+use Rattle.mk_alloc.proofs.{PlacedTurns.served_by, Going.{IsCallers, begun_on, finished_on, look_part, looked_on}}
+use Rattle.mk_alloc.proofs.{Going.{on_then, same_phase}, GrantParts.{calm_last, finish_room, grants_none, last_behind}}
+use Rattle.mk_alloc.proofs.GrantParts.{no_place, none_behind, none_last, none_then, nowhere_then, part_begun, room_kept}
+use Rattle.mk_alloc.proofs.{GrantParts.{room_lacks, room_then}, Vocabulary.{Answer, AsksRoom, BeginsCycle, Bool}}
+use Rattle.mk_alloc.proofs.Vocabulary.{Config, Does, Done, FinishesCycle, FitsNowhere, Flight, HasNoPlace, IsAtPhase}
+use Rattle.mk_alloc.proofs.Vocabulary.{IsHistory, IsOutOfStop, IsPlaced, IsQuiet, IsTurn, IsUnplaced, List, OnlyDoes}
+use Rattle.mk_alloc.proofs.Vocabulary.{Misfits, None, Object, OnlyLooks, Option, PassState, PlacedAllocation, Seeks}
+use Rattle.mk_alloc.proofs.Vocabulary.{Some, Steady, TurnGoesOn, ℕ, acting_caller, ap, arith, call_of, false, is_look}
+use Rattle.mk_alloc.proofs.Vocabulary.{looks_left, new_is_acting, now_of, object_for, object_made, only_seen, own_seat}
+use Rattle.mk_alloc.proofs.Vocabulary.{phase_of, place_after, place_now_for, refl, subst, world_of, ◌==◌, ◌∙◌, ◌≡◌}
 use Rattle.mk_alloc.specs.{declared.objects.Request.Request, Rooms.{IsPlacedOr, MisfitsIdly, NeedsRoom, SeeksRoom}}
 use Rattle.mk_caller.specs.Below.Words.States.{WordsState}
 use Rattle.mk_core.specs.Allocations.{place_among_allocations}
@@ -179,7 +178,7 @@ module _ {w : WordsState} {p : PassState} {request : Request} (asked : SeeksRoom
     }
 
     -- and where it looked at the phase.
-    pub misfits_seen : {q : PassState} → Looks p q → IsTurn q → Misfits p q
+    pub misfits_seen : {q : PassState} → OnlyDoes is_look p q → IsTurn q → Misfits p q
     misfits_seen {q} k turn =
         let on = looked_on asked.turn (new_callers asked.unplaced) asked.quiet k turn.history in
         record {
@@ -193,7 +192,7 @@ module _ {w : WordsState} {p : PassState} {request : Request} (asked : SeeksRoom
 
 -- The phase that was seen is that after the look: no cycle is on, or one is.
 
-pub seen_at : {p q : PassState} {n : ℕ} → Looks p q → IsAtPhase p n → IsAtPhase q n
+pub seen_at : {p q : PassState} {n : ℕ} → OnlyDoes is_look p q → IsAtPhase p n → IsAtPhase q n
 seen_at k at = ap (λ (s : Steady). s.phase) k.keeps.steady ∙ at
 
 pub phase_seen : (p : PassState) → IsOutOfStop (now_of p) → (phase_of (now_of p).words == 1) ≡ false → IsAtPhase p 0

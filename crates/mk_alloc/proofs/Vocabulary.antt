@@ -42,14 +42,15 @@ pub use Rattle.mk_alloc.proofs.{JoinedLooks.{does_wider, looks_left}, Looks.acti
 pub use Rattle.mk_alloc.proofs.MayAct.{new_is_acting, off_four}
 pub use Rattle.mk_alloc.specs.{Retiring.IsDueSince, Placing.{object_for, place_now_for, FitsNowhere, IsOutOfStop}}
 pub use Rattle.mk_alloc.specs.Placing.{IsPlaced, IsUnplaced, OnlyLooks, is_look, is_placing}
-pub use Rattle.mk_alloc.specs.Rooms.{EndsOlder, RunsIfDue, BeginsTurn, IsQuiet, Looks, PassKeeps, TurnGoesOn}
-pub use Rattle.mk_alloc.specs.Rooms.{OwnLeaveAllButReleased, AnswersFull, AsksRoom, SeesNone, GrantsNone}
-pub use Rattle.mk_alloc.specs.{Rooms.{Misfits, RunsOne, Seeks, asks_room}, TurnCalls.{CalledInTurn, FreesObject}}
+pub use Rattle.mk_alloc.specs.Rooms.{EndsOlder, RunsIfDue, BeginsTurn, IsQuiet, PassKeeps, TurnGoesOn}
+pub use Rattle.mk_alloc.specs.Rooms.{OwnLeaveAllButReleased, AnswersFull, AsksRoom, SeesNone, GrantsNone, Misfits}
+pub use Rattle.mk_alloc.specs.{Rooms.{RunsOne, Seeks, asks_room}, TurnCalls.{CalledInTurn, FreesObject}}
 pub use Rattle.mk_alloc.specs.{TurnCalls.{IsAnsweredDouble, IsAnsweredFull}, TurnCycles.{EndsExactly, FreeIsExact}}
 pub use Rattle.mk_alloc.specs.TurnCycles.{FreesFirst, HasNoPlace, IsDueIn, RunsOneCycle, TurnsOfAreExact, finishes}
-pub use Rattle.mk_alloc.specs.TurnCycles.{has_step, is_grant, is_of_cycle, is_want, lets_go, within_turn}
+pub use Rattle.mk_alloc.specs.TurnCycles.{has_step, is_grant, is_of_cycle, lets_go, within_turn}
 pub use Rattle.mk_cycle.proofs.{Calm.frees_none, CleaningSteps.calm_keeps, KeptInParts.{free_then, gates_behind}}
 pub use Rattle.mk_cycle.proofs.{KeptInParts.same_config, OwnSteps.no_more_calls}
-pub use Rattle.mk_cycle.specs.{BeginCycle.BeginsCycle, EngineLaw.{IsAtPhase, is_pending_free, is_pending_free_at}}
-pub use Rattle.mk_cycle.specs.{FinishCycle.FinishesCycle, Tracing.is_tracing, TurnKeeps.{unchanged, Done, KeepsGates}}
-pub use Rattle.mk_cycle.specs.TurnKeeps.{LeavesTurn, begins_marking, clears, holds_gates, is_giving_back, sets_tallies}
+pub use Rattle.mk_cycle.specs.TurnKeeps.{is_want, OnlyDoes, unchanged, Done, KeepsGates, LeavesTurn, begins_marking}
+pub use Rattle.mk_cycle.specs.{TurnKeeps.{clears, holds_gates, is_giving_back, sets_tallies}, BeginCycle.BeginsCycle}
+pub use Rattle.mk_cycle.specs.{EngineLaw.{IsAtPhase, is_pending_free, is_pending_free_at}, FinishCycle.FinishesCycle}
+pub use Rattle.mk_cycle.specs.Tracing.is_tracing

@@ -1,6 +1,6 @@
 -- The parts of a Free's turn round its `quar`: gates are held and opened, a run is unmapped and wiped, tallies are set.
 use Rattle.std.specs.Prelude.{◌≡◌, ◌≢◌, ℕ, ◌*◌, ◌/◌, ◌<◌, Bool, true, false, List, [], Some, ◌+◌, ◌≤◌, slice_index, ◌↔◌}
-use Rattle.std.specs.Prelude.{◌==◌, IsTrue, map, None, ◌∷◌, ◌++◌}
+use Rattle.std.specs.Prelude.{◌==◌, IsTrue, map, None, ◌∷◌, ◌++◌, ◌||◌}
 use Rattle.mk_geom.specs.{declared.{pages.Page.Page, addresses.Cell.Cell}, PageUses.PartOfRun}
 use Rattle.mk_books.specs.KnownPages.{StandsOn}
 use Rattle.mk_core.specs.Allocations.{freed_where_it_stands, PlacedAllocation, fresh_words_of, held_by_allocations}
@@ -12,34 +12,15 @@ use Rattle.mk_core.specs.declared.{config.Config.Config, events.{Answer.Answer, 
 use Rattle.mk_core.specs.declared.events.{Seat.Seat, Step.Step, Tally.Tally}
 use Rattle.mk_core.specs.declared.{events.Word.Word, seats.{RunPages.RunPages, Stage.Stage}}
 use Rattle.mk_caller.specs.Below.Words.States.{PassState, WordsState, call_of, now_of, world_of}
-use Rattle.mk_caller.specs.Below.Words.Steps.{Does}
+use Rattle.mk_caller.specs.Below.Words.Steps.{Does, is_open}
 use Rattle.mk_alloc.specs.{Placing.{is_acting, ComesTo, IsOutOfStop, entry_for}, Retiring.{IsFreeAt, is_freeing_small}}
-use Rattle.mk_alloc.specs.Retiring.{is_freeing, loaded_free}
+use Rattle.mk_alloc.specs.Retiring.{is_freeing, loaded_free, is_following}
 pub use Rattle.mk_cycle.specs.Stops.{all_others}
-
--- kinds of step: what comes after the `quar`, and parts of it
-
--- the kinds of step that come after the `quar`
-abbrev pub is_following : Step → Bool
-is_following (Step.Look x) = true
-is_following (Step.Open j) = true
-is_following (Step.Head p v) = true
-is_following (Step.Wipe n) = true
-is_following (Step.Tally n v) = true
-is_following _ = false
-
--- steps that set a tally
-abbrev pub is_tallying : Step → Bool
-is_tallying (Step.Look x) = true
-is_tallying (Step.Tally n v) = true
-is_tallying _ = false
+use Rattle.mk_cycle.specs.{TurnKeeps.sets_tallies, FinishCycle.with_tally}
 
 -- steps that end a Free
 abbrev pub is_settling : Step → Bool
-is_settling (Step.Look x) = true
-is_settling (Step.Open j) = true
-is_settling (Step.Tally n v) = true
-is_settling _ = false
+is_settling s = is_open s || sets_tallies s
 
 -- The holder's call is as it was, and what it has done in its turn, and all that none but it changes but its gates.
 pub record IsButGates (s : Seat) (w v : World) : Type 0 where
@@ -97,17 +78,9 @@ pub record Changes (s : Seat) (change : Steady → Steady) (w v : World) : Type 
   pub steady : steady_of v ≡ change (steady_of w)
   pub gates : (j : ℕ) → is_held v.now.words j ≡ is_held w.now.words j
 
--- the tallies, with this one set
-abbrev pub with_tally : Tally → ℕ → Steady → Steady
-with_tally Tally.Held n x = record x { held = n }
-with_tally Tally.Fresh n x = record x { fresh = n }
-with_tally Tally.Cycles n x = record x { cycles = n }
-with_tally Tally.Released n x = record x { released = n }
-with_tally Tally.Full n x = record x { full = n }
-
 -- One tally is set.
 abbrev pub SetsTally : PassState → Tally → ℕ → PassState → Type 0
-SetsTally p t n q = ComesTo is_tallying p (Changes p.seat (with_tally t n) (world_of p)) [] q
+SetsTally p t n q = ComesTo sets_tallies p (Changes p.seat (with_tally t n) (world_of p)) [] q
 
 -- the pages, changed to these
 abbrev pub with_pages : List Page → Steady → Steady

@@ -81,8 +81,6 @@ pub record Requests (p : PassState) (request : Request) : Type 0 where
 abbrev pub HeldIsExact : PassState → Type 0
 HeldIsExact p = (now_of p).words.held ≡ held_by_allocations p.table.config (world_of p).allocations
 
--- the object that its New creates, and the place that first fit gives it now
-
 -- the object of the New that is under way
 abbrev pub object_for : PassState → Object
 object_for p = object_made p.table.config (call_of p).op
@@ -90,8 +88,6 @@ object_for p = object_made p.table.config (call_of p).op
 -- its first-fit place
 abbrev pub place_now_for : PassState → Option Place
 place_now_for p = place_after p.table.config p.seen (object_for p)
-
--- kinds of step: looks, and those that serve a New besides
 
 -- it is a look
 abbrev pub is_look : Step → Bool

@@ -13,29 +13,27 @@ use Rattle.mk_caller.specs.Below.Words.States.{PassState, world_of, WordsState, 
 use Rattle.mk_caller.specs.Below.Words.{TurnSteps.{IsFresh, turn_stays}, Steps.Does}
 use Rattle.mk_caller.specs.{Below.Words.Sweeping.SweepsNothing, States.caller_of_pass, Called.own_calls}
 use Rattle.mk_alloc.specs.TurnCycles.{EachIsFinished, EachIsSaid, HasNoPlace, RunsOneCycle, has_step, is_grant, is_hold}
-use Rattle.mk_alloc.specs.{TurnCycles.{is_want, lets_go}, Placing.{IsOutOfStop, is_look, IsUnplaced, Requests}}
-use Rattle.mk_alloc.specs.{Placing.{object_for, place_now_for}, declared.objects.Request.Request}
+use Rattle.mk_alloc.specs.{TurnCycles.lets_go, Placing.{IsOutOfStop, is_look, IsUnplaced, Requests, object_for}}
+use Rattle.mk_alloc.specs.{Placing.place_now_for, declared.objects.Request.Request}
 use Rattle.mk_cycle.specs.{BeginCycle.{EachIsBegun, BeginsCycle}, EngineLaw.{IsFreeForCycle, IsAtPhase, Ways}}
-use Rattle.mk_cycle.specs.{TurnKeeps.{KeepsGates, LeavesTurn, unchanged}, FinishCycle.FinishesCycle}
+use Rattle.mk_cycle.specs.{FinishCycle.FinishesCycle, TurnKeeps.{is_want, OnlyDoes}}
 
 -- An allocation is as it was, but that it may be released, and no longer fresh.
 pub record StaysOrIsReleased (a b : PlacedAllocation) : Type 0 where
   pub same : b ≡ record a { fresh = b.fresh; released = b.released }
   pub released : a.released ≡ true → b.released ≡ true
 
--- An allocation that is mapped keeps its words.
-abbrev pub KeepsItsWords : Config → World → World → PlacedAllocation → Type 0
-KeepsItsWords c w v a =
-    is_mapped c a ≡ true → (i : ℕ) → i < length (kinds_of c.types a.ty)
-    → slice_index v.now.words.heap (a.base + i) ≡ slice_index w.now.words.heap (a.base + i)
-
--- All registers and globals stay, and so does each allocation that isn't released. None is new.
+-- All registers and globals stay, and so does each allocation that isn't released, with its words if it is mapped. None
+-- is new.
 pub record LeavesAllButReleased (c : Config) (w v : World) : Type 0 where
   pub registers : v.now.words.registers ≡ w.now.words.registers
   pub globals : v.now.words.globals ≡ w.now.words.globals
   pub count : length v.allocations ≡ length w.allocations
   pub each : (a : ℕ) → StaysOrIsReleased (placed_at w.allocations a) (placed_at v.allocations a)
-  pub words : (a : ℕ) → KeepsItsWords c w v (placed_at w.allocations a)
+  pub words : (a : ℕ) → is_mapped c (placed_at w.allocations a) ≡ true
+      → (i : ℕ) → i < length (kinds_of c.types (placed_at w.allocations a).ty)
+      → slice_index v.now.words.heap ((placed_at w.allocations a).base + i)
+      ≡ slice_index w.now.words.heap ((placed_at w.allocations a).base + i)
 
 -- So does each event of the seat in the list,
 unfoldable pub OwnLeaveFrom : Config → Seat → World → List Event → Type 0
@@ -74,12 +72,6 @@ pub record TurnGoesOn (a : Option Answer) (p q : PassState) : Type 0 where
   pub decided : is_some a ≡ true → (call_of q).stage ≡ Stage.Give
   pub undecided : a ≡ None → call_of q ≡ call_of p
 
--- The holder looked, and all is as it was.
-pub record Looks (p q : PassState) : Type 0 where
-  pub does : Does is_look p q
-  pub keeps : LeavesTurn unchanged p q
-  pub gates : KeepsGates p q
-
 -- A cycle may run in it: the turn of this table is quiet, and the engine is made for the table's pages.
 pub record MayRunCycle (w : WordsState) (pages : ℕ) (p : PassState) : Type 0 where
   pub one_table : p.table ≡ w
@@ -89,24 +81,17 @@ pub record MayRunCycle (w : WordsState) (pages : ℕ) (p : PassState) : Type 0 w
 -- What an engine keeps to from one to the other. If it doesn't sweep it makes no sweeping mark. After each `begin` it
 -- does its part, and then nothing but holding gates comes before the close is wanted or the turn given back. At each
 -- `close` it says of the world what engines of its type say. If it doesn't keep on, it finishes at once each cycle that
--- it begins.
-pub record PassKeeps {V : Type 0} (ways : Ways V) (p q : PassState) : Type 0 where
+-- it begins. If the turn goes on, the wish to close or the `give` may be `yet` to come.
+pub record PassKeeps {V : Type 0} (yet : Bool) (ways : Ways V) (p q : PassState) : Type 0 where
   pub reached : ways.sweeps ≡ false → SweepsNothing p q
-  pub begun : EachIsBegun false ways.begins p q
-  pub said : EachIsSaid ways.tells p q
-  pub finished : ways.on ≡ false → EachIsFinished ways.closes p q
-
--- So it keeps in a turn that goes on: a cycle that was begun may still be on.
-pub record KeepsYet {V : Type 0} (ways : Ways V) (p q : PassState) : Type 0 where
-  pub reached : ways.sweeps ≡ false → SweepsNothing p q
-  pub begun : EachIsBegun true ways.begins p q
+  pub begun : EachIsBegun yet ways.begins p q
   pub said : EachIsSaid ways.tells p q
   pub finished : ways.on ≡ false → EachIsFinished ways.closes p q
 
 -- A cycle that was on is finished.
 pub record EndsOlder (p q : PassState) : Type 0 where
   pub looked : PassState
-  pub looks : Looks p looked
+  pub looks : OnlyDoes is_look p looked
   pub none : IsAtPhase p 0 → q ≡ looked
   pub on : IsAtPhase p 1 → FinishesCycle looked q
 
@@ -152,10 +137,8 @@ pub record SeesNone (kind : Step → Bool) (p q : PassState) : Type 0 where
 
 -- or of cycles only the end of one,
 pub record EndsOnly (p q : PassState) : Type 0 where
-  pub more : List Event
-  pub is : q.seen ≡ p.seen ++ more
-  pub none : has_step is_begin more ≡ false
-  pub ended : At is_end more
+  pub begins_none : SeesNone is_begin p q
+  pub ended : At is_end begins_none.more
 
 -- or one cycle at most that is begun, and it is ended.
 pub record RunsOne (p q : PassState) : Type 0 where

@@ -91,8 +91,6 @@ StayExactBehindOthers =
     (on : Bool) (c : Config) (s : Seat) (seats : List Seat) (es fs : List Event) → Has seats s → Grows seats es fs
     → TurnsOfAreExact on c s es → TurnsOfAreExact on c s fs
 
--- A call with `enter` and `leave` takes no step that is a sweeping mark, nor does one that finds its gate held.
-
 -- A call that needs no turn makes no sweeping mark.
 abbrev pub CallsSweepNothing : Type 0
 CallsSweepNothing = (p : PassState) (o : Op) (a : Answer) (q : PassState) → Called p o a q → SweepsNothing p q

@@ -47,7 +47,7 @@ fn finish_and_place<E: Engine, R: Threads + Wait + Sync>(
     ensures ends { EndsOnly turn.pass result.0.pass }
     ensures holds { HoldsFirst turn.pass result.0.pass }
     ensures closed { IsClosedBy (E.ways.closes engine.new) turn.pass result.0.pass }
-    ensures keeps { PassKeeps E.ways turn.pass result.0.pass }
+    ensures keeps { PassKeeps false E.ways turn.pass result.0.pass }
 {
     let (mut turn, _) = finish_cycle(rt, words, turn, engine);
     let placed = try_place(words, &mut turn, request);
@@ -66,7 +66,7 @@ fn place_behind_older<E: Engine, R: Threads + Wait + Sync>(
     ensures made_for { E.made_for engine.new ≡ E.made_for engine.old }
     ensures tried { IsPlacedOr MisfitsIdly result.1 turn.pass result.0.pass }
     ensures begins { SeesNone is_begin turn.pass result.0.pass }
-    ensures keeps { PassKeeps E.ways turn.pass result.0.pass }
+    ensures keeps { PassKeeps false E.ways turn.pass result.0.pass }
 {
     let mut turn = turn;
     let is_on = is_cycle_on(words, &mut turn);
@@ -91,7 +91,7 @@ fn place_behind_cycle<E: Engine, R: Threads + Wait + Sync>(
     ensures made_for { E.made_for engine.new ≡ E.made_for engine.old }
     ensures tried { IsPlacedOr MisfitsAtLast result.1 turn.pass result.0.pass }
     ensures one { RunsOne turn.pass result.0.pass }
-    ensures keeps { PassKeeps E.ways turn.pass result.0.pass }
+    ensures keeps { PassKeeps false E.ways turn.pass result.0.pass }
 {
     let mut turn = turn;
     begin_cycle(rt, words, &mut turn, engine);
@@ -112,7 +112,7 @@ pub(crate) fn make_room<E: Engine, R: Threads + Wait + Sync>(
     ensures made_for { E.made_for engine.new ≡ E.made_for engine.old }
     ensures tried { IsPlacedOr MisfitsAtLast result.1 turn.pass result.0.pass }
     ensures one { RunsOne turn.pass result.0.pass }
-    ensures keeps { PassKeeps E.ways turn.pass result.0.pass }
+    ensures keeps { PassKeeps false E.ways turn.pass result.0.pass }
 {
     let (turn, placed) = place_behind_older(rt, words, turn, request, engine);
     if placed {

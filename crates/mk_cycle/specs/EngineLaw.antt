@@ -6,8 +6,7 @@ use Rattle.mk_core.specs.{History.World, declared.{events.Word.Word, seats.Fligh
 use Rattle.mk_core.specs.{declared.{seats.Stage.Stage, events.Step.Step}, Words.phase_of, Cycles.MarksAreClosed}
 use Rattle.mk_words.specs.{States.{PassState, WordsState, world_of, now_of, call_of}, Below.Laws.Theorems.has_place}
 use Rattle.mk_words.specs.Steps.{Does, count_done, IsEnabledTo, Makes}
-use Rattle.mk_cycle.specs.TurnKeeps.{is_want, begins_marking, LeavesTurn, KeepsGates, IsGone, unchanged, but_phase}
-use Rattle.mk_cycle.specs.Tracing.is_tracing
+use Rattle.mk_cycle.specs.{TurnKeeps.{is_want, LeavesTurn, IsGone, but_phase}, Tracing.is_tracing}
 
 -- Whether a cycle that a free begins goes on after the call, and whether they make sweeping marks; what they do
 -- directly after a `begin`; what a value promises of the world in which it closed marks last, and what it did in that

@@ -104,7 +104,7 @@ CallersAreStill p es = (k : ℕ) → Has p.seats (Caller k) → Grows (Caller k 
 pub record GoesOnAlone {V : Type 0} (ways : Ways V) (h g : HostState) : Type 0 where
   pub is : g ≡ with_seen h g.pass.seen
   pub still : CallersAreStill h.pass g.pass.seen
-  pub keeps : PassKeeps ways h.pass g.pass
+  pub keeps : PassKeeps false ways h.pass g.pass
 
 -- Since this was seen the host made its last turns, where asked with a last cycle: no other is begun there.
 pub record BeginsAsAsked (with_cycle : Bool) (seen es : List Event) : Type 0 where

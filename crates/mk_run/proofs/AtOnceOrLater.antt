@@ -9,7 +9,7 @@ pub record IsAnsweredAs {V : Type 0} (ways : Ways V) (p : PassState) (o : Op) (t
     : Type 0 where
   pub home : q.home ≡ true
   pub answers : Answers ways.on p o told q.pass
-  pub keeps : PassKeeps ways p q.pass
+  pub keeps : PassKeeps false ways p q.pass
 
 module _ {V : Type 0} {ways : Ways V} {p : PassState} {o : Op} {told : Answer} (q : CallerState) where
   pub answered_at_once : q.home ≡ true → ((on : Bool) → Answers on p o told q.pass) → StaysBeside p q.pass
@@ -17,6 +17,6 @@ module _ {V : Type 0} {ways : Ways V} {p : PassState} {o : Op} {told : Answer} (
   answered_at_once home answers beside = record { home = home; answers = answers ways.on; keeps = beside_keeps beside }
 
   pub answered_later : (r : CallerState) → IsPutOff p o q.pass → r.home ≡ true → Answers ways.on q.pass o told r.pass
-      → PassKeeps ways q.pass r.pass → IsAnsweredAs ways p o told r
+      → PassKeeps false ways q.pass r.pass → IsAnsweredAs ways p o told r
   answered_later r off home answers more =
       record { home = home; answers = put_off_then off answers; keeps = put_off_keeps off more }

@@ -40,7 +40,7 @@ module _ {V : Type 0} {ways : Ways V} where
 
   -- after more that its pass has seen, and after events of others
 
-  seat_on : (p q : PassState) → PassKeeps ways p q → SeatKeeps ways p.table.config p.seat p.seen
+  seat_on : (p q : PassState) → PassKeeps false ways p q → SeatKeeps ways p.table.config p.seat p.seen
       → SeatKeeps ways p.table.config p.seat q.seen
   seat_on p q more before = record {
     unswept = λ off. seat_sweeps_on p q (more.reached off) (before.unswept off);
@@ -70,12 +70,12 @@ module _ {V : Type 0} {ways : Ways V} where
 
   -- the run of one script, from its first pass
   pub script_keeps : {w : WordsState} {k : ℕ} {first : PassState} (s : CallerState) (q r : PassState)
-      → IsFirstPass w k first → IsAtHome s first → PassKeeps ways s.pass q → r ≡ q
+      → IsFirstPass w k first → IsAtHome s first → PassKeeps false ways s.pass q → r ≡ q
       → SeatKeeps ways w.config (Caller k) r.seen
   script_keeps s q r at is more same = grind (arith, first_keeps, seat_on)
 
   -- The host goes on.
-  pub host_on : (w : WordsState) {p q : PassState} → p.table ≡ w → p.seat ≡ Host → PassKeeps ways p q
+  pub host_on : (w : WordsState) {p q : PassState} → p.table ≡ w → p.seat ≡ Host → PassKeeps false ways p q
       → SeatKeeps ways w.config Host p.seen → SeatKeeps ways w.config Host q.seen
   host_on w table seat more before = grind (arith, seat_on)
 

@@ -9,7 +9,7 @@ invariant-instructions g l = record {
   running : IsRunning g.E.Engine.ways.on l.fn.program l.fn.k l.fn.caller.pass l.caller.pass (script_of l.feed l.counts);
   made_for : g.E.Engine.made_for l.engine ≡ g.E.Engine.made_for l.fn.ready.engine;
   refused : l.counts.refused ≤ l.counts.ops;
-  keeps : PassKeeps g.E.Engine.ways
+  keeps : PassKeeps false g.E.Engine.ways
       l.fn.caller.pass l.caller.pass;
 }
 
