@@ -4,7 +4,7 @@ use Rattle.std.proofs.lemmas.Bool.{and_left, and_right, lt-leb}
 use Rattle.mk_books.proofs.Vocabulary.{AreSets, Bool, List, ap, arith, bit_at, cases_eq, cases_lt, cond, false, inl}
 use Rattle.mk_books.proofs.Vocabulary.{inr, is_member, nat_eq, nat_lt, not, refl, subst, sym, ℕ, ◌%◌, ◌*◌, ◌+◌}
 use Rattle.mk_books.proofs.{Vocabulary.{◌<◌, ◌∙◌, ◌≡◌, ◌≤◌}}
-use Rattle.mk_books.specs.PageSets.{MovesPages, PutsBits, is_between, tells_free}
+use Rattle.mk_books.specs.PageSets.{MovesPages, PutsThree, is_between, tells_free}
 
 -- of a range the pages of the first words
 abbrev pub below_word : ℕ → ℕ → ℕ → ℕ → Bool
@@ -23,14 +23,6 @@ none_moved sets from end free are_sets = record {
     | inr high ↦ grind (arith, le-ltb, and_left, and_right)
   ];
 }
-
--- the pages of a word are put into the three sets
-pub record PutsThree (before third : List ℕ) (word bits : ℕ) (free : Bool) : Type 0 where
-  pub first : List ℕ
-  pub second : List ℕ
-  pub into_free : PutsBits before first 16 word bits free
-  pub out_of_use : PutsBits first second 17 word bits (not free)
-  pub into_uncleaned : PutsBits second third 19 word bits free
 
 -- each set is one of the three, or another
 by_set : (P : ℕ → Type 0) → P 16 → P 17 → P 19

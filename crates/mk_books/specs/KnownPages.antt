@@ -18,6 +18,10 @@ has_free_cell class leaf stands = is_some (first_where not (cells_taken class le
 abbrev pub is_in_use : List Page → ℕ → Bool
 is_in_use pages number = not (is_free_page (use_of_page (page_at pages number)))
 
+-- nothing stands on the page
+abbrev pub is_free : List Page → ℕ → Bool
+is_free pages number = is_free_page (use_of_page (page_at pages number))
+
 -- the page has freed cells
 abbrev pub has_freed_cells : List ℕ → ℕ → Bool
 has_freed_cells freed number = not (slice_index freed number == 0)

@@ -74,6 +74,15 @@ pub record PutsBits (before after : List ℕ) (set word bits : ℕ) (inside : Bo
   pub other_sets : (other number : ℕ) → other < 20 → number < 4096 → (other ≡ set → ⊥)
       → is_member after other number ≡ is_member before other number
 
+-- The pages of a word that have a 1 in these bits are put among the free ones and among those of them that may be
+-- marked, or out of both and among those in use.
+pub record PutsThree (before after : List ℕ) (word bits : ℕ) (free : Bool) : Type 0 where
+  pub first : List ℕ
+  pub second : List ℕ
+  pub into_free : PutsBits before first 16 word bits free
+  pub out_of_use : PutsBits first second 17 word bits (not free)
+  pub into_uncleaned : PutsBits second after 19 word bits free
+
 -- the sets by which free pages are told from those in use
 abbrev pub tells_free : ℕ → Bool
 tells_free set = set == 16 || (set == 17 || set == 19)

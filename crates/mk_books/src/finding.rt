@@ -3,7 +3,7 @@ ghost use Rattle.std.specs.Prelude.{◌≡◌, ℕ, ◌<◌, ◌≤◌, List, le
 ghost use Rattle.mk_geom.specs.{declared.pages.Page.Page, PageUses.{first_where, is_free_page, range_start}};
 ghost use Rattle.mk_geom.specs.PageUses.{resident_pages, use_of_page, uses_of_pages};
 ghost use Rattle.mk_books.specs.KnownPages.{Shows, is_quarantined_page, is_uncleaned};
-ghost use Rattle.mk_books.specs.KnownPages.{IsNext, has_free_cell, has_freed_cells, is_in_use, page_at};
+ghost use Rattle.mk_books.specs.KnownPages.{IsNext, has_free_cell, has_freed_cells, is_free, is_in_use, page_at};
 ghost use Rattle.mk_books.specs.PageSets.{AreSets, is_member, is_of_set};
 
 use crate::kinds::{PageKind, kind_of};
@@ -75,6 +75,14 @@ impl PageMap {
             return Some(from);
         }
         self.next_of(IN_USE, from)
+    }
+
+    /// The lowest free page, of those from this one on.
+    pub fn next_free(&self, from: u64) -> Option<u64>
+        ensures { (pages : List Page) (freed : List ℕ) → Shows self.now pages freed
+            → IsNext (is_free pages) from (length pages) result }
+    {
+        self.next_of(FREE, from)
     }
 
     /// The lowest page that has freed cells, of those from this one on.

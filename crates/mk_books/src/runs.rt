@@ -1,11 +1,11 @@
 //! What a page map is told of runs: the header words of all their pages at once.
 ghost use Rattle.std.specs.Prelude.{◌≡◌, ◌+◌, ◌*◌, ◌≤◌, ◌^◌, ◌<◌, true, false, length};
 ghost use Rattle.mk_geom.specs.PageUses.{PartOfRun};
-ghost use Rattle.mk_books.specs.PageSets.{AreSets, MovesPages, is_between};
+ghost use Rattle.mk_books.specs.PageSets.{AreSets, MovesPages, PutsThree, is_between};
 ghost use Rattle.mk_books.specs.KnownPages.{AreBare, HeadersSay, RunIsTold, StandsOn, run_word, with_headers};
 
 use crate::page_map::PageMap;
-use crate::sets::{bits_between, put_bits};
+use crate::sets::{bits_between, ones_below, put_bits};
 use crate::sorting::{FREE, IN_USE, UNCLEANED};
 use mk_geom::Page;
 
@@ -42,20 +42,49 @@ fn clear_headers(pages: &mut [Page], first: u64, count: u64)
     }
 }
 
-/// Moves the pages from one on and below another. As free ones they are in the sets of the free and of the uncleaned
-/// pages, and else in that of the pages in use.
+/// Moves the pages of a word of the sets that have a 1 in these bits. As free ones they are in the sets of the free and
+/// of the uncleaned pages, and else in that of the pages in use.
 #[inline(always)]
-fn move_pages(sets: &mut [u64], from: u64, end: u64, free: bool)
+fn move_word(sets: &mut [u64], word: u64, bits: u64, free: bool)
+    requires sets { AreSets sets.old }
+    requires word { word < 64 }
+    ensures { PutsThree sets.old sets.new word bits free }
+{
+    put_bits(sets, FREE, word, bits, free);
+    put_bits(sets, IN_USE, word, bits, !free);
+    put_bits(sets, UNCLEANED, word, bits, free);
+}
+
+/// Moves pages as `move_pages` does, a word after the other.
+#[inline(never)]
+fn move_words(sets: &mut [u64], from: u64, end: u64, free: bool)
     requires sets { AreSets sets.old }
     requires end { end ≤ 4096 }
     ensures { MovesPages sets.old sets.new (is_between from end) free }
 {
     for word in from / 64..end.div_ceil(64) {
         let bits = bits_between(word, from, end);
-        put_bits(sets, FREE, word, bits, free);
-        put_bits(sets, IN_USE, word, bits, !free);
-        put_bits(sets, UNCLEANED, word, bits, free);
+        move_word(sets, word, bits, free);
     }
+}
+
+/// Moves the pages from one on and below another. As free ones they are in the sets of the free and of the uncleaned
+/// pages, and else in that of the pages in use. Those of a run are mostly in one word of the sets.
+#[inline(always)]
+fn move_pages(sets: &mut [u64], from: u64, end: u64, free: bool)
+    requires sets { AreSets sets.old }
+    requires some { from < end }
+    requires end { end ≤ 4096 }
+    ensures { MovesPages sets.old sets.new (is_between from end) free }
+{
+    let word = from / 64;
+    let last = end - 64 * word;
+    if last < 64 {
+        let bits = ones_below(last) & !ones_below(from % 64);
+        move_word(sets, word, bits, free);
+        return;
+    }
+    move_words(sets, from, end, free);
 }
 
 impl PageMap {

@@ -1,5 +1,6 @@
 pub mod AllBelow
 pub mod AllBelowParts
+pub mod Below
 pub mod Bits
 pub mod BitsWithout
 pub mod CellsOfAllocations
@@ -51,7 +52,7 @@ pub mod Steps
 pub mod Touched
 pub mod TouchedTests
 pub mod UnreleasedStorage
+pub mod Vocabulary
 pub mod WhoHoldsWhat
 pub mod Wiped
 pub mod WordBits
-pub mod Vocabulary

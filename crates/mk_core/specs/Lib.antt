@@ -1,5 +1,6 @@
 pub mod Accesses
 pub mod Allocations
+pub mod Below
 pub mod Calls
 pub mod Cells
 pub mod Conditions

@@ -14,6 +14,7 @@ mod failing;
 mod gates;
 mod history_laws;
 mod laws;
+pub mod lower;
 mod machine;
 mod marker_conditions;
 mod order;

@@ -8,7 +8,7 @@ use Rattle.mk_laws.proofs.Vocabulary.{small_pages, sym, true, use_under, uses_of
 use Rattle.mk_laws.proofs.Vocabulary.{◌≤◌, ◌⊎◌}
 use Rattle.mk_geom.proofs.{FirstFit.{cell_place_is, run_place_is}, HeaderLemmas.word_of-header_of}
 use Rattle.mk_geom.specs.PageUses.{is_free_page, MayTakeCell}
-use Rattle.mk_books.proofs.UsedBitLemmas.{length-bits_of}
+use Rattle.mk_core.proofs.Below.Books.UsedBitLemmas.{length-bits_of}
 use Rattle.mk_core.proofs.{ObjectHeaders.small_header, Sizes.class_for_small}
 
 -- the pages of the place are free, and this many more may be resident

@@ -8,7 +8,7 @@ use Rattle.mk_laws.proofs.Vocabulary.{resident_pages, set_by, shows_on, slice_in
 use Rattle.mk_laws.proofs.Vocabulary.{use_under, used_on, uses_of_pages, zero, ◌&&◌, ◌+◌, ◌-◌, ◌<◌, ◌||◌, ◌∙◌, ◌∷◌, ◌≡◌}
 use Rattle.mk_laws.proofs.{Vocabulary.{◌≢◌, ◌≤◌}, Basics.{with_header_on, with_used_on}}
 use Rattle.mk_geom.specs.{PageUses.use_of_page, Storages.page_in}
-use Rattle.mk_books.proofs.PlaceLemmas.{count_by-map}
+use Rattle.mk_core.proofs.Below.Books.PlaceLemmas.{count_by-map}
 use Rattle.mk_laws.proofs.Room.{HasRoom, in_plot, is_taken_page}
 
 -- Counts of the numbers below one that pass a test.

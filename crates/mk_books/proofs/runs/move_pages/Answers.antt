@@ -1,24 +1,17 @@
-use Rattle.std.proofs.lemmas.Grind.{div_ceil_times}
-use Rattle.mk_books.proofs.{Vocabulary.arith, MovedPages.{all_moved, none_moved, one_more_moved}}
+use Rattle.std.proofs.Common.{◌/◌}
+use Rattle.mk_books.proofs.{BitRanges.range_bits, MovedPages.{all_moved, none_moved, one_more_moved}}
+use Rattle.mk_books.proofs.Vocabulary.{ap, arith, nat_lt, refl, ℕ, ◌%◌, ◌*◌, ◌+◌, ◌-◌, ◌∙◌, ◌≡◌}
 use Rattle.mk_books.proofs.runs.move_pages.Goals as goal
 
-pub loop-word-init : goal.loop-word-init
-loop-word-init c = record { moves = none_moved c.args.sets.now c.args.from c.args.end c.args.free c.requires.sets }
-
-pub loop-word-preserved : goal.loop-word-preserved
-loop-word-preserved c = record {
-  moves = one_more_moved c.args.from c.args.end c.loop-word.word c.loop-word.invariant.moves (record {
-    first = c.put_bits.new.sets;
-    second = c.put_bits-in-loop-word.new.sets;
-    into_free = c.put_bits.ensures;
-    out_of_use = c.put_bits-in-loop-word.ensures;
-    into_uncleaned = c.put_bits-in-loop-word-2.ensures;
-  }) c.bits_between-bits.ensures;
-}
-
-pub returns : goal.returns
-returns c = all_moved c.args.from c.args.end c.loop-word.word (omega (
-  arith,
-  c.div_ceil-word-end.ensures,
-  div_ceil_times c.args.end 64 (omega arith),
-)) c.loop-word.invariant.moves
+pub returns-then-last-lt64 : goal.returns-then-last-lt64
+returns-then-last-lt64 c =
+    let word : ℕ = c.args.from / 64 in
+    let rest : c.args.from % 64 ≡ c.args.from - 64 * word = omega arith in
+    all_moved c.args.from c.args.end (word + 1) (omega (arith, c.if-last-lt64.true))
+    (one_more_moved c.args.from c.args.end word
+    (none_moved c.args.sets.now c.args.from c.args.end c.args.free c.requires.sets) c.move_word.ensures
+    (λ place within. range_bits word c.args.from c.args.end c.ones_below-then-last-lt64.result
+      c.ones_below.result _ place
+    (omega arith) within (c.ones_below.ensures place within)
+    (c.ones_below-then-last-lt64.ensures place within ∙ ap (nat_lt place) rest)
+      (omega (arith, c.ones_below-then-last-lt64.type_inv)) refl))

@@ -1,5 +1,5 @@
 use Rattle.mk_books.proofs.MovedPages.{below_word}
-use Rattle.mk_books.proofs.runs.move_pages.Given as goal
+use Rattle.mk_books.proofs.runs.move_words.Given as goal
 use Rattle.mk_books.specs.PageSets.{MovesPages}
 
 abbrev pub invariant-loop-word : goal.invariant-loop-word
