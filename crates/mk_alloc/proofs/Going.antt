@@ -134,7 +134,8 @@ pub undecided_part : {p q : PassState} → IsTurn p → IsCallers p → IsQuiet 
 undecided_part t seat quiet after d history call =
     grind (arith, widened, cycles_in_turn, seen_behind, is_of_cycles, goes_undecided, does_stretch, append-nil)
 
-pub looked_on : {p q : PassState} → IsTurn p → IsCallers p → IsQuiet p → OnlyDoes is_look p q → IsHistory q.table.config q.seen
+pub looked_on : {p q : PassState} → IsTurn p → IsCallers p → IsQuiet p → OnlyDoes is_look p q
+    → IsHistory q.table.config q.seen
     → TurnGoesOn None p q
 looked_on t seat quiet k history =
     undecided_part t seat quiet (quiet_looked quiet k) (widened (λ x h. grind arith) k.does) history k.keeps.call.call

@@ -138,7 +138,7 @@ module _ {c : Config} {es : List Event} (h : IsHistory c es) (at : phase_of (lef
   kept_told =
       let all = parts_at_each never_granted (λ a. cond {A = ℕ} (is_in_snapshot_of_cycle a) 1 0) (λ a. cond
       (is_kept a) 1 0) (λ a. cond (is_new f a) 1 0) xs (λ i. parts (placed_at xs i) (new_is_in_snapshot i)) in
-      let marked = cells_are_as_many c es h quiet is_kept (λ p. bit_and (slice_index w.snapshot p) (slice_index w.marks p)) marked_are in
+      let marked = cells_are_as_many c es h quiet is_kept _ marked_are in
       let unmarked = cells_are_as_many c es h quiet (is_new f) (left_unmarked w) unmarked_are in
       omega arith
 

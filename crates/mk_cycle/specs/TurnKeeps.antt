@@ -18,7 +18,6 @@ begins_marking (Step.Open j) = true
 begins_marking (Step.Mark p v) = true
 begins_marking _ = false
 
-
 -- before a `begin`: the marks of the cycle before are cleared, the snapshot is taken, and nothing is fresh
 abbrev pub clears : Step → Bool
 clears (Step.Look x) = true

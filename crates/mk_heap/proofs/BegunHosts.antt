@@ -19,7 +19,8 @@ module _ (begins : Config → Seat → List Event → List Event → Type 0) whe
   ending_begun : {p q : PassState} → Has p.seats p.seat → EndsCycle p q → EachIsBegun false begins p q
   ending_begun {p} {q} own ends =
       let look = step_begins_none begins p ends.looked (Step.Look Word.Phase) own ends.looks refl in
-      ⊎_elim (λ (none : IsAtPhase p 0). subst (λ (x : PassState). EachIsBegun false begins p x) (sym (ends.none none)) look)
+      ⊎_elim (λ (none : IsAtPhase p 0). subst (λ (x : PassState). EachIsBegun false begins p x) (sym (ends.none none))
+      look)
       (λ (on : IsAtPhase p 1). begun_then begins p ends.looked q (only_seen_by p ends.looked
       (Step.Look Word.Phase) ends.looks) look (finish_begins_none begins ends.looked q (has_on p ends.looked
       (only_seen_by p ends.looked (Step.Look Word.Phase) ends.looks) own) (ends.on on))) ends.phase
@@ -37,7 +38,8 @@ module _ (begins : Config → Seat → List Event → List Event → Type 0) whe
 
   -- a whole cycle
   pub cycle_begun : {p idle begun ended q : PassState} → TakesIdleTurn p idle → BeginsCycle idle begun
-      → EachIsBegun true begins idle begun → FinishesCycle begun ended → Makes ended Step.Give q → EachIsBegun false begins p q
+      → EachIsBegun true begins idle begun → FinishesCycle begun ended → Makes ended Step.Give q
+      → EachIsBegun false begins p q
   cycle_begun {p} {idle} {begun} {ended} {q} takes law part finishes gives =
       let own_begun = has_on idle begun law.pass (has_on p idle (idle_same takes) (taken_own takes.takes)) in
       let whole : EachIsBegun false begins idle ended = left_then begins law.pass part

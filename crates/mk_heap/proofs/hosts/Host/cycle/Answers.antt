@@ -78,7 +78,8 @@ pub returns-clause-begun : goal.returns-clause-begun
 returns-clause-begun g c =
     let view = home_view c.take_home-home.ensures c.self.view_is in
     let q : PassState = c.give-back.result in
-    subst (λ (h : HostState). EachIsBegun false g.E.Engine.ways.begins h.pass q) view (cycle_begun g.E.Engine.ways.begins
+    subst (λ (h : HostState). EachIsBegun false g.E.Engine.ways.begins h.pass q) view
+    (cycle_begun g.E.Engine.ways.begins
     c.take_idle_turn-turn.ensures.takes c.begin_cycle.ensures.law c.begin_cycle.ensures.begun
     c.finish_cycle-turn.ensures.law c.give-back.ensures.acts.makes)
 
