@@ -7,12 +7,13 @@ use Rattle.mk_alloc.proofs.{PlacedTurns.served_by, Going.{IsCallers, begun_on, f
 use Rattle.mk_alloc.proofs.{Going.{on_then, same_phase}, GrantParts.{calm_last, finish_room, grants_none, last_behind}}
 use Rattle.mk_alloc.proofs.GrantParts.{no_place, none_behind, none_last, none_then, nowhere_then, part_begun, room_kept}
 use Rattle.mk_alloc.proofs.{GrantParts.{room_lacks, room_then}, Vocabulary.{Answer, AsksRoom, BeginsCycle, Bool}}
-use Rattle.mk_alloc.proofs.Vocabulary.{Config, Does, Done, FinishesCycle, FitsNowhere, Flight, HasNoPlace, IsAtPhase}
+use Rattle.mk_alloc.proofs.Vocabulary.{Config, Does, FinishesCycle, FitsNowhere, Flight, HasNoPlace, IsAtPhase}
 use Rattle.mk_alloc.proofs.Vocabulary.{IsHistory, IsOutOfStop, IsPlaced, IsQuiet, IsTurn, IsUnplaced, List, OnlyDoes}
 use Rattle.mk_alloc.proofs.Vocabulary.{Misfits, None, Object, OnlyLooks, Option, PassState, PlacedAllocation, Seeks}
 use Rattle.mk_alloc.proofs.Vocabulary.{Some, Steady, TurnGoesOn, ℕ, acting_caller, ap, arith, call_of, false, is_look}
 use Rattle.mk_alloc.proofs.Vocabulary.{looks_left, new_is_acting, now_of, object_for, object_made, only_seen, own_seat}
 use Rattle.mk_alloc.proofs.Vocabulary.{phase_of, place_after, place_now_for, refl, subst, world_of, ◌==◌, ◌∙◌, ◌≡◌}
+use Rattle.mk_alloc.proofs.Vocabulary.Holding
 use Rattle.mk_alloc.specs.{declared.objects.Request.Request, Rooms.{IsPlacedOr, MisfitsIdly, NeedsRoom, SeeksRoom}}
 use Rattle.mk_caller.specs.Below.Words.States.{WordsState}
 use Rattle.mk_core.specs.Allocations.{place_among_allocations}
@@ -150,7 +151,7 @@ module _ {w : WordsState} {p : PassState} {request : Request} (asked : SeeksRoom
               (room_kept (object_for p) seat asked.quiet.free.decided no_place_now part);
           unplaced = record {
             new = ap is_undecided_new b.call ∙ asked.unplaced.new;
-            placing = ap (λ (x : Done). x.placing) b.done ∙ asked.unplaced.placing;
+            placing = ap (λ (x : Holding). x.placing) b.done ∙ asked.unplaced.placing;
             phase = inr (ap (λ (s : Steady). s.phase) b.steady);
           };
           nowhere = ap (λ (c : Config). place_after c q.seen (object_for q))
@@ -168,7 +169,7 @@ module _ {w : WordsState} {p : PassState} {request : Request} (asked : SeeksRoom
         (finish_room (object_for p) seat asked.quiet.free.decided no_place_now f asked.turn history)
 
     pub room_finished : {q : PassState} → FinishesCycle p q → IsTurn q → SeeksRoom w q request
-    room_finished f turn = grind (arith, still_seeks, seeks_finished, Done)
+    room_finished f turn = grind (arith, still_seeks, seeks_finished, Holding)
 
     pub misfits_finished : {q r : PassState} → FinishesCycle p q → IsHistory q.table.config q.seen → Misfits q r
         → OnlyLooks q r → MisfitsIdly p r
@@ -185,7 +186,7 @@ module _ {w : WordsState} {p : PassState} {request : Request} (asked : SeeksRoom
           turn = turn;
           seeks = looked_undecided on k.does turn.history;
           unplaced = unplaced_kept asked.unplaced k.keeps.call.call
-              (ap (λ (x : Done). x.placing) k.keeps.call.done) (ap (λ (s : Steady). s.phase) k.keeps.steady);
+              (ap (λ (x : Holding). x.placing) k.keeps.call.done) (ap (λ (s : Steady). s.phase) k.keeps.steady);
           nowhere = still_nowhere p q (ap (λ (s : Steady). s.allocations) k.keeps.steady)
               (ap (λ (x : PassState). x.table.config) k.keeps.call.pass) (same_object on) none;
         }

@@ -50,7 +50,7 @@ pub use Rattle.mk_alloc.specs.TurnCycles.{FreesFirst, HasNoPlace, IsDueIn, RunsO
 pub use Rattle.mk_alloc.specs.TurnCycles.{has_step, is_grant, is_of_cycle, lets_go, within_turn}
 pub use Rattle.mk_cycle.proofs.{Calm.frees_none, CleaningSteps.calm_keeps, KeptInParts.{free_then, gates_behind}}
 pub use Rattle.mk_cycle.proofs.{KeptInParts.same_config, OwnSteps.no_more_calls}
-pub use Rattle.mk_cycle.specs.TurnKeeps.{is_want, OnlyDoes, unchanged, Done, KeepsGates, LeavesTurn, begins_marking}
-pub use Rattle.mk_cycle.specs.{TurnKeeps.{clears, holds_gates, is_giving_back, sets_tallies}, BeginCycle.BeginsCycle}
+pub use Rattle.mk_cycle.specs.TurnKeeps.{is_want, OnlyDoes, unchanged, KeepsGates, LeavesTurn, begins_marking, clears}
+pub use Rattle.mk_cycle.specs.{TurnKeeps.{holds_gates, is_giving_back, sets_tallies}, BeginCycle.BeginsCycle}
 pub use Rattle.mk_cycle.specs.{EngineLaw.{IsAtPhase, is_pending_free, is_pending_free_at}, FinishCycle.FinishesCycle}
 pub use Rattle.mk_cycle.specs.Tracing.is_tracing

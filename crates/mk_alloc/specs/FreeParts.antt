@@ -179,22 +179,8 @@ pub record FreesOnce (p q : PassState) : Type 0 where
   pub only : FreesOnly p.table.config p.seen (world_of q).allocations q.seen
 
 -- the phase, and all that is counted but held and fresh words
-pub record Counted : Type 0 where
-  pub phase : ℕ
-  pub cycles : ℕ
-  pub released : ℕ
-  pub full : ℕ
-  pub releases : ℕ
-
--- the part of a world that a Free's counts need
-abbrev pub counted : Steady → Counted
-counted x = record {
-  phase = x.phase;
-  cycles = x.cycles;
-  released = x.released;
-  full = x.full;
-  releases = releases x.allocations;
-}
+abbrev pub counted : Steady → List ℕ
+counted x = x.phase ∷ x.cycles ∷ x.released ∷ x.full ∷ releases x.allocations ∷ []
 
 -- The call is decided. Its turn has the same place and cycle, and these counts are the same.
 pub record IsDecidedAt (s : Seat) (w v : World) : Type 0 where

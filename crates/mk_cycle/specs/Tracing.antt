@@ -1,10 +1,11 @@
 -- What the holder of the turn does that traces: steps of its own that keep to a rule, and all else left as it was.
 use Rattle.std.specs.Prelude.{◌≡◌, ℕ, Bool, true, false, List, [], ◌∷◌, ⊤}
-use Rattle.mk_core.specs.declared.{config.Config.Config, events.{Event.Event, Seat.Seat, Step.Step, Word.Word}}
-use Rattle.mk_core.specs.{declared.seats.Flight.Flight, Frames.{CountsAreLeft, Steady, steady_of}, Moments.Moment}
-use Rattle.mk_core.specs.History.{World, is_same_seat, world_behind}
+use Rattle.mk_core.specs.{declared.config.Config.Config, declared.events.Event.Event, declared.events.Seat.Seat}
+use Rattle.mk_core.specs.{declared.events.Step.Step, declared.events.Word.Word, declared.seats.Flight.Flight}
+use Rattle.mk_core.specs.{Frames.{CountsAreLeft, Steady, steady_of}, Moments.Moment, History.{World, is_same_seat}}
+use Rattle.mk_core.specs.{History.world_behind, declared.seats.Holding.Holding}
 use Rattle.mk_words.specs.{States.{PassState, world_of}, Steps.{Does, count_done}}
-use Rattle.mk_cycle.specs.TurnKeeps.{but_phase, done_of, Done}
+use Rattle.mk_cycle.specs.TurnKeeps.{but_phase, done_of}
 
 -- steps that look, mark and blacken in a stop
 abbrev pub is_marking : Step → Bool
@@ -34,7 +35,7 @@ pub record Untouched : Type 0 where
   pub globals : List ℕ
   pub heap : List ℕ
   pub flights : List Flight
-  pub done : Done
+  pub done : Holding
 
 -- what it leaves of a world
 abbrev pub untouched_of : World → Untouched

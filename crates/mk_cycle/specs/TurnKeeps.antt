@@ -1,8 +1,7 @@
 -- The kinds of step that the parts of a cycle are made of, and what the turn's holder finds unchanged over each part.
-use Rattle.std.specs.Prelude.{Bool, true, false, ◌≡◌, ℕ, ◌<◌, [], Option}
-use Rattle.mk_core.specs.declared.{events.Step.Step, seats.{Placing.Placing, OwnCycle.OwnCycle}}
-use Rattle.mk_core.specs.{declared.seats.RunPages.RunPages, Frames.{Steady, steady_of, CountsAreLeft}}
-use Rattle.mk_core.specs.{Moments.{Moment, is_held}, NewPlaces.is_run_gone, declared.events.Word.Word}
+use Rattle.std.specs.Prelude.{Bool, true, false, ◌≡◌, ℕ, ◌<◌, [], None}
+use Rattle.mk_core.specs.{Frames.{Steady, steady_of, CountsAreLeft}, Moments.{Moment, is_held}, NewPlaces.is_run_gone}
+use Rattle.mk_core.specs.{declared.events.Step.Step, declared.events.Word.Word, declared.seats.Holding.Holding}
 use Rattle.mk_words.specs.{States.{PassState, world_of, now_of, call_of}, Steps.Does}
 
 -- it is a `want`
@@ -52,15 +51,8 @@ sets_tallies (Step.Tally n v) = true
 sets_tallies _ = false
 
 -- what was done in the turn, but for the last look: the place of a New, the run that a Free freed, and the own cycle
-pub record Done : Type 0 where
-  pub placing : Placing
-  pub freed : Option RunPages
-  pub cycle : OwnCycle
-
--- what the turn's holder has done in its call
-abbrev pub done_of : Moment → Done
-done_of m =
-    record { placing = m.seats.holding.placing; freed = m.seats.holding.freed; cycle = m.seats.holding.cycle }
+abbrev pub done_of : Moment → Holding
+done_of m = record m.seats.holding { hand = None }
 
 -- The run that the call freed, if it freed one, is unmapped and wiped.
 abbrev pub IsGone : PassState → Type 0
