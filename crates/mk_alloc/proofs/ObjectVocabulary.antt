@@ -18,10 +18,10 @@ pub use Rattle.mk_alloc.specs.{FreeParts.{all_others, is_settling, WipesTo}, Ret
 pub use Rattle.mk_alloc.specs.Retiring.{CallIsAt, HasFreed, IsFreeAt, IsFreedAt, is_freeing, is_loading, loaded_free}
 pub use Rattle.mk_alloc.specs.{Retiring.is_freeing_small, Placing.{is_acting, is_steady_word, IsAsLeft, ComesTo}}
 pub use Rattle.mk_alloc.specs.Placing.{GoesTo, HasCarved, IsGrantedAt, IsOutOfStop, IsUnplaced, MayTake, OnlyLooks}
-pub use Rattle.mk_alloc.specs.Placing.{entry_for, is_look, is_placing, object_at_place, object_for, Carving}
-pub use Rattle.mk_alloc.specs.Placing.{IsCellReady, Serving}
+pub use Rattle.mk_alloc.specs.Placing.{entry_for, is_placing, object_at_place, object_for, Carving, IsCellReady}
+pub use Rattle.mk_alloc.specs.Placing.Serving
 pub use Rattle.mk_caller.specs.States.{value_of}
-pub use Rattle.mk_cycle.specs.{TurnKeeps.sets_tallies, FinishCycle.with_tally}
+pub use Rattle.mk_cycle.specs.{TurnKeeps.{is_look, sets_tallies}, FinishCycle.with_tally}
 
 -- steps that hold gates
 abbrev pub is_holding : Step → Bool

@@ -15,6 +15,7 @@ use Rattle.mk_core.specs.declared.seats.{Placing.TheVariants.{Unplaced, Granted}
 use Rattle.mk_caller.specs.{Called.own_calls, Below.Words.States.{PassState, call_of, now_of, world_of, WordsState}}
 use Rattle.mk_caller.specs.Below.Words.{Steps.Does, Sweeping.SweepsNothing}
 use Rattle.mk_alloc.specs.declared.objects.{Request.Request, Grant.Grant, Shape.Shape}
+use Rattle.mk_cycle.specs.TurnKeeps.is_look
 
 -- a word that only the turn's holder changes
 abbrev pub is_steady_word : Word → Bool
@@ -88,11 +89,6 @@ object_for p = object_made p.table.config (call_of p).op
 -- its first-fit place
 abbrev pub place_now_for : PassState → Option Place
 place_now_for p = place_after p.table.config p.seen (object_for p)
-
--- it is a look
-abbrev pub is_look : Step → Bool
-is_look (Step.Look x) = true
-is_look _ = false
 
 -- steps that place an object
 abbrev pub is_placing : Step → Bool

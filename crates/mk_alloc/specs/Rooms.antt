@@ -13,10 +13,10 @@ use Rattle.mk_caller.specs.Below.Words.States.{PassState, world_of, WordsState, 
 use Rattle.mk_caller.specs.Below.Words.{TurnSteps.{IsFresh, turn_stays}, Steps.Does}
 use Rattle.mk_caller.specs.{Below.Words.Sweeping.SweepsNothing, States.caller_of_pass, Called.own_calls}
 use Rattle.mk_alloc.specs.TurnCycles.{EachIsFinished, EachIsSaid, HasNoPlace, RunsOneCycle, has_step, is_grant, is_hold}
-use Rattle.mk_alloc.specs.{TurnCycles.lets_go, Placing.{IsOutOfStop, is_look, IsUnplaced, Requests, object_for}}
-use Rattle.mk_alloc.specs.{Placing.place_now_for, declared.objects.Request.Request}
-use Rattle.mk_cycle.specs.{BeginCycle.{EachIsBegun, BeginsCycle}, EngineLaw.{IsFreeForCycle, IsAtPhase, Ways}}
-use Rattle.mk_cycle.specs.{FinishCycle.FinishesCycle, TurnKeeps.{is_want, OnlyDoes}}
+use Rattle.mk_alloc.specs.{TurnCycles.lets_go, Placing.{IsOutOfStop, IsUnplaced, Requests, object_for, place_now_for}}
+use Rattle.mk_alloc.specs.declared.objects.Request.Request
+use Rattle.mk_cycle.specs.{TurnKeeps.{is_look, is_want, OnlyDoes}, BeginCycle.{EachIsBegun, BeginsCycle}}
+use Rattle.mk_cycle.specs.{EngineLaw.{IsFreeForCycle, IsAtPhase, Ways}, FinishCycle.FinishesCycle}
 
 -- An allocation is as it was, but that it may be released, and no longer fresh.
 pub record StaysOrIsReleased (a b : PlacedAllocation) : Type 0 where

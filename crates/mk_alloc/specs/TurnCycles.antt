@@ -17,8 +17,7 @@ pub record IsSaid {V : Type 0} (tells : V → Config → World → Type 0) (c : 
 -- Some engine says it at each `close` of the seat in the list that goes on,
 abbrev pub AreSaidAtCloses : {V : Type 0} → (V → Config → World → Type 0) → Config → Seat → List Event → List Event
     → Type 0
-AreSaidAtCloses tells c s es more =
-    (k : At is_close more) → k.event.seat ≡ s → IsSaid tells c (left c (es ++ k.before))
+AreSaidAtCloses tells c s es more = (k : At is_close more) → k.event.seat ≡ s → IsSaid tells c (left c (es ++ k.before))
 
 -- and so at each one from what the one pass had seen to what the other has seen.
 pub record EachIsSaid {V : Type 0} (tells : V → Config → World → Type 0) (p q : PassState) : Type 0 where

@@ -4,10 +4,10 @@ ghost use Rattle.mk_core.specs.{Calls.{at_rest, has_operands, is_under_turn}, Wo
 ghost use Rattle.mk_caller.specs.Below.Words.{States.{call_of, now_of}, Steps.Makes};
 ghost use Rattle.mk_caller.specs.Below.Words.TurnSteps.{TakesTurn};
 ghost use Rattle.mk_caller.specs.States.{IsIdleCaller, caller_of_pass};
-ghost use Rattle.mk_alloc.specs.{Rooms.{BeginsTurn, IsQuiet}, Placing.is_look};
+ghost use Rattle.mk_alloc.specs.Rooms.{BeginsTurn, IsQuiet};
 ghost use Rattle.mk_core.specs.declared.events.Step.TheVariants as step;
 ghost use Rattle.mk_core.specs.declared.seats.Stage.TheVariants as stage;
-ghost use Rattle.mk_cycle.specs.TurnKeeps.OnlyDoes;
+ghost use Rattle.mk_cycle.specs.TurnKeeps.{is_look, OnlyDoes};
 
 use mk_caller::lower::words::{Pass, Turn, Words, take_turn};
 use mk_core::{Phase, Word};

@@ -4,6 +4,11 @@ use Rattle.mk_core.specs.{Frames.{Steady, steady_of, CountsAreLeft}, Moments.{Mo
 use Rattle.mk_core.specs.{declared.events.Step.Step, declared.events.Word.Word, declared.seats.Holding.Holding}
 use Rattle.mk_words.specs.{States.{PassState, world_of, now_of, call_of}, Steps.Does}
 
+-- it is a look
+abbrev pub is_look : Step → Bool
+is_look (Step.Look x) = true
+is_look _ = false
+
 -- it is a `want`
 abbrev pub is_want : Step → Bool
 is_want Step.Want = true

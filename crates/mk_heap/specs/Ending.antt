@@ -63,9 +63,6 @@ pub record IsIdleTurn (p : PassState) : Type 0 where
   pub exact : TalliesAreExact p.table.config p.seen
   pub tidy : TalliesAreTidy p.table.config p.seen
 
--- What the host does in the history of a run: nothing before the last step of every script, and then one cycle of its
--- own where it is asked for, and else none.
-
 -- how many cycles are begun in a list
 abbrev pub cycles_begun : List Event → ℕ
 cycles_begun es = count_by (λ (e : Event). is_begin e.step) es
@@ -84,8 +81,6 @@ pub record HostComesLast (callers : ℕ) (with_cycle : Bool) (es : List Event) :
   pub without_host : AreOfOthers (Host ∷ []) scripts
   pub without_callers : (k : ℕ) → k < callers → AreOfOthers (Caller k ∷ []) last
   pub cycles : cycles_begun last ≡ cycles_asked with_cycle
-
--- The host's last turns, when the scripts are joined. Private functions alone cite these words.
 
 -- The host's seat is home and so are those of all callers, and it has not said that all is over.
 pub record HasAllHome (w : WordsState) (h : HostState) : Type 0 where

@@ -41,8 +41,7 @@ pub record IsSwept (c : Config) (w : World) (number : ℕ) : Type 0 where
 
 -- Each allocation that is swept is marked.
 abbrev pub SweptAreMarked : Config → World → Type 0
-SweptAreMarked c w =
-    (i : ℕ) → IsSwept c w i → is_marked_allocation c w.now.words (placed_at w.allocations i) ≡ true
+SweptAreMarked c w = (i : ℕ) → IsSwept c w i → is_marked_allocation c w.now.words (placed_at w.allocations i) ≡ true
 
 -- Such a value points into the cell, by lookup.
 pub record IsSweptCell (c : Config) (w : World) (cell : Cell) : Type 0 where

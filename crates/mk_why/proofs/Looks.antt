@@ -16,13 +16,12 @@ use Rattle.mk_sweep.proofs.Below.Cycles.{MaySteps.may_look, Steps.may_step, Want
 use Rattle.mk_sweep.proofs.Below.Words.Doing.{does_nothing, does_step, does_then, done_in_parts}
 use Rattle.mk_sweep.proofs.Below.Words.{PointedCells.looked_for, Sweeping.{does_sweep, sweeps_then}}
 use Rattle.mk_sweep.proofs.{Below.Words.{Seats.others_own, TurnSteps.still_stopped}, Kept.ready_of}
-use Rattle.mk_sweep.specs.Below.Cycles.TurnKeeps.{LeavesTurn, but_phase, is_want}
-use Rattle.mk_sweep.specs.{Below.Cycles.EngineLaw.{ClosesMarks, IsFreeForCycle}, Below.Cycles.Tracing.is_tracing}
-use Rattle.mk_sweep.specs.{Below.Cycles.Stops.IsWanted, Below.Words.Sweeping.{HaveNoMark, SweepsNothing}}
-use Rattle.mk_sweep.specs.Below.Words.Steps.{Does, are_of, count_done, done_in, IsAdmittedTo, IsEnabledTo}
-use Rattle.mk_sweep.specs.{Below.Words.TurnSteps.{LooksForCell, MayLookAtHeaders, Acts}, Below.Words.States.event_of}
+use Rattle.mk_sweep.specs.Below.Cycles.TurnKeeps.{LeavesTurn, but_phase, is_want, is_look}
+use Rattle.mk_sweep.specs.Below.Cycles.{EngineLaw.{ClosesMarks, IsFreeForCycle}, Tracing.is_tracing, Stops.IsWanted}
+use Rattle.mk_sweep.specs.Below.Words.{Sweeping.{HaveNoMark, SweepsNothing}, Steps.{Does, are_of, count_done, done_in}}
+use Rattle.mk_sweep.specs.Below.Words.{Steps.{IsAdmittedTo, IsEnabledTo}, TurnSteps.{LooksForCell, MayLookAtHeaders}}
+use Rattle.mk_sweep.specs.Below.Words.{TurnSteps.Acts, States.event_of}
 use Rattle.mk_core.specs.{Frames.written_of, History.Finding, Readings.NoneAttends}
-use Rattle.mk_why.specs.Stops.{is_look}
 
 -- Looks leave the view as it is, and so does what others do in the stop.
 
