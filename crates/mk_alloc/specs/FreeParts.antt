@@ -1,5 +1,5 @@
 -- The parts of a Free's turn round its `quar`: gates are held and opened, a run is unmapped and wiped, tallies are set.
-use Rattle.std.specs.Prelude.{◌≡◌, ◌≢◌, ℕ, ◌*◌, ◌/◌, ◌<◌, Bool, true, false, List, [], Some, ◌+◌, ◌≤◌, slice_index, ◌↔◌}
+use Rattle.std.specs.Prelude.{◌≡◌, ◌≢◌, ℕ, ◌*◌, ◌<◌, Bool, true, false, List, [], Some, ◌+◌, ◌≤◌, slice_index, ◌↔◌}
 use Rattle.std.specs.Prelude.{◌==◌, IsTrue, map, None, ◌∷◌, ◌++◌, ◌||◌}
 use Rattle.mk_geom.specs.{declared.{pages.Page.Page, addresses.Cell.Cell}, PageUses.PartOfRun}
 use Rattle.mk_books.specs.KnownPages.{StandsOn}
@@ -70,8 +70,7 @@ pub record MayOpen (w : WordsState) (p : PassState) : Type 0 where
   pub phase : IsOutOfStop (now_of p)
   pub gone : is_run_gone (now_of p).words (now_of p).seats.holding.freed ≡ true
 
--- The holder's call is as it was, and what it has done in its turn, and its gates; what none but it changes is
--- changed so.
+-- The holder's call, what it has done in its turn, and its gates are as they were; what only it changes is changed so.
 pub record Changes (s : Seat) (change : Steady → Steady) (w v : World) : Type 0 where
   pub call : flight_of v.now s ≡ flight_of w.now s
   pub holding : v.now.seats.holding ≡ w.now.seats.holding
@@ -135,12 +134,6 @@ pub record MayWipeFrom (w : WordsState) (p : PassState) (pages : ℕ) (run : Run
   pub may : MayWipe p run
   pub wiped : (i : ℕ) → i < n → slice_index (now_of p).words.heap (64 * run.page + i) ≡ 0
 
--- A group of its words, on this page of it, is next.
-pub record MayWipeGroup (w : WordsState) (p : PassState) (pages : ℕ) (run : RunPages) (part group : ℕ) : Type 0 where
-  pub from : MayWipeFrom w p pages run (8 * group)
-  pub within : 8 * group + 8 ≤ 64 * run.count
-  pub on_page : part ≡ group / 8
-
 -- This many groups of its words, all on this page of it, are next.
 pub record MayWipeGroups (w : WordsState) (p : PassState) (pages : ℕ) (run : RunPages) (part group count : ℕ) : Type 0
   where
@@ -167,8 +160,7 @@ FreesOnly c seen xs es =
     (before : List Event) (e : Event) (behind : List Event) → es ≡ seen ++ before ++ e ∷ behind
     → event_frees c (seen ++ before) e ≡ true → (left c (seen ++ before ++ e ∷ [])).allocations ≡ xs
 
--- Among what the pass has seen since there is an event that frees. It leaves the allocations as they are now, and so
--- does every other that frees.
+-- Since then there is an event that frees. It leaves the allocations as they are now, as does every other that frees.
 pub record FreesOnce (p q : PassState) : Type 0 where
   pub before : List Event
   pub event : Event
@@ -198,8 +190,7 @@ pub record StaysSo (s : Seat) (w v : World) : Type 0 where
   pub fresh_words : v.now.fresh_words ≡ w.now.fresh_words
   pub allocations : v.allocations ≡ w.allocations
 
--- The object of the cell was freed, by one event of the turn, and it is known whether that is due. Where it heads no
--- run no gate was held.
+-- The cell's object was freed, by one event of the turn, and it is told if that is due. If it is small no gate was held.
 pub record FreesCell (p : PassState) (cell : Cell) (due : Bool) (q : PassState) : Type 0 where
   pub reaches : ComesTo is_freeing p (IsDecidedAt p.seat (world_of p)) (entry_for p Answer.Done) q
   pub allocations : (world_of q).allocations ≡ map (freed_where_it_stands (now_of p).words (Some cell))

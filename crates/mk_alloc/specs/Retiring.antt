@@ -20,8 +20,7 @@ use Rattle.mk_alloc.specs.{Placing.{ComesTo, entry_for}, TurnCycles.is_hold}
 abbrev pub KeepsValues : PassState → PassState → Type 0
 KeepsValues p q = (r : ℕ) → r < 8 → value_of q r ≡ value_of p r
 
--- The turn is for a Free of this register, at this point of the call, and the register is null or points to the first
--- word of its allocation.
+-- The turn is for a Free of this register, at this point of the call. The register is null or points to a first word.
 pub record IsFreeAt (p : PassState) (r : ℕ) (f : Flight) : Type 0 where
   pub call : call_of p ≡ f
   pub small : r < 8
@@ -93,8 +92,7 @@ HasSeen p cell q =
     ComesTo is_loading p (CallIsAt p.seat (seen_free (call_of p) (is_freed (now_of p).words cell)) (world_of p))
     (if is_freed (now_of p).words cell then entry_for p Answer.Double else []) q
 
--- The target was quarantined: the call is decided, the allocation of the cell is freed and fresh, a run is what the
--- call has freed, and all else that none but the holder changes is as it was.
+-- The target was quarantined: the call is decided, the cell's allocation is freed and fresh, and all else is as it was.
 pub record IsFreedAt (c : Config) (s : Seat) (cell : Cell) (w v : World) : Type 0 where
   pub call : flight_of v.now s ≡ record (flight_of w.now s) { stage = Stage.Give }
   pub holding : v.now.seats.holding
@@ -141,8 +139,7 @@ pub record IsDueSince (p q : PassState) : Type 0 where
   pub is : q.seen ≡ p.seen ++ before ++ event ∷ behind
   pub due : IsDue p.table.config (p.seen ++ before) event
 
--- A Free was decided by this answer, by steps of these kinds. Its turn is as it was, nothing is under way in it, and
--- the tallies are those of the counts.
+-- A Free was decided by this answer, by such steps. Nothing is under way in its turn, and the tallies are exact.
 pub record DecidesFree (kinds : Step → Bool) (a : Answer) (p q : PassState) : Type 0 where
   pub pass : q ≡ record p { seen = q.seen }
   pub does : Does kinds p q

@@ -23,8 +23,7 @@ pub record StaysOrIsReleased (a b : PlacedAllocation) : Type 0 where
   pub same : b ≡ record a { fresh = b.fresh; released = b.released }
   pub released : a.released ≡ true → b.released ≡ true
 
--- All registers and globals stay, and so does each allocation that isn't released, with its words if it is mapped. None
--- is new.
+-- Registers and globals stay, and all allocations but that some are released; mapped ones keep their words.
 pub record LeavesAllButReleased (c : Config) (w v : World) : Type 0 where
   pub registers : v.now.words.registers ≡ w.now.words.registers
   pub globals : v.now.words.globals ≡ w.now.words.globals
@@ -78,10 +77,9 @@ pub record MayRunCycle (w : WordsState) (pages : ℕ) (p : PassState) : Type 0 w
   pub made_for : pages ≡ w.config.pages
   pub quiet : IsQuiet p
 
--- What an engine keeps to from one to the other. If it doesn't sweep it makes no sweeping mark. After each `begin` it
--- does its part, and then nothing but holding gates comes before the close is wanted or the turn given back. At each
--- `close` it says of the world what engines of its type say. If it doesn't keep on, it finishes at once each cycle that
--- it begins. If the turn goes on, the wish to close or the `give` may be `yet` to come.
+-- What an engine keeps to. If it doesn't sweep it makes no sweeping mark. After each `begin` it does its part, and then
+-- only holds gates until it wants the close or gives the turn back, which may be `yet` to come. At each `close` it says
+-- of the world what engines of its type say. If it doesn't keep on, it finishes at once each cycle that it begins.
 pub record PassKeeps {V : Type 0} (yet : Bool) (ways : Ways V) (p q : PassState) : Type 0 where
   pub reached : ways.sweeps ≡ false → SweepsNothing p q
   pub begun : EachIsBegun yet ways.begins p q

@@ -21,8 +21,7 @@ IsUnscanned p page = slice_index (now_of p).words.blacks page ≡ 0
 abbrev pub HasTakenSnapshot : PassState → ℕ → Type 0
 HasTakenSnapshot p page = slice_index (now_of p).words.snapshot page ≡ slice_index (now_of p).words.freed page
 
--- The page's dirty word was 0 at a moment from what the one pass had seen to what the other has seen. A caller may set
--- it again at once.
+-- The page's dirty word was 0 at a moment between the two passes. A caller may set it again at once.
 pub record WasUndirty (page : ℕ) (p q : PassState) : Type 0 where
   pub before : List Event
   pub behind : List Event
@@ -83,8 +82,7 @@ pub record BeginsCycle (p q : PassState) : Type 0 where
   pub exact : TalliesAreExact p.table.config p.seen → TalliesAreExact q.table.config q.seen
   pub tidy : TalliesAreTidy p.table.config p.seen → TalliesAreTidy q.table.config q.seen
 
--- An engine's part directly after a `begin` is said of a seat, of the events up to the `begin`, and of those after it.
--- This one is to do nothing.
+-- An engine's part after a `begin` is said of a seat, the events up to it, and those after it. This is to do nothing.
 abbrev pub DoesNothing : Config → Seat → List Event → List Event → Type 0
 DoesNothing c s es more = more ≡ []
 
@@ -112,8 +110,7 @@ leaves_begun Step.Want = true
 leaves_begun Step.Give = true
 leaves_begun _ = false
 
--- In a list the seat does nothing but hold gates, until it wants the close or gives its turn back. If the list ends
--- before that, the answer is `yet`.
+-- The seat only holds gates, until it wants the close or gives its turn back. If the list ends before, this is `yet`.
 unfoldable pub only_holds : Bool → Seat → List Event → Bool
 only_holds yet s [] = yet
 only_holds yet s (e ∷ es) =

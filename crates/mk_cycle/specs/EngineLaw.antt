@@ -8,9 +8,8 @@ use Rattle.mk_words.specs.{States.{PassState, WordsState, world_of, now_of, call
 use Rattle.mk_words.specs.Steps.{Does, count_done, IsEnabledTo, Makes}
 use Rattle.mk_cycle.specs.{TurnKeeps.{is_want, LeavesTurn, IsGone, but_phase}, Tracing.is_tracing}
 
--- Whether a cycle that a free begins goes on after the call, and whether they make sweeping marks; what they do
--- directly after a `begin`; what a value promises of the world in which it closed marks last, and what it did in that
--- stop.
+-- Whether a cycle that a free begins goes on after the call, and whether they make sweeping marks; what they do directly
+-- after a `begin`; what a value says of the world in which it closed marks last, and what it did in that stop.
 pub record Ways (V : Type 0) : Type 1 where
   pub on : Bool
   pub sweeps : Bool
@@ -28,8 +27,7 @@ is_pending_free_at _ _ = false
 abbrev pub is_pending_free : Flight → Bool
 is_pending_free f = is_pending_free_at f.op f.stage
 
--- A turn is free for a cycle: it is not for an undecided Free, no place of its New is under way, and the run of a large
--- Free that it decided is unmapped and wiped.
+-- The turn is for no undecided Free, no place of its New is under way, and the run that it freed is unmapped and wiped.
 pub record IsFreeForCycle (p : PassState) : Type 0 where
   pub decided : is_pending_free (call_of p) ≡ false
   pub unplaced : has_place (now_of p).seats.holding.placing ≡ false

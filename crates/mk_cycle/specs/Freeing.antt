@@ -134,8 +134,7 @@ pub record FreesPage (page : ℕ) (p q : PassState) : Type 0 where
   pub frees : Frees p q
   pub others : (r : ℕ) → r ≢ page → SamePage p q r
 
--- The words of these cells of the page, by its header word, are those of no mapped allocation, and those of an unmapped
--- run are 0: its Free has wiped them.
+-- The words of these cells, by the page's header word, are of no mapped allocation, and those of an unmapped run are 0.
 pub record AreFreeCells (p : PassState) (page header cells : ℕ) : Type 0 where
   pub unmapped : (k i : ℕ) → has_bit cells k ≡ true → i < words_under (header_of header)
       → IsUnmappedWord p (64 * page + k * words_under (header_of header) + i)
@@ -146,8 +145,7 @@ pub record AreFreeCells (p : PassState) (page header cells : ℕ) : Type 0 where
 abbrev pub HasFreeCells : PassState → ℕ → Type 0
 HasFreeCells p page = AreFreeCells p page (header_at (now_of p).words page) (left_unmarked (now_of p).words page)
 
--- A turn on these words, which have this many pages, may give back the released cells of this one, whose header word is
--- this.
+-- A turn on these words, of so many pages, may give back the released cells of this one, which has this header word.
 pub record MayGiveBackOn (w : WordsState) (p : PassState) (pages page header : ℕ) : Type 0 where
   pub turn : IsTurnAmong 4 w p pages
   pub within : page < w.config.pages
@@ -165,8 +163,7 @@ pub record GivesBack (page : ℕ) (p q : PassState) : Type 0 where
   pub header : header_at (now_of q).words page ≡ header_at (now_of p).words page
   pub none_left : left_unmarked (now_of q).words page ≡ 0
 
--- On such a turn this was done on the page, and on the pages before it: no released cell is left on it, or at the head
--- of its run.
+-- On such a turn this was done on the page and those before it: none is left on it, or at the head of its run.
 pub record HasGivenBackOn (w : WordsState) (p : PassState) (pages page header : ℕ) : Type 0 where
   pub turn : IsTurnAmong 4 w p pages
   pub within : page < w.config.pages

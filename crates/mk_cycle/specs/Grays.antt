@@ -60,8 +60,7 @@ pub record LooksOn (t u : TurnState) : Type 0 where
   pub on : MarksOn t u
   pub words : still_words u.pass ≡ still_words t.pass
 
--- The close is wanted, by this many steps between, and the holder looks until no marker is in, while the gates of all
--- others are held. All else is as it was.
+-- The close is wanted, by so many steps, and the holder looks until no marker is in, while the other gates are held.
 pub record WaitsForMarkers (t u : TurnState) (wishes : ℕ) : Type 0 where
   pub table : u.pass.table ≡ t.pass.table
   pub ready : HolderIsLoaded u.pass

@@ -103,16 +103,14 @@ IsToldOf tells p =
     (others : List Event) → AreOfOthers p.seats others → IsHistory p.table.config (p.seen ++ others)
     → tells p.table.config (left p.table.config (p.seen ++ others))
 
--- It is said of the world in which the pass closed the marks of a cycle, from what the one had seen to what the other
--- has seen.
+-- It is said of the world in which the pass closed the marks of a cycle, between the two passes.
 pub record IsToldAtClose (tells : Config → World → Type 0) (p q : PassState) : Type 0 where
   pub before : List Event
   pub behind : List Event
   pub is : q.seen ≡ p.seen ++ before ++ event_of p Step.Close ∷ behind
   pub told : tells p.table.config (left p.table.config (p.seen ++ before))
 
--- From what the one pass had seen to what the other has seen gates were held, then the engine did its part, from the
--- pass that held them to the one that may close, and then came the `close` and the `release`.
+-- Gates were held, then the engine did this, up to the pass that may close, and then came the `close` and the `release`.
 pub record IsClosedBy (closes : PassState → PassState → Type 0) (p q : PassState) : Type 0 where
   pub held : PassState
   pub released : PassState

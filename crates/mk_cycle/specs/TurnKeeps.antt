@@ -63,8 +63,7 @@ done_of m = record m.seats.holding { hand = None }
 abbrev pub IsGone : PassState → Type 0
 IsGone p = is_run_gone (now_of p).words (now_of p).seats.holding.freed ≡ true
 
--- The holder is at the same point of its call, and has done as much in its turn. No cycle has ended and no call was
--- answered Full.
+-- The holder is at the same point of its call, and has done as much in its turn.
 pub record KeepsCall (p q : PassState) : Type 0 where
   pub pass : q ≡ record p { seen = q.seen }
   pub call : call_of q ≡ call_of p

@@ -48,8 +48,7 @@ pub record MakesCycle (p q : PassState) : Type 0 where
   pub finishes : FinishesCycle begun ended
   pub gives : Makes ended Step.Give q
 
--- It made a cycle so, and this is said of the world in which it closed the cycle's marks. No `close` stands after that
--- one.
+-- It made a cycle so, and this is said of the world in which it closed the cycle's marks.
 pub record MakesToldCycle (tells : Config → World → Type 0) (p q : PassState) : Type 0 where
   pub makes : MakesCycle p q
   pub at_close : IsToldAtClose tells makes.begun makes.ended

@@ -72,8 +72,7 @@ pub record IsDone (p : PassState) : Type 0 where
   pub alone : p.seats ≡ p.seat ∷ []
   pub rests : Rests (now_of p) p.seat
 
--- It hasn't the turn. Who isn't made is home in its pass, and who is home rests. A marker that isn't made has taken no
--- step.
+-- It hasn't the turn. Who isn't made is home in its pass, and who is home rests. A marker not yet made took no step.
 pub record IsHost (h : HostState) : Type 0 where
   pub seat : h.pass.seat ≡ Host
   pub no_turn : host_has_turn h.pass.table.config (now_of h.pass) ≡ false

@@ -113,8 +113,7 @@ pub record IsQueued (r : Tables) (base : ℕ) : Type 0 where
 abbrev pub links_of : Tables → ℕ → ℕ
 links_of r i = links_in (entry_at r.found.items (slice_index r.queue.items i))
 
--- The queue has each allocation that was found, in the order of their links. None has more than this many,
--- or more than its place.
+-- The queue has what was found, in the order of links. None has more than this many, or more than its place.
 pub record IsSearch (c : Config) (v : View) (r : Tables) (limit : ℕ) : Type 0 where
   pub size : length r.found.items ≡ 64 * c.pages
   pub ways : AreWays c v r.found.items
