@@ -14,7 +14,7 @@ use Rattle.mk_alloc.proofs.Vocabulary.{Some, Steady, TurnGoesOn, ℕ, acting_cal
 use Rattle.mk_alloc.proofs.Vocabulary.{looks_left, new_is_acting, now_of, object_for, object_made, only_seen, own_seat}
 use Rattle.mk_alloc.proofs.Vocabulary.{phase_of, place_after, place_now_for, refl, subst, world_of, ◌==◌, ◌∙◌, ◌≡◌}
 use Rattle.mk_alloc.proofs.Vocabulary.Holding
-use Rattle.mk_alloc.specs.{declared.objects.Request.Request, Rooms.{IsPlacedOr, MisfitsIdly, NeedsRoom, SeeksRoom}}
+use Rattle.mk_alloc.specs.{declared.objects.Request.Request, Rooms.{NeedsRoom, SeeksRoom, PlacesOrMisfits}}
 use Rattle.mk_caller.specs.Below.Words.States.{WordsState}
 use Rattle.mk_core.specs.Allocations.{place_among_allocations}
 
@@ -42,17 +42,16 @@ seeks_then {a} {p} {q} {r} x y =
 pub misfits_then : {p q r : PassState} → Seeks None p q → Misfits q r → Misfits p r
 misfits_then x m = record { turn = m.turn; seeks = seeks_then x m.seeks; unplaced = m.unplaced; nowhere = m.nowhere }
 
-pub idly_then : {p q r : PassState} → Seeks None p q → MisfitsIdly q r → MisfitsIdly p r
-idly_then x m = record { misfits = misfits_then x m.misfits; idle = m.idle }
-
--- with what it says of the whole where the object misfits
-pub tried_then : {misfit whole : PassState → PassState → Type 0} {is_placed : Bool} {p q r : PassState}
-    → Seeks None p q → IsPlacedOr misfit is_placed q r → (is_placed ≡ false → misfit q r → whole p r)
-    → IsPlacedOr whole is_placed p r
-tried_then x t misfits = record {
+pub tried_then : {is_placed : Bool} {p q r : PassState} → Seeks None p q → PlacesOrMisfits is_placed q r
+    → PlacesOrMisfits is_placed p r
+tried_then x t = record {
   placed = λ granted. seeks_then x (t.placed granted);
-  misfits = λ none. misfits none (t.misfits none);
+  misfits = λ none. misfits_then x (t.misfits none);
 }
+
+-- No cycle is on after one was finished.
+pub idle_still : {p q r : PassState} → FinishesCycle p q → OnlyLooks q r → IsAtPhase r 0
+idle_still f looks = ap (λ (s : Steady). s.phase) (looks_left looks).steady ∙ f.phase
 
 pub still_nowhere : (p q : PassState) → (world_of q).allocations ≡ (world_of p).allocations
     → q.table.config ≡ p.table.config → object_for q ≡ object_for p → place_now_for p ≡ None → place_now_for q ≡ None
@@ -170,13 +169,6 @@ module _ {w : WordsState} {p : PassState} {request : Request} (asked : SeeksRoom
 
     pub room_finished : {q : PassState} → FinishesCycle p q → IsTurn q → SeeksRoom w q request
     room_finished f turn = grind (arith, still_seeks, seeks_finished, Holding)
-
-    pub misfits_finished : {q r : PassState} → FinishesCycle p q → IsHistory q.table.config q.seen → Misfits q r
-        → OnlyLooks q r → MisfitsIdly p r
-    misfits_finished {q} {r} f history m looks = record {
-      misfits = misfits_then (seeks_finished f history) m;
-      idle = ap (λ (s : Steady). s.phase) (looks_left looks).steady ∙ f.phase;
-    }
 
     -- and where it looked at the phase.
     pub misfits_seen : {q : PassState} → OnlyDoes is_look p q → IsTurn q → Misfits p q

@@ -3,12 +3,11 @@ use Rattle.std.specs.Prelude.{◌≡◌, ℕ, ◌+◌, ◌<◌, true, List, [], 
 use Rattle.std.specs.Prelude.{None, is_some, Bool, ◌||◌}
 use Rattle.mk_never.specs.{Types.kinds_of, declared.operations.Op.Op}
 use Rattle.mk_geom.specs.{declared.pages.Census.Census, PageUses.{census_among, uses_of_pages}}
-use Rattle.mk_core.specs.declared.{config.Config.Config, events.{Event.Event, Seat.Seat}}
+use Rattle.mk_core.specs.{declared.config.Config.Config, declared.events.Event.Event, declared.events.Seat.Seat}
 use Rattle.mk_core.specs.{Allocations.{PlacedAllocation, is_mapped, placed_at}, History.{is_same_seat, World}}
 use Rattle.mk_core.specs.{History.world_behind, declared.events.Answer.Answer, Counts.{TalliesAreExact, TalliesAreTidy}}
-use Rattle.mk_core.specs.{Calls.entry_of, Moments.none_is_held, declared.{seats.Stage.Stage, events.Step.Step}}
-use Rattle.mk_core.specs.declared.seats.{Object.Object, OwnCycle.TheVariants.Ended}
-use Rattle.mk_core.specs.Cycles.{At, is_begin, is_end}
+use Rattle.mk_core.specs.{Calls.entry_of, Moments.none_is_held, declared.seats.Stage.Stage, declared.events.Step.Step}
+use Rattle.mk_core.specs.{declared.seats.Object.Object, Cycles.{At, is_begin, is_end}}
 use Rattle.mk_caller.specs.Below.Words.States.{PassState, world_of, WordsState, call_of, now_of, IsTurn, event_of}
 use Rattle.mk_caller.specs.Below.Words.{TurnSteps.{IsFresh, turn_stays}, Steps.Does}
 use Rattle.mk_caller.specs.{Below.Words.Sweeping.SweepsNothing, States.caller_of_pass, Called.own_calls}
@@ -174,20 +173,10 @@ pub record Misfits (p q : PassState) : Type 0 where
   pub unplaced : IsUnplaced q
   pub nowhere : place_now_for q ≡ None
 
--- Nor is a cycle on,
-pub record MisfitsIdly (p q : PassState) : Type 0 where
-  pub misfits : Misfits p q
-  pub idle : IsAtPhase q 0
-
--- though one was begun and ended in the turn.
-pub record MisfitsAtLast (p q : PassState) : Type 0 where
-  pub idly : MisfitsIdly p q
-  pub ended : (now_of q).seats.holding.cycle ≡ Ended
-
--- It was granted, or else it misfits so.
-pub record IsPlacedOr (misfit : PassState → PassState → Type 0) (is_placed : Bool) (p q : PassState) : Type 0 where
+-- It was granted, or else it misfits.
+pub record PlacesOrMisfits (is_placed : Bool) (p q : PassState) : Type 0 where
   pub placed : is_placed ≡ true → Seeks (Some Answer.Done) p q
-  pub misfits : is_placed ≡ false → misfit p q
+  pub misfits : is_placed ≡ false → Misfits p q
 
 -- It was answered Full, and all allocations stay.
 pub record AnswersFull (p q : PassState) : Type 0 where

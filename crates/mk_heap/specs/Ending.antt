@@ -1,5 +1,5 @@
 -- What the host does with the turn and with cycles: it ends the one that is on, makes the last, says that all is over.
-use Rattle.std.specs.Prelude.{◌≡◌, ◌⊎◌, ℕ, ◌<◌, true, None, Bool, false, List, [], ◌∷◌, ◌++◌, count_by}
+use Rattle.std.specs.Prelude.{◌≡◌, ◌⊎◌, ℕ, ◌<◌, true, None, Bool, false, List, [], ◌∷◌, ◌++◌, count_by, if◌then◌else◌}
 use Rattle.mk_core.specs.declared.{events.Seat.TheVariants.{Caller, Host}, config.Config.Config}
 use Rattle.mk_core.specs.{Counts.{TalliesAreExact, TalliesAreTidy}, History.{World, AreOfOthers, Grows, left}}
 use Rattle.mk_core.specs.{Moments.none_is_held, declared.events.{Step.Step, Word.Word}}
@@ -66,11 +66,6 @@ pub record IsIdleTurn (p : PassState) : Type 0 where
 abbrev pub cycles_begun : List Event → ℕ
 cycles_begun es = count_by (λ (e : Event). is_begin e.step) es
 
--- how many cycles the host begins: one, where a last cycle is asked for
-abbrev pub cycles_asked : Bool → ℕ
-cycles_asked true = 1
-cycles_asked false = 0
-
 -- The history has two parts. In the first the host takes no step. In the second no caller does, so no step of a script
 -- stands after a `take` of the host, and whatever is done with cycles there is done by the host.
 pub record HostComesLast (callers : ℕ) (with_cycle : Bool) (es : List Event) : Type 0 where
@@ -79,7 +74,7 @@ pub record HostComesLast (callers : ℕ) (with_cycle : Bool) (es : List Event) :
   pub is : es ≡ scripts ++ last
   pub without_host : AreOfOthers (Host ∷ []) scripts
   pub without_callers : (k : ℕ) → k < callers → AreOfOthers (Caller k ∷ []) last
-  pub cycles : cycles_begun last ≡ cycles_asked with_cycle
+  pub cycles : cycles_begun last ≡ (if with_cycle then 1 else 0)
 
 -- The host's seat is home and so are those of all callers, and it has not said that all is over.
 pub record HasAllHome (w : WordsState) (h : HostState) : Type 0 where
@@ -104,7 +99,7 @@ pub record GoesOnAlone {V : Type 0} (ways : Ways V) (h g : HostState) : Type 0 w
 pub record BeginsAsAsked (with_cycle : Bool) (seen es : List Event) : Type 0 where
   pub more : List Event
   pub is : es ≡ seen ++ more
-  pub cycles : cycles_begun more ≡ cycles_asked with_cycle
+  pub cycles : cycles_begun more ≡ (if with_cycle then 1 else 0)
 
 -- With all callers home the host made a cycle of which this is said, and said that all is over. Since then it has seen
 -- no step of the seats that were home, which still are.
