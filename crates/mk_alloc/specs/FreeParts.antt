@@ -190,7 +190,7 @@ pub record StaysSo (s : Seat) (w v : World) : Type 0 where
   pub fresh_words : v.now.fresh_words ≡ w.now.fresh_words
   pub allocations : v.allocations ≡ w.allocations
 
--- The cell's object was freed, by one event of the turn, and it is told if that is due. If it is small no gate was held.
+-- The cell's object was freed, by one event, and it is known if that is due. If it is small no gate was held.
 pub record FreesCell (p : PassState) (cell : Cell) (due : Bool) (q : PassState) : Type 0 where
   pub reaches : ComesTo is_freeing p (IsDecidedAt p.seat (world_of p)) (entry_for p Answer.Done) q
   pub allocations : (world_of q).allocations ≡ map (freed_where_it_stands (now_of p).words (Some cell))

@@ -127,7 +127,7 @@ object_at_place c f place = record {
   released = false;
 }
 
--- The New was granted its object at this place: its call is decided, the object is an allocation more, its address is in
+-- The New was granted its object at this place: its call is decided, the object is an allocation more, its address in
 -- the register. All else that only the holder changes, but pages and the tally of held words, is as it was.
 pub record IsGrantedAt (c : Config) (s : Seat) (place : Place) (w v : World) : Type 0 where
   pub call : flight_of v.now s ≡ record (flight_of w.now s) { stage = Stage.Give }

@@ -8,8 +8,8 @@ use Rattle.mk_words.specs.{States.{PassState, WordsState, world_of, now_of, call
 use Rattle.mk_words.specs.Steps.{Does, count_done, IsEnabledTo, Makes}
 use Rattle.mk_cycle.specs.{TurnKeeps.{is_want, LeavesTurn, IsGone, but_phase}, Tracing.is_tracing}
 
--- Whether a cycle that a free begins goes on after the call, and whether they make sweeping marks; what they do directly
--- after a `begin`; what a value says of the world in which it closed marks last, and what it did in that stop.
+-- Whether a cycle that a free begins goes on after the call, and whether they make sweeping marks; what they do after a
+-- `begin`; what a value says of the world in which it closed marks last, and what it did in that stop.
 pub record Ways (V : Type 0) : Type 1 where
   pub on : Bool
   pub sweeps : Bool

@@ -110,7 +110,7 @@ pub record IsToldAtClose (tells : Config → World → Type 0) (p q : PassState)
   pub is : q.seen ≡ p.seen ++ before ++ event_of p Step.Close ∷ behind
   pub told : tells p.table.config (left p.table.config (p.seen ++ before))
 
--- Gates were held, then the engine did this, up to the pass that may close, and then came the `close` and the `release`.
+-- Gates were held, then the engine did this until it may close, and then came the `close` and the `release`.
 pub record IsClosedBy (closes : PassState → PassState → Type 0) (p q : PassState) : Type 0 where
   pub held : PassState
   pub released : PassState

@@ -56,7 +56,7 @@ OwnStepsKeep rule c s w [] = ⊤
 OwnStepsKeep rule c s w (e ∷ es) =
     (is_same_seat s e.seat ≡ true → rule c w.now e.step) × OwnStepsKeep rule c s (world_behind c w e) es
 
--- Between the two passes the seat did only steps of these kinds, by the rule, and what tracing doesn't touch is as it was.
+-- Since then the seat did only steps of these kinds, by the rule, and what tracing doesn't touch is as it was.
 pub record Traces (kinds : Step → Bool) (rule : Config → Moment → Step → Type 0) (p q : PassState) : Type 0 where
   pub does : Does kinds p q
   pub keeps : OwnStepsKeep rule p.table.config p.seat (world_of p) does.more
