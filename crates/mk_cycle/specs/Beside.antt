@@ -1,10 +1,10 @@
 -- What the turn's holder marks beside callers and markers, from the roots on, while a cycle marks.
 use Rattle.std.specs.Prelude.{◌≡◌, ◌≢◌, ℕ, ◌<◌, Bool, true, false, ◌&&◌, ◌||◌, ◌==◌, not, List, [], ◌∷◌, length, drop}
 use Rattle.std.specs.{Prelude.◌++◌, List.{list_all, list_any}}
-use Rattle.mk_core.specs.declared.events.{Event.Event, Step.Step, Word.Word}
-use Rattle.mk_core.specs.{Cells.points_well, History.{Finding, in_this_call, left}, Moments.{is_held, is_number_of}}
-use Rattle.mk_core.specs.{Words.Words, declared.{config.Config.Config, events.Seat.Seat}, Conditions.is_word}
-use Rattle.mk_words.specs.{States.{PassState, TurnState, WordsState, world_of, now_of, event_of}, Steps.{Does, done_in}}
+use Rattle.mk_core.specs.{declared.events.Event.Event, declared.events.Step.Step, declared.events.Word.Word}
+use Rattle.mk_core.specs.{Cells.points_well, History.{Finding, in_this_call, left}, Moments.is_held, Words.Words}
+use Rattle.mk_core.specs.{declared.config.Config.Config, declared.events.Seat.Seat, Conditions.is_word}
+use Rattle.mk_words.specs.{States.{PassState, TurnState, world_of, now_of, event_of}, Steps.{Does, done_in}}
 use Rattle.mk_cycle.specs.{Grays.TracesReached, Stops.{is_root, IsHeldOrOwn}, Tracing.OwnStepsKeep}
 use Rattle.mk_cycle.specs.{EngineLaw.{IsFreeForCycle, IsAtPhase}, TurnKeeps.{begins_marking, LeavesTurn, unchanged}}
 use Rattle.mk_cycle.specs.BeginCycle.{CyclesAreBegun}
@@ -90,13 +90,6 @@ IsOpenToLook p x = (k r : ℕ) → x ≡ Word.Reg k r → IsHeldOrOwn p k
 abbrev pub KeepsOtherGates : ℕ → PassState → PassState → Type 0
 KeepsOtherGates caller p q =
     (j : ℕ) → j < p.table.config.callers → j ≢ caller → is_held (now_of q).words j ≡ is_held (now_of p).words j
-
--- On these words, beside the callers, the gate of this other caller may be held or opened.
-pub record MaySetGate (w : WordsState) (p : PassState) (caller : ℕ) : Type 0 where
-  pub one_table : p.table ≡ w
-  pub beside : IsBeside p
-  pub within : caller < w.config.callers
-  pub another : is_number_of p.seat caller ≡ false
 
 -- The turn went on, and this gate is held then, or not. The others are as they were.
 pub record SetsGate (caller : ℕ) (held : Bool) (t u : TurnState) : Type 0 where

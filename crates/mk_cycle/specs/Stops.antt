@@ -80,10 +80,10 @@ only_gate caller j = j == caller
 abbrev pub all_others : Seat → ℕ → Bool
 all_others s j = not (is_number_of s j)
 
--- The holder's call has loaded what it loads, so it may hold gates. This one is another caller's.
-pub record MayHoldGate (w : WordsState) (p : PassState) (caller : ℕ) : Type 0 where
+-- On these words the pass stands so, and this gate is another caller's.
+pub record IsForGate (at : PassState → Type 0) (w : WordsState) (p : PassState) (caller : ℕ) : Type 0 where
   pub one_table : p.table ≡ w
-  pub ready : HolderIsLoaded p
+  pub ready : at p
   pub within : caller < w.config.callers
   pub another : is_number_of p.seat caller ≡ false
 
