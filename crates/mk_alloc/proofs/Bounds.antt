@@ -9,7 +9,7 @@ use Rattle.mk_alloc.proofs.{Quarters.quarantine_is_quarter_and_kept, CountedWord
 use Rattle.mk_alloc.proofs.{EndedCycles.fresh_is_quarter_of_held, EndedFrees.CallersAreExact}
 use Rattle.mk_alloc.proofs.KeptAllocations.{quarantine_is_fresh_or_kept, freed_runs_take_no_memory, kept_are_touched}
 use Rattle.mk_alloc.specs.Bounds.{QuarantineIsBounded, QuarantinesAreBounded, ReleasesInTurnOfBegin}
-use Rattle.mk_alloc.specs.Bounds.FreshIsQuarterOfHeld
+use Rattle.mk_alloc.specs.Bounds.{FreshIsQuarterOfHeld}
 use Rattle.mk_core.specs.History.{AreOfOthers}
 
 others_first : (seats : List Seat) (xs ys : List Event) → AreOfOthers seats (xs ++ ys) → AreOfOthers seats xs

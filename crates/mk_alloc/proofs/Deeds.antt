@@ -14,7 +14,7 @@ use Rattle.mk_never.specs.NeverHeap.{Call}
 use Rattle.mk_geom.specs.Addresses.{address_of}
 use Rattle.mk_alloc.specs.Deeds.{Deed, after_deed, back_after, back_from, begins_at_one, storage_from, DeedsGiveBack}
 use Rattle.mk_alloc.specs.Deeds.{DeedsLeaveTheStorage, bases_released, deeds_by, deeds_from, done_by, frees_at}
-use Rattle.mk_alloc.specs.Bounds.given_back_from
+use Rattle.mk_alloc.specs.Bounds.{given_back_from}
 
 -- Deeds one after the other.
 

@@ -17,7 +17,7 @@ use Rattle.mk_alloc.proofs.{ListParts.stands, Parts.{Part, part_lacks, seen_by, 
 use Rattle.mk_alloc.proofs.UnsweptTurns.{kinds_keep, kinds_yet, turn_keeps, turn_keeps_yet}
 use Rattle.mk_alloc.proofs.{CycleParts.{EndsIn, begins_held}, Stretches.{SomeKinds, Within}}
 use Rattle.mk_alloc.specs.{Rooms.PassKeeps, Retiring.{DecidesFree, FindsFreed, Retires, IsUnloaded, is_freeing}}
-use Rattle.mk_alloc.specs.Retiring.is_loading
+use Rattle.mk_alloc.specs.Retiring.{is_loading}
 use Rattle.mk_caller.proofs.Below.Laws.Vocabulary.{register_at}
 use Rattle.mk_never.specs.Admitted.{IsBase}
 use Rattle.mk_core.specs.Cycles.{BeginsAndEndsIn, BeginsIn}

@@ -19,7 +19,7 @@ pub use Rattle.mk_alloc.specs.Retiring.{CallIsAt, HasFreed, IsFreeAt, IsFreedAt,
 pub use Rattle.mk_alloc.specs.{Retiring.is_freeing_small, Placing.{is_acting, is_steady_word, IsAsLeft, ComesTo}}
 pub use Rattle.mk_alloc.specs.Placing.{GoesTo, HasCarved, IsGrantedAt, IsOutOfStop, IsUnplaced, MayTake, OnlyLooks}
 pub use Rattle.mk_alloc.specs.Placing.{entry_for, is_placing, object_at_place, object_for, Carving, IsCellReady}
-pub use Rattle.mk_alloc.specs.Placing.Serving
+pub use Rattle.mk_alloc.specs.Placing.{Serving}
 pub use Rattle.mk_caller.specs.States.{value_of}
 pub use Rattle.mk_cycle.specs.{TurnKeeps.{is_look, sets_tallies}, FinishCycle.with_tally}
 

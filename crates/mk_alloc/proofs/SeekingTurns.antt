@@ -13,7 +13,7 @@ use Rattle.mk_alloc.proofs.Vocabulary.{Misfits, None, Object, OnlyLooks, Option,
 use Rattle.mk_alloc.proofs.Vocabulary.{Some, Steady, TurnGoesOn, ℕ, acting_caller, ap, arith, call_of, false, is_look}
 use Rattle.mk_alloc.proofs.Vocabulary.{looks_left, new_is_acting, now_of, object_for, object_made, only_seen, own_seat}
 use Rattle.mk_alloc.proofs.Vocabulary.{phase_of, place_after, place_now_for, refl, subst, world_of, ◌==◌, ◌∙◌, ◌≡◌}
-use Rattle.mk_alloc.proofs.Vocabulary.Holding
+use Rattle.mk_alloc.proofs.Vocabulary.{Holding}
 use Rattle.mk_alloc.specs.{declared.objects.Request.Request, Rooms.{NeedsRoom, SeeksRoom, PlacesOrMisfits}}
 use Rattle.mk_caller.specs.Below.Words.States.{WordsState}
 use Rattle.mk_core.specs.Allocations.{place_among_allocations}

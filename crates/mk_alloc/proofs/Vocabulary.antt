@@ -47,10 +47,10 @@ pub use Rattle.mk_alloc.specs.Rooms.{AsksRoom, SeesNone, GrantsNone, Misfits, Ru
 pub use Rattle.mk_alloc.specs.TurnCalls.{CalledInTurn, FreesObject, IsAnsweredDouble, IsAnsweredFull}
 pub use Rattle.mk_alloc.specs.TurnCycles.{EndsExactly, FreeIsExact, FreesFirst, HasNoPlace, IsDueIn, RunsOneCycle}
 pub use Rattle.mk_alloc.specs.TurnCycles.{TurnsOfAreExact, finishes, has_step, is_grant, is_of_cycle, lets_go}
-pub use Rattle.mk_alloc.specs.TurnCycles.within_turn
+pub use Rattle.mk_alloc.specs.TurnCycles.{within_turn}
 pub use Rattle.mk_cycle.proofs.{Calm.frees_none, CleaningSteps.calm_keeps, KeptInParts.{free_then, gates_behind}}
 pub use Rattle.mk_cycle.proofs.{KeptInParts.same_config, OwnSteps.no_more_calls}
 pub use Rattle.mk_cycle.specs.TurnKeeps.{is_look, is_want, OnlyDoes, unchanged, KeepsGates, LeavesTurn, begins_marking}
 pub use Rattle.mk_cycle.specs.{TurnKeeps.{clears, holds_gates, is_giving_back, sets_tallies}, BeginCycle.BeginsCycle}
 pub use Rattle.mk_cycle.specs.{EngineLaw.{IsAtPhase, is_pending_free, is_pending_free_at}, FinishCycle.FinishesCycle}
-pub use Rattle.mk_cycle.specs.Tracing.is_tracing
+pub use Rattle.mk_cycle.specs.Tracing.{is_tracing}

@@ -15,7 +15,7 @@ use Rattle.mk_core.specs.declared.seats.{Placing.TheVariants.{Unplaced, Granted}
 use Rattle.mk_caller.specs.{Called.own_calls, Below.Words.States.{PassState, call_of, now_of, world_of, WordsState}}
 use Rattle.mk_caller.specs.Below.Words.{Steps.Does, Sweeping.SweepsNothing}
 use Rattle.mk_alloc.specs.declared.objects.{Request.Request, Grant.Grant, Shape.Shape}
-use Rattle.mk_cycle.specs.TurnKeeps.is_look
+use Rattle.mk_cycle.specs.TurnKeeps.{is_look}
 
 -- a word that only the turn's holder changes
 abbrev pub is_steady_word : Word → Bool

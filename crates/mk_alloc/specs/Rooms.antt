@@ -13,7 +13,7 @@ use Rattle.mk_caller.specs.Below.Words.{TurnSteps.{IsFresh, turn_stays}, Steps.D
 use Rattle.mk_caller.specs.{Below.Words.Sweeping.SweepsNothing, States.caller_of_pass, Called.own_calls}
 use Rattle.mk_alloc.specs.TurnCycles.{EachIsFinished, EachIsSaid, HasNoPlace, RunsOneCycle, has_step, is_grant, is_hold}
 use Rattle.mk_alloc.specs.{TurnCycles.lets_go, Placing.{IsOutOfStop, IsUnplaced, Requests, object_for, place_now_for}}
-use Rattle.mk_alloc.specs.declared.objects.Request.Request
+use Rattle.mk_alloc.specs.declared.objects.Request.{Request}
 use Rattle.mk_cycle.specs.{TurnKeeps.{is_look, is_want, OnlyDoes}, BeginCycle.{EachIsBegun, BeginsCycle}}
 use Rattle.mk_cycle.specs.{EngineLaw.{IsFreeForCycle, IsAtPhase, Ways}, FinishCycle.FinishesCycle}
 

@@ -1,5 +1,5 @@
 //! The cycle that a free begins if one is due.
-ghost use Rattle.std.specs.Prelude.{◌≡◌};
+ghost use Rattle.std.specs.Prelude.{◌≡◌, true, false};
 ghost use Rattle.mk_alloc.specs.Rooms.{EndsOlder, RunsCycle, RunsIfDue, PassKeeps, MayRunCycle};
 
 use crate::turns::is_cycle_on;

@@ -1,5 +1,5 @@
 //! Freeing objects.
-ghost use Rattle.std.specs.Prelude.{◌≡◌, ◌<◌, ◌∷◌, [], IfOk, OnErr, true};
+ghost use Rattle.std.specs.Prelude.{◌≡◌, ◌<◌, ◌∷◌, [], IfOk, OnErr, true, false};
 ghost use Rattle.mk_never.specs.Admitted.{IsBase};
 ghost use Rattle.mk_caller.specs.States.{caller_of_pass, value_of};
 ghost use Rattle.mk_alloc.specs.{TurnCalls.{FreesObject, IsAnsweredDouble, MayTakeTurns}, Rooms.PassKeeps};

@@ -5,7 +5,7 @@ ghost use Rattle.mk_alloc.specs.{Placing.OnlyLooks, Rooms.{EndsOnly, SeesNone, N
 ghost use Rattle.mk_alloc.specs.Rooms.{PassKeeps, PlacesOrMisfits};
 ghost use Rattle.mk_cycle.specs.{BeginCycle.HoldsFirst, Stops.IsClosedBy, EngineLaw.IsAtPhase};
 ghost use Rattle.mk_core.specs.{Cycles.{is_begin, is_close}, Effects.cycle_ended};
-ghost use Rattle.mk_core.specs.declared.seats.OwnCycle.TheVariants.Ended;
+ghost use Rattle.mk_core.specs.declared.seats.OwnCycle.TheVariants.{Ended};
 
 use crate::objects::Request;
 use crate::placing::place_object;

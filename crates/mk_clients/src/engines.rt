@@ -1,6 +1,6 @@
 //! Clients: who has a turn that is free for a cycle may begin one with an engine that traces, and nothing more is
 //! asked.
-ghost use Rattle.std.specs.Prelude.{◌≡◌, OnOk};
+ghost use Rattle.std.specs.Prelude.{◌≡◌, OnOk, true};
 ghost use Rattle.mk_heap.specs.Below.Cycles.BeginCycle.{BeginsCycle, EachIsBegun, IsBegun};
 ghost use Rattle.mk_heap.specs.Below.Cycles.{EngineLaw.{IsFreeForCycle, IsAtPhase}, Beside.MarksRoots};
 

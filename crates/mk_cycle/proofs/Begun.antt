@@ -11,7 +11,7 @@ use Rattle.mk_cycle.proofs.{Vocabulary.{only_seen_by, sets_tallies}, InParts.{In
 use Rattle.mk_core.specs.History.{AreOfOthers, is_same_seat, own_from}
 use Rattle.mk_cycle.specs.BeginCycle.{AreBegun, DoesNothing, EachIsBegun, HoldsFirst, IsBegun, IsBegunUpTo, are_own_of}
 use Rattle.mk_cycle.specs.{BeginCycle.only_holds, FinishCycle.FinishesCycle, TurnKeeps.begins_marking}
-use Rattle.mk_cycle.specs.Tracing.is_tracing
+use Rattle.mk_cycle.specs.Tracing.{is_tracing}
 use Rattle.mk_cycle.proofs.HeldFirst.{holds_longer, holds_on, own_kinds}
 use Rattle.mk_words.{proofs.Seats.{same_self}, specs.Steps.{is_open}}
 

@@ -2,7 +2,7 @@
 use Rattle.mk_words.proofs.Below.Laws.Vocabulary.{Config, PlacedAllocation, Steady, Step, TalliesAreTidy, Words, ℕ}
 use Rattle.mk_words.proofs.Below.Laws.Vocabulary.{all_below-at, ap, arith, ends, has_place, in_a_word, is_held, map}
 use Rattle.mk_words.proofs.Below.Laws.Vocabulary.{not, refl, subst, sym, true, with_released, [], ◌+◌, ◌<◌, ◌∙◌, ◌≡◌}
-use Rattle.mk_words.proofs.Below.Laws.Vocabulary.Holding
+use Rattle.mk_words.proofs.Below.Laws.Vocabulary.{Holding}
 use Rattle.mk_cycle.proofs.{Allowed.{in_turn_after, in_turn_before}, BeginSteps.{all_from, counts_then}}
 use Rattle.mk_cycle.proofs.EndSteps.{as_many_fulls, ended_call, ended_done, ended_gates, ended_gone, one_more_end}
 use Rattle.mk_cycle.proofs.{EndSteps.steady_ended, HeldReleased.held_alike, KeptInParts.{calls_then, free_then}}

@@ -3,7 +3,7 @@ use Rattle.mk_words.proofs.Below.Laws.Vocabulary.{Config, Steady, Step, World, �
 use Rattle.mk_words.proofs.Below.Laws.Vocabulary.{is_held, ne_eqb, refl, slice_index, subst, sym, world_behind, ◌<◌}
 use Rattle.mk_words.proofs.Below.Laws.Vocabulary.{◌==◌, ◌∙◌, ◌≡◌, ◌≢◌, Holding}
 use Rattle.mk_cycle.proofs.Vocabulary.{Acts, IsFreeForCycle, KeepsCall, KeepsGates, LeavesTurn, PassState, event_of}
-use Rattle.mk_cycle.proofs.Vocabulary.world_at
+use Rattle.mk_cycle.proofs.Vocabulary.{world_at}
 
 pub calls_then : {p q r : PassState} → KeepsCall p q → KeepsCall q r → KeepsCall p r
 calls_then a b = grind arith

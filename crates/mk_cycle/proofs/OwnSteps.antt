@@ -9,7 +9,7 @@ use Rattle.mk_words.proofs.Below.Laws.Vocabulary.{subst, sym, true, true≢false
 use Rattle.mk_words.proofs.{Below.Laws.Vocabulary.◌≡◌, Below.Laws.RunWords.gone_behind}
 use Rattle.mk_cycle.proofs.Vocabulary.{Acts, CountsAreLeft, Has, IsGone, KeepsCall, PassState, call_of, event_of}
 use Rattle.mk_cycle.proofs.Vocabulary.{holder_finds, holding_behind, made, now_of, stands, steady_of, world_at}
-use Rattle.mk_cycle.proofs.Vocabulary.world_of
+use Rattle.mk_cycle.proofs.Vocabulary.{world_of}
 use Rattle.mk_core.{proofs.Histories.calls_more, specs.Effects.moment_behind}
 use Rattle.mk_words.proofs.Made.{Made}
 

@@ -14,7 +14,7 @@ use Rattle.mk_cycle.proofs.CellCounts.{AreTheirBits, cells_are_as_many, cells_we
 use Rattle.mk_cycle.proofs.NewlyReleased.{is_new, left_filtered, newly_counted, newly_weighed, parts_at_each}
 use Rattle.mk_cycle.proofs.{NewlyReleased.same_at_each, CellBits.has_bit_and}
 use Rattle.mk_cycle.specs.{FinishCycle.is_in_snapshot_of_cycle, Freeing.cells_marked}
-use Rattle.std.specs.Prelude.bit_and
+use Rattle.std.specs.Prelude.{bit_and}
 
 -- a history whose next event may be a `release`
 module _ {c : Config} {es : List Event} (h : IsHistory c es) (at : phase_of (left c es).now.words ≡ 3) where

@@ -8,7 +8,7 @@ use Rattle.mk_cycle.specs.{EngineLaw.{ClosesMarks, IsFreeForCycle, WantsFirst, i
 use Rattle.mk_cycle.specs.{Stops.{HolderIsLoaded, IsWanted, is_loaded}, Tracing.{Counted, Traces, Untouched}}
 use Rattle.mk_cycle.specs.Tracing.{is_tracing, untouched_of}
 use Rattle.mk_words.specs.{Steps.{Does, IsEnabledTo}, States.{IsTurn, PassState, now_of, world_of}}
-use Rattle.mk_core.specs.Frames.CountsAreLeft
+use Rattle.mk_core.specs.Frames.{CountsAreLeft}
 use Rattle.mk_cycle.proofs.KeptInParts.{keeps_at_once}
 
 -- A call that is free for a cycle has loaded what it loads.

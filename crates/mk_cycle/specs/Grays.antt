@@ -11,7 +11,7 @@ use Rattle.mk_core.specs.{MarkingConditions.marks_by_hand, declared.events.Word.
 use Rattle.mk_words.specs.{States.{PassState, TurnState, now_of}, TurnSteps.IsStopped}
 use Rattle.mk_cycle.specs.{Stops.{HolderIsLoaded, IsWanted, hand_of, still_words}, Tracing.{Counted, Traces}}
 use Rattle.mk_cycle.specs.{Tracing.{is_marking, is_waiting}, TurnKeeps.is_want, declared.noted.Noted.Noted}
-use Rattle.mk_cycle.specs.declared.worklist.Worklist.Worklist
+use Rattle.mk_cycle.specs.declared.worklist.Worklist.{Worklist}
 
 -- the cell is black
 abbrev pub is_black : Words → Cell → Bool

@@ -1,5 +1,5 @@
 //! The beginning of a cycle.
-ghost use Rattle.std.specs.Prelude.{◌≡◌, false};
+ghost use Rattle.std.specs.Prelude.{◌≡◌, false, true};
 ghost use Rattle.mk_words.specs.Sweeping.{SweepsNothing};
 ghost use Rattle.mk_cycle.specs.BeginCycle.{BeginsCycle, EachIsBegun, IsBegunLast};
 ghost use Rattle.mk_cycle.specs.EngineLaw.{IsFreeForCycle, IsAtPhase};

@@ -3,7 +3,7 @@ ghost use Rattle.std.specs.Prelude.{◌≡◌, ◌<◌, true, false, not};
 ghost use Rattle.mk_core.specs.Moments.{is_held, others_are_held};
 ghost use Rattle.mk_words.specs.States.{now_of};
 ghost use Rattle.mk_cycle.specs.Stops.{HoldsGates, HoldsSuch, IsHeldOrOwn, all_others, only_gate, HolderIsLoaded};
-ghost use Rattle.mk_cycle.specs.Stops.IsForGate;
+ghost use Rattle.mk_cycle.specs.Stops.{IsForGate};
 
 use crossbeam_utils::Backoff;
 use mk_core::{Gate, Word};

@@ -4,7 +4,7 @@ ghost use Rattle.mk_core.specs.{Cells.is_marked, Moments.is_held, Conditions.is_
 ghost use Rattle.mk_words.specs.States.{now_of};
 ghost use Rattle.mk_cycle.specs.{TurnKeeps.KeepsGates, Grays.{IsInHand, HandPointsInto}, Stops.{hand_of, is_root}};
 ghost use Rattle.mk_cycle.specs.{Stops.IsForGate, Beside.{FindsInRoot, GoesBeside, IsBeside, IsOpenToLook, SetsGate}};
-ghost use Rattle.mk_cycle.specs.Beside.gives_no_hand;
+ghost use Rattle.mk_cycle.specs.Beside.{gives_no_hand};
 
 use crate::gates::hold_gate;
 use mk_core::{Word, bit};

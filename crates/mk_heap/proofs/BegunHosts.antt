@@ -7,12 +7,13 @@ use Rattle.mk_alloc.proofs.Below.Words.{Sweeping.{others_sweep, step_then_sweeps
 use Rattle.mk_alloc.proofs.Below.Cycles.Begun.{begun_then, does_begin_none, finish_begins_none, has_on, left_then}
 use Rattle.mk_alloc.proofs.Below.Cycles.{Begun.step_begins_none, HeldFirst.finish_holds}
 use Rattle.mk_alloc.specs.Below.Cycles.{BeginCycle.{BeginsCycle, EachIsBegun}, EngineLaw.IsAtPhase}
-use Rattle.mk_alloc.specs.Below.Cycles.FinishCycle.FinishesCycle
+use Rattle.mk_alloc.specs.Below.Cycles.FinishCycle.{FinishesCycle}
 use Rattle.mk_alloc.specs.Below.Words.{Sweeping.{SweepsNothing, is_mark}, TurnSteps.{TakesTurn, is_take}}
 use Rattle.mk_alloc.specs.Below.Words.{States.{Has, PassState, world_of}, Steps.Makes}
 use Rattle.mk_core.specs.History.{Grows}
 use Rattle.mk_heap.proofs.MovedHosts.{MovesOn, idle_moves, taken_own, turn_moves}
 use Rattle.mk_heap.specs.Ending.{EndsCycle, SaysOver, TakesIdleTurn}
+use Rattle.std.specs.Prelude.{true}
 
 module _ (begins : Config → Seat → List Event → List Event → Type 0) where
   -- It finishes the cycle that is on, if one is.

@@ -3,6 +3,7 @@ use Rattle.mk_laws.proofs.Vocabulary.{Answer, Bool, Op, true, ◌≡◌}
 use Rattle.mk_run.proofs.Vocabulary.{Answers, CallerState, PassKeeps, PassState, StaysBeside}
 use Rattle.mk_heap.specs.Below.Cycles.EngineLaw.{Ways}
 use Rattle.mk_heap.{proofs.Dispatched.{beside_keeps, put_off_keeps, put_off_then}, specs.Dispatching.IsPutOff}
+use Rattle.std.specs.Prelude.{false}
 
 -- The caller is told this of an operation, at once or later, and the pass keeps to what its engine does.
 pub record IsAnsweredAs {V : Type 0} (ways : Ways V) (p : PassState) (o : Op) (told : Answer) (q : CallerState)

@@ -9,7 +9,7 @@ use Rattle.mk_core.specs.History.{AreOfOthers, AreEnabledFrom}
 use Rattle.mk_heap.proofs.Below.Cycles.Begun.{begun_append, others_begin_none}
 use Rattle.mk_heap.specs.Below.Cycles.{BeginCycle.{AreBegun, CyclesAreBegun, IsBegunUpTo}, EngineLaw.Ways}
 use Rattle.mk_heap.specs.Below.Objects.TurnCycles.{AreFinishedAtOnce, AreSaidAtCloses, IsFinishedAtOnce, IsSaid}
-use Rattle.mk_heap.specs.Unswept.IsUnswept
+use Rattle.mk_heap.specs.Unswept.{IsUnswept}
 use Rattle.mk_heap.proofs.UnsweptSeats.{first_sweeps, others_on as others_sweep_on, seat_on as seat_sweeps_on}
 use Rattle.mk_heap.proofs.UnsweptHistories.{none_sweeps, markers_sweep}
 use Rattle.mk_run.proofs.JoinedScripts.{same_or_later}

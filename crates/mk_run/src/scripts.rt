@@ -1,5 +1,5 @@
 //! The run of one script.
-ghost use Rattle.std.specs.Prelude.{◌≡◌, ◌<◌, ℕ, List, ◌+◌, [], ◌∷◌, count_by, IfOk, OnOk, true};
+ghost use Rattle.std.specs.Prelude.{◌≡◌, ◌<◌, ℕ, List, ◌+◌, [], ◌∷◌, count_by, IfOk, OnOk, true, false};
 ghost use Rattle.mk_core.specs.declared.events.Answer.{Answer};
 ghost use Rattle.mk_script.specs.declared.items.Item.{Item};
 ghost use Rattle.mk_heap.specs.Below.{Callers.States.caller_of_pass, Objects.Rooms.PassKeeps};

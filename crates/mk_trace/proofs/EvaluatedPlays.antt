@@ -18,7 +18,7 @@ use Rattle.mk_heap.proofs.{Below.Words.Seats.has_all, HostsKept.first_is_host}
 use Rattle.mk_core.specs.Moments.{first_moment}
 use Rattle.mk_heap.{proofs.UnsweptHistories.{unswept_is_precise}, specs.Unswept.{IsUnswept}}
 use Rattle.mk_trace.specs.{Grammar.along, Peaks.{found_by_ends_from, greatest_from}, Playing.IsPlayed}
-use Rattle.mk_heap.specs.Below.Cycles.TurnKeeps.is_want
+use Rattle.mk_heap.specs.Below.Cycles.TurnKeeps.{is_want}
 
 unfoldable pub stored_and_made : Contents
 stored_and_made = record { pages = 1; resident = 1; slots = 2 ∷ []; events = W 0 1 5 ∷ A 0 ∷ [] }

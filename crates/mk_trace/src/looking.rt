@@ -7,7 +7,7 @@ ghost use Rattle.mk_trace.specs.{Calls.{CallerIsHome, held_behind}, Peaks.IsBetw
 ghost use Rattle.mk_trace.specs.Ledgers.{number_freed, unfreed, FreesSlot, freed_object_of};
 ghost use Rattle.mk_trace.specs.Calls.{HostOnlyLooks, word_behind};
 ghost use Rattle.mk_core.specs.declared.events.Word.TheVariants as table_word;
-ghost use Rattle.mk_heap.specs.Below.Cycles.EngineLaw.is_register;
+ghost use Rattle.mk_heap.specs.Below.Cycles.EngineLaw.{is_register};
 
 use crate::ledger::FreedObject;
 use mk_core::{QuarantineWord, Word, has_bit, words_under};

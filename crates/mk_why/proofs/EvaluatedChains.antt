@@ -7,7 +7,7 @@ use Rattle.mk_core.proofs.{SmallCycles.{begun_in_stop, marked_in_stop, three_obj
 use Rattle.mk_core.proofs.TouchedTests.{is_into_members, points_into}
 use Rattle.mk_core.specs.{Words.all_below, Cells.pointed_cell, History.left_from}
 use Rattle.mk_sweep.proofs.EvaluatedSwept.{all_into, stopped, swept_in_stop, two_unreached, unreached}
-use Rattle.mk_why.specs.Chains.IsChain
+use Rattle.mk_why.specs.Chains.{IsChain}
 
 -- Where what roots point into are members of a set, so is what each chain begins with.
 module _ (c : Config) (w : World) (S : ℕ → Bool) (registers : all_into c w S w.now.words.registers ≡ true)

@@ -5,7 +5,7 @@ use Rattle.mk_core.specs.{Allocations.{PlacedAllocation, placed_at}, History.Wor
 use Rattle.mk_core.specs.{Readings.NoneAttends, Words.Words, declared.config.Config.Config}
 use Rattle.mk_sweep.specs.Below.Words.{States.{PassState, TurnState, now_of, world_of}, TurnSteps.IsStopped, Steps.Does}
 use Rattle.mk_sweep.specs.Below.Cycles.{EngineLaw.{IsAtPhase, IsFreeForCycle}, TurnKeeps.{LeavesTurn, but_phase}}
-use Rattle.mk_sweep.specs.Below.Cycles.TurnKeeps.is_look
+use Rattle.mk_sweep.specs.Below.Cycles.TurnKeeps.{is_look}
 
 -- The number of pages of the inner engine if tables of this many words fit it, otherwise 0.
 abbrev pub pages_for : ℕ → ℕ → ℕ

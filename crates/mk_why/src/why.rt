@@ -3,7 +3,7 @@ ghost use Rattle.std.specs.Prelude.{◌≡◌, [], IfOk, false, length};
 ghost use Rattle.mk_core.specs.{declared.config.Config.Config, History.World};
 ghost use Rattle.mk_sweep.specs.Below.Cycles.{BeginCycle.IsBegun, TurnKeeps.{OnlyDoes, begins_marking}};
 ghost use Rattle.mk_sweep.specs.Below.Cycles.EngineLaw.{IsAtPhase, IsFreeForCycle};
-ghost use Rattle.mk_sweep.specs.Below.Words.Sweeping.SweepsNothing;
+ghost use Rattle.mk_sweep.specs.Below.Words.Sweeping.{SweepsNothing};
 ghost use Rattle.mk_why.specs.{Chains.AreKept, Searching.{IsTold, HasKeptNothing}, Stops.pages_for};
 ghost use Rattle.mk_why.specs.Stops.{IsClosedBefore, IsToldBefore, view_of};
 

@@ -2,6 +2,7 @@ use Rattle.mk_laws.proofs.Vocabulary.{true, ◌≡◌, ◌≤◌}
 use Rattle.mk_check.specs.Feeding.{work_left}
 use Rattle.mk_run.{proofs.{ScriptCalls.IsRunning, Vocabulary.PassKeeps}, specs.Running.{script_of}}
 use Rattle.mk_run.proofs.scripts.run_script.Given as goal
+use Rattle.std.specs.Prelude.{false}
 
 abbrev pub invariant-instructions : goal.invariant-instructions
 invariant-instructions g l = record {

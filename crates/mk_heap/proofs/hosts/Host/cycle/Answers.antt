@@ -11,6 +11,7 @@ use Rattle.mk_heap.proofs.{BegunHosts.{cycle_begun, idle_then_sweeps}, HostsKept
 use Rattle.mk_heap.proofs.{hosts.Host.cycle.Goals.After-finish_cycle-turn, FinishedHosts.cycle_finished}
 use Rattle.mk_heap.{proofs.SaidHosts.{idle_then_says, step_says_none}, specs.{Ending.TakesIdleTurn, Hosts.HostState}}
 use Rattle.mk_heap.proofs.hosts.Host.cycle.Goals as goal
+use Rattle.std.specs.Prelude.{false}
 
 pub give-back-requires-clause-enabled : goal.give-back-requires-clause-enabled
 give-back-requires-clause-enabled g c =
