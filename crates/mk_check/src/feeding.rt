@@ -43,8 +43,9 @@ impl Feed {
     ghost use Rattle.std.specs.Prelude.{ℕ, List, false};
     ghost use Rattle.mk_core.specs.declared.events.Answer.{Answer};
     ghost use Rattle.mk_script.specs.{declared.items.Item.Item, Grammar.IsOfSomeText};
-    ghost use Rattle.mk_check.specs.{Feed.{feed, has_ended}, Feeding.{next_op, work_left, FeedStandsFor, IsWaiting}};
-    ghost use Rattle.mk_check.specs.Feeding.{TakesAnswer, elements_of_script};
+    ghost use Rattle.mk_check.specs.Feed.{feed, has_ended, is_refusal};
+    ghost use Rattle.mk_check.specs.Feeding.{next_op, work_left, FeedStandsFor, IsWaiting, TakesAnswer};
+    ghost use Rattle.mk_check.specs.Feeding.{elements_of_script};
 
     /// Script `script` of a program, from 0 on, which has no answer yet.
     pub fn start(alloc: Global, program: &Checked, script: u64) -> Result<Feed, NoMemory>
@@ -101,27 +102,29 @@ impl Feed {
         ensures nearer { OnOk result (work_left self.new < work_left self.old) }
         ensures err { OnErr result (self.new ≡ self.old) }
     {
-        // Each kind has a way of its own, so that it is chosen where the answer is given, and not again.
-        match answer {
-            Answer::Num(_) => self.answer_at_once(alloc, answer),
-            Answer::Done => self.answer_at_once(alloc, answer),
-            Answer::Word(_) => self.answer_at_once(alloc, answer),
-            _ => self.answer_ahead(alloc, answer),
-        }
-    }
-
-    /// Takes an answer of a kind at which mostly nothing is printed, and no memory is taken.
-    #[inline(always)]
-    fn answer_at_once(&mut self, alloc: Global, answer: Answer) -> Result<(), NoMemory>
-        requires { IsWaiting self.old }
-        ensures ok { OnOk result (TakesAnswer self.old answer self.new) }
-        ensures nearer { OnOk result (work_left self.new < work_left self.old) }
-        ensures err { OnErr result (self.new ≡ self.old) }
-    {
-        if self.answer_silently(answer) {
+        if self.answer_at_once(answer) {
             return Ok(());
         }
         self.answer_ahead(alloc, answer)
+    }
+
+    /// Answers the operation that waits, if that refuses nothing, and the next one comes before anything is printed,
+    /// with at most one block left. Returns whether it does. No memory is taken.
+    #[inline(always)]
+    pub fn answer_at_once(&mut self, answer: Answer) -> bool
+        requires { IsWaiting self.old }
+        ensures taken { IsTrue result → TakesAnswer self.old answer self.new }
+        ensures nearer { IsTrue result → work_left self.new < work_left self.old }
+        ensures accepted { IsTrue result → is_refusal answer ≡ false }
+        ensures refused { result ≡ false → self.new ≡ self.old }
+    {
+        // Each kind has a way of its own, so that it is chosen where the answer is given, and not again.
+        match answer {
+            Answer::Num(_) => self.answer_silently(answer),
+            Answer::Done => self.answer_silently(answer),
+            Answer::Word(_) => self.answer_silently(answer),
+            _ => false,
+        }
     }
 
     /// Takes an answer and runs on, where the next operation comes before anything is printed, with at most one block
@@ -139,7 +142,7 @@ impl Feed {
 
     /// Takes an answer and runs on, on a copy first, so that no memory leaves the script as it was.
     #[inline(never)]
-    fn answer_ahead(&mut self, alloc: Global, answer: Answer) -> Result<(), NoMemory>
+    pub fn answer_ahead(&mut self, alloc: Global, answer: Answer) -> Result<(), NoMemory>
         requires { IsWaiting self.old }
         ensures ok { OnOk result (TakesAnswer self.old answer self.new) }
         ensures nearer { OnOk result (work_left self.new < work_left self.old) }

@@ -24,7 +24,7 @@ abbrev freed_bits : Words → ℕ → ℕ
 freed_bits w p = slice_index w.freed p
 
 cells_summed : (w : Words) → ((p : ℕ) → freed_bits w p < 2 ^ 32) → (n : ℕ)
-    → freed_cells w n ≡ sum_below n (λ p. count_ones (freed_bits w p))
+    → freed_cells (freed_bits w) n ≡ sum_below n (λ p. count_ones (freed_bits w p))
 cells_summed w small zero = refl
 cells_summed w small (suc n) =
     let before = cells_summed w small n in
@@ -34,7 +34,8 @@ cells_summed w small (suc n) =
     omega arith
 
 module _ {c : Config} {es : List Event} (h : IsHistory c es) (quiet : phase_of (left c es).now.words ≢ 4) where
-  pub freed_cells_are_quarantined : freed_cells (left c es).now.words c.pages ≡ quarantined (left c es).allocations
+  pub freed_cells_are_quarantined : freed_cells (freed_bits (left c es).now.words) c.pages
+      ≡ quarantined (left c es).allocations
   freed_cells_are_quarantined =
       let known = (histories_keep_the_invariant c es h).order.quarantined in
       cells_summed (left c es).now.words (λ p. (known.small p).0) c.pages

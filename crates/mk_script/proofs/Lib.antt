@@ -8,6 +8,7 @@ pub mod PrintedNumbers
 pub mod RoundTrip
 pub mod Said
 pub mod Spacing
+mod Blocks
 mod Converted
 mod Digits
 mod Ends

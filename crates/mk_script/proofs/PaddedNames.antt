@@ -1,7 +1,7 @@
 -- Names of one length that are padded with zeros are the same where all their bytes are.
 use Rattle.std.proofs.{Common.{drop_at, get_or, set, take-append-drop}, lemmas.Slice.Eq.bytes_eq-Decides}
 use Rattle.std.proofs.lemmas.List.{drop_all, drop_more, length-take, set_at, take_at, take_more}
-use Rattle.std.proofs.lemmas.Bool.{leb-true}
+use Rattle.std.proofs.lemmas.Bool.{leb-true, ltb-true}
 use Rattle.mk_script.specs.Operands.{begins_name, is_name_byte, name_of}
 use Rattle.mk_script.proofs.Vocabulary.{Some, and_parts, list_all}
 use Rattle.mk_script.proofs.Vocabulary.{Bool, List, ℕ, ap, arith, bytes_eq, drop, length, replicate, sym, take, true}
@@ -58,6 +58,10 @@ before_zeros word bytes is =
 -- the first of these tests says that a word is short
 pub short_word : (word : List ℕ) → begins_name word ≡ true → length word ≤ 16
 short_word word begins = leb-true (length word) 16 (and_parts _ _ (and_parts _ _ begins).0).1
+
+-- and that it has a byte
+pub some_byte : (word : List ℕ) → begins_name word ≡ true → 1 ≤ length word
+some_byte word begins = ltb-true 0 (length word) (and_parts _ _ (and_parts _ _ begins).0).0
 
 -- all tests of a name are passed where no byte is left
 pub named : (word : List ℕ) (place : ℕ) → begins_name word ≡ true → length word ≤ place

@@ -1,5 +1,5 @@
 -- Words with a space before each, and lines of them.
-use Rattle.std.proofs.Common.{IfOk, add-one, drop-cons}
+use Rattle.std.proofs.Common.{OnOk, add-one, drop-cons}
 use Rattle.mk_script.proofs.Vocabulary.{At, List, Result, ℕ, ap, append-nil, append_assoc, arith, at_text, codes, drop}
 use Rattle.mk_script.proofs.Vocabulary.{get_or, joined_words, length, refl, spaced_words, suc, sym, [], ◌++◌, ◌+◌, ◌<◌}
 use Rattle.mk_script.{proofs.Vocabulary.{◌∙◌, ◌∷◌, ◌≡◌}, specs.Canonical.{line_text, numbers_before}}
@@ -20,8 +20,8 @@ line_text-joined (word ∷ next ∷ words) = ap (λ t. word ++ (codes " " ++ t))
     ∙ simp append_assoc
 
 -- where a text is at hand, another form of it is
-pub then_same : {E : Type 0} (r : Result (List ℕ) E) (x y : List ℕ) → IfOk r (λ p. p ≡ x) → x ≡ y → IfOk r (λ p. p ≡ y)
-then_same x0 x y e f = grind arith
+pub then_same : {A E : Type 0} (r : Result A E) (p x y : List ℕ) → OnOk r (p ≡ x) → x ≡ y → OnOk r (p ≡ y)
+then_same x0 p x y e f = grind arith
 
 -- what is left of a list begins with its next item
 pub drop_next : {A : Type 0} (xs : List A) (i : ℕ) (x : A) → i < length xs → x ≡ get_or xs i x

@@ -16,6 +16,7 @@ mod names;
 mod numbers;
 mod operands;
 mod parsing;
+mod printer;
 mod printing;
 mod program;
 mod scope;

@@ -1,5 +1,5 @@
 //! Names of types, scripts and registers.
-ghost use Rattle.std.specs.{Prelude.◌≡◌, Str.bytes_eq};
+ghost use Rattle.std.specs.{Prelude.{◌≡◌, ◌≤◌, take, length}, Str.bytes_eq};
 ghost use Rattle.mk_script.specs.Operands.{name_of};
 ghost use Rattle.mk_script.specs.Operands as spec;
 
@@ -49,16 +49,34 @@ impl Name {
             return None;
         }
         let mut bytes = [0; 16];
-        for (place, byte) in word.iter().enumerate() {
-            if !is_name_byte(*byte) {
+        bytes[0] = word[0];
+        for place in 1..word.len() {
+            if !is_name_byte(word[place]) {
                 return None;
             }
-            bytes[place] = *byte;
+            bytes[place] = word[place];
         }
         Some(Name {
             bytes,
             length: word.len(),
         })
+    }
+
+    /// Its bytes, and zeros after them.
+    #[inline(always)]
+    pub(crate) fn padded(&self) -> &[u8; 16]
+        ensures { take (length self.now) result.now ≡ self.now }
+    {
+        &self.bytes
+    }
+
+    /// How many bytes it has.
+    #[inline(always)]
+    pub(crate) fn len(&self) -> usize
+        ensures length { result ≡ length self.now }
+        ensures short { result ≤ 16 }
+    {
+        self.length
     }
 
     /// Its bytes.

@@ -6,6 +6,7 @@ use crate::items::Item;
 use crate::scope::Scope;
 
 /// Adds the item that was found, if it may stand next.
+#[inline(always)]
 pub fn take(
     scope: &mut Scope,
     items: &mut Vec<Item>,
@@ -14,8 +15,8 @@ pub fn take(
     ensures { IsScopeOf scope.old items.old.items → Reads items.old.items (checked_behind items.old.items found) result
         items.new.items scope.new }
 {
-    let item = found?;
-    scope.check(&item)?;
-    scope.add(&item)?;
-    Ok(items.push(item)?)
+    items.push(found?)?;
+    let item = &items[items.len() - 1];
+    scope.check(item)?;
+    Ok(scope.add(item)?)
 }

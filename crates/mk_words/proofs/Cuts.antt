@@ -5,10 +5,10 @@ use Rattle.mk_laws.proofs.Vocabulary.{enabled_parts, false, first_world, inl, in
 use Rattle.mk_laws.proofs.Vocabulary.{true, zero, [], ◌++◌, ◌∙◌, ◌∷◌, ◌≡◌, ◌≢◌, ◌⊎◌}
 use Rattle.mk_core.specs.History.{is_same_seat}
 use Rattle.atomic_table.{proofs.Lists.{at_set, set_else}, specs.Table.{Joins, Splits}}
-use Rattle.mk_words.proofs.Keeps.{Apart, Both, apart_stays, sees_fewer, sees_none}
+use Rattle.mk_words.proofs.Keeps.{Apart, Both, Sees, apart_stays, sees_fewer, sees_none}
 use Rattle.mk_words.proofs.Seats.{has_either, has_left, has_right, only_one, without_it, without_keeps, without_less}
 use Rattle.mk_words.proofs.Overs.{none_in_parts, none_over, overs_with}
-use Rattle.mk_words.specs.Rule.{Kept, Sees, beside, copy_of, goes_with, no_part, nobody, seats_of, stays_with}
+use Rattle.mk_words.specs.Rule.{Kept, beside, goes_with, no_part, nobody, seats_of, stays_with, view}
 use Rattle.mk_words.specs.States.{CallersAreBeforeOver, Has, has_over, is_caller, without_seat}
 use Rattle.mk_words.specs.declared.rule.{Part.Part, View.View}
 use mathlib.Core.Option.{some, some-injective, some-ne-none}
@@ -109,7 +109,7 @@ hands_over x v alone has host another early =
       );
     }
 
-pub remembers : (v : View) → Cut v v (copy_of v)
+pub remembers : (v : View) → Cut v v (view v.config [] v.own.seen)
 remembers v = record {
   stays = λ y h. h;
   goes = λ y h. cc;

@@ -6,7 +6,7 @@ use Rattle.mk_laws.proofs.Vocabulary.{refl, subst, sym, true, world_behind, [], 
 use Rattle.mk_laws.proofs.{Known.{holds_turn, known_left}, SameWords.{Behind, reg_keeps, tally_keeps}}
 use Rattle.mk_laws.proofs.{NextSteps.is_take, Orderly.{same_holder, turn_of}, OthersMoves.free_move}
 use Rattle.mk_laws.proofs.{ProtocolFrames.{left_after, other_seat}, TurnFrame.steady_out, Views.view_of}
-use Rattle.mk_books.specs.KnownPages.{KnownPages, Shows, page_at}
+use Rattle.mk_core.specs.Below.Books.KnownPages.{KnownPages, Shows, page_at}
 use Rattle.mk_core.{proofs.Histories.{last_enabled}, specs.History.{AreOfOthers}}
 use Rattle.mk_words.proofs.Unmarked.{is_mark, others_unmark, stays_bare}
 use Rattle.mk_words.specs.{PageMaps.{IsMapOf, is_handing}, TurnSteps.turn_stays}

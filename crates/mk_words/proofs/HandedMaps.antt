@@ -3,7 +3,7 @@ use Rattle.std.proofs.Common.{set}
 use Rattle.mk_laws.proofs.Vocabulary.{Config, Event, Holds, IsHistory, List, Op, Option, Seat, Step, TalliesAreTidy}
 use Rattle.mk_laws.proofs.Vocabulary.{World, ℕ, ap, arith, first_world, left, left_more, refl, slice_index, subst, sym}
 use Rattle.mk_laws.proofs.Vocabulary.{true, [], ◌++◌, ◌∙◌, ◌∷◌, ◌≡◌, ◌≢◌}
-use Rattle.mk_books.specs.KnownPages.{KnownPages}
+use Rattle.mk_core.specs.Below.Books.KnownPages.{KnownPages}
 use Rattle.mk_core.specs.{Cycles.is_give, Words.becomes}
 use Rattle.atomic_table.proofs.Lists.{exchanged, set_here}
 use Rattle.mk_words.proofs.{FreeTurns.{map_left, map_there, page_words}, Keeps.{access_there, place_there, steps_at}}

@@ -1,7 +1,7 @@
 -- What the calls that hand over the turn owe the table, and what they learn.
 use Rattle.mk_laws.proofs.Vocabulary.{Config, Event, Holds, IsHistory, IsTidy, List, Op, Option, Seat, Step, Store, ℕ}
 use Rattle.mk_laws.proofs.Vocabulary.{access, ap, holder_number, left, refl, subst, sym, [], ◌+◌, ◌<◌, ◌∙◌, ◌∷◌, ◌≡◌}
-use Rattle.mk_books.specs.KnownPages.{KnownPages}
+use Rattle.mk_core.specs.Below.Books.KnownPages.{KnownPages}
 use Rattle.mk_core.specs.{Layout.{count_of_words, index_of}, Words.becomes}
 use Rattle.mk_core.specs.declared.accesses.{Access.TheVariants.Exchange, TableWord.TheVariants.Turn}
 use Rattle.atomic_table.specs.{Seated.TableId, Table.{Allows, rest}}

@@ -5,9 +5,9 @@ use Rattle.mk_laws.proofs.Vocabulary.{IsWithinLimits, List, Seat, TalliesAreTidy
 use Rattle.mk_laws.proofs.Vocabulary.{append-nil, append_assoc, enabled_meets, enabled_parts, false, first_world}
 use Rattle.mk_laws.proofs.Vocabulary.{histories_keep_lengths, left, left_more, refl, set-get_or, slice_index, slice_set}
 use Rattle.mk_laws.proofs.Vocabulary.{subst, suc, sym, true, word_accessed, zero, [], ◌++◌, ◌∙◌, ◌∷◌, ◌≡◌, ◌≢◌}
-use Rattle.mk_books.specs.KnownPages.{KnownPages}
+use Rattle.mk_core.specs.Below.Books.KnownPages.{KnownPages}
 use Rattle.mk_core.proofs.{Histories.last_enabled, RegionLemmas.{accesses_change, words_stand}}
-use Rattle.mk_core.specs.{History.{AreEnabledFrom, calls_from, left_from, AreOfOthers}, Cycles.is_give}
+use Rattle.mk_core.specs.{History.{AreEnabledFrom, calls_from, left_from, AreOfOthers, Grows}, Cycles.is_give}
 use Rattle.mk_core.specs.{Layout.{IsOfTable, in_order, index_of}, Words.{becomes, word_in, zero_words_of}}
 use Rattle.mk_core.specs.declared.accesses.TableWord.{TableWord}
 use Rattle.atomic_table.proofs.Lists.{at_set}
@@ -16,7 +16,7 @@ use Rattle.mk_words.proofs.{Seats.{others_none, others_one, others_own}, FreeTur
 use Rattle.mk_words.proofs.{LongerLists.longer_lists, Overs.{overs_later, overs_with, set_there}}
 use Rattle.mk_words.{proofs.Tidy.{none_tidy, tidy_more, tidy_part}, specs.declared.rule.View.{View}}
 use Rattle.mk_words.specs.States.{CallersAreBeforeOver, Has, HasAll, HasCallers, all_seats, is_over}
-use Rattle.mk_words.specs.{PageMaps.{IsMapOf, is_handing}, Rule.{Adds, IsHome, Kept, Mine, Sees, adds, first_view}}
+use Rattle.mk_words.specs.{PageMaps.{IsMapOf, is_handing}, Rule.{Adds, IsHome, Kept, Mine, adds}}
 use Rattle.mk_words.specs.{Rule.{no_part, part, seats_of, settles, view}, declared.rule.Part.Part}
 use Rattle.atomic_table.specs.Table.{Allows, Final, Seen, State, Step as TableStep, keeps}
 use mathlib.Core.Option.{Option as Maybe, some, some-injective, some-ne-none}
@@ -24,6 +24,10 @@ use lib.ListN.{get_elem?}
 
 abbrev pub Table : Type 0
 Table = State KnownPages View
+
+-- The history begins with what was seen, and goes on with events of others.
+abbrev pub Sees : List Event → Part → Type 0
+Sees es p = Grows p.seats p.seen es
 
 abbrev pub Both : List Event → View → Type 0
 Both es v = Sees es v.own × Sees es v.came
@@ -233,11 +237,12 @@ one_view zero v w e = (refl, some-injective v w e)
 one_view (suc i) v w e = absurd (some-ne-none w (sym e))
 
 pub opens : (c : Config) (s : Table) → IsWithinLimits c → s.words ≡ in_order (zero_words_of c.pages) → s.views
-    ≡ first_view c ∷ [] → (map : KnownPages) → s.homes ≡ some map ∷ [] → IsMapOf map (zero_words_of c.pages) → Kept c s
+    ≡ view c (all_seats c) [] ∷ [] → (map : KnownPages) → s.homes ≡ some map ∷ []
+    → IsMapOf map (zero_words_of c.pages) → Kept c s
 unfolding left_from AreEnabledFrom calls_from
 opens c s limits words_are views_are map homes_are shows =
-    let of_first : (i : ℕ) (d : View) → get_elem? s.views i ≡ some d → (i ≡ 0) × (first_view c ≡ d) =
-    λ i d p. one_view i (first_view c) d (subst (λ (l : List View). get_elem? l i ≡ some d) views_are p) in
+    let of_first : (i : ℕ) (d : View) → get_elem? s.views i ≡ some d → (i ≡ 0) × (view c (all_seats c) [] ≡ d) =
+    λ i d p. one_view i (view c (all_seats c) []) d (subst (λ (l : List View). get_elem? l i ≡ some d) views_are p) in
     record {
       events = [];
       history = record { within_limits = limits; enabled = tt; admitted = tt };

@@ -16,6 +16,7 @@ pub mod Made
 pub mod CallSteps
 pub mod FoundTurns
 pub mod TurnSteps
+pub mod ToldMaps
 pub mod MapSteps
 pub mod StoredHeads
 pub mod RunMaps

@@ -6,13 +6,16 @@ use Rattle.mk_laws.proofs.Vocabulary.{get_or-set_other, get_or-set_same, header_
 use Rattle.mk_laws.proofs.Vocabulary.{is_in_range, length, length-set, ltb-true, nat_lt, not, refl, set_by, slice_index}
 use Rattle.mk_laws.proofs.Vocabulary.{subst, sym, tally_word, true, [], ◌++◌, ◌<◌, ◌==◌, ◌||◌, ◌∙◌, ◌∷◌, ◌≡◌, ◌≢◌}
 use Rattle.mk_laws.proofs.SameWords.{Behind}
-use Rattle.mk_books.specs.KnownPages.{KnownPages, Shows, is_bare, is_quarantined_page, is_uncleaned, is_uncleaned_under}
-use Rattle.mk_books.specs.KnownPages.{with_header, with_used, IsNext, page_at}
+use Rattle.std.specs.Prelude.{slice_set}
+use Rattle.mk_core.specs.Below.Books.KnownPages.{KnownPages, Shows, is_bare, is_quarantined_page, is_uncleaned}
+use Rattle.mk_core.specs.Below.Books.KnownPages.{is_uncleaned_under}
+use Rattle.mk_core.specs.Below.Books.KnownPages.{with_header, with_used, IsNext, page_at}
 use Rattle.mk_words.proofs.{FreeTurns.{map_left, map_stays, page_words}, TurnSteps.{acts, gates_still}, Made.own_before}
 use Rattle.mk_words.proofs.{Seats.others_own, Unmarked.{is_mark, stays_unmarked}}
-use Rattle.mk_words.specs.PageMaps.{HasNoMarks, HeaderIsTold, IsMapOf, IsNextUncleaned, IsToldOf, MarkIsTold}
-use Rattle.mk_words.specs.{PageMaps.{QuarantineIsTold, UsedIsTold, is_told, page_told}, States.{IsTurn, PassState}}
-use Rattle.mk_words.specs.{States.{TurnState, call_of, event_of, now_of}, TurnSteps.{Acts, HasMap, gates_stay}}
+use Rattle.mk_words.specs.PageMaps.{HasNoMarks, IsMapOf, IsNextUncleaned, is_told, page_told}
+use Rattle.mk_words.proofs.ToldMaps.{HeaderIsTold, IsToldOf, MarkIsTold, QuarantineIsTold, UsedIsTold}
+use Rattle.mk_words.specs.{States.{IsTurn, PassState}, TurnSteps.{Acts, FollowsStep, HasMap, gates_stay}}
+use Rattle.mk_words.specs.States.{TurnState, call_of, event_of, now_of}
 use Rattle.mk_words.specs.{TurnSteps.world_at, Laws.turn_prop, Steps.{IsEnabledTo, Makes}}
 
 no_mark : (s : Step) → is_told s ≡ false → is_mark s ≡ false
@@ -156,6 +159,34 @@ shows_told {p} {q} (Step.Mark page v) {old} {new} is a told within shows =
     map_now p (Step.Mark page v) q a new (told_mark p.table.config (world_at a.makes).now p.seat page v old new told
     (map_then p (Step.Mark page v) q a old shows))
 shows_told _ is a told within shows = cc
+
+-- So what was told of a step follows it, and so does a map that needn't be told.
+
+pub follows_told : (s x : Step) {old new : KnownPages} → s ≡ x → is_told x ≡ true
+    → (is_told s ≡ true → page_told s < length old.pages) → IsToldOf x old new → FollowsStep s old new
+follows_told s x {old} {new} is told within h =
+    subst (λ (y : Step). FollowsStep y old new) (sym is) (λ p q a shows. shows_told x told a h
+    (subst (λ (y : Step). is_told y ≡ true → page_told y < length old.pages) is within told) shows)
+
+pub freed_so : {old new : KnownPages} {page n m : ℕ} → n ≡ m
+    → ((pages : List Page) (freed : List ℕ) → Shows old pages freed → Shows new pages (slice_set freed page n))
+    → (pages : List Page) (freed : List ℕ) → Shows old pages freed → Shows new pages (slice_set freed page m)
+freed_so {new = new} {page = page} is h pages freed shows =
+    subst (λ (k : ℕ). Shows new pages (slice_set freed page k)) is (h pages freed shows)
+
+untold : (s : Step) → ((page v : ℕ) → s ≡ Step.Head page v → ⊥) → ((page v : ℕ) → s ≡ Step.Used page v → ⊥)
+    → ((page v : ℕ) → s ≡ Step.Quar page v → ⊥) → ((page v : ℕ) → s ≡ Step.Mark page v → ⊥) → is_told s ≡ false
+untold (Step.Head page v) head used quar mark = absurd (head page v refl)
+untold (Step.Used page v) head used quar mark = absurd (used page v refl)
+untold (Step.Quar page v) head used quar mark = absurd (quar page v refl)
+untold (Step.Mark page v) head used quar mark = absurd (mark page v refl)
+untold _ head used quar mark = refl
+
+pub follows_untold : (s : Step) (map : KnownPages) → ((page v : ℕ) → s ≡ Step.Head page v → ⊥)
+    → ((page v : ℕ) → s ≡ Step.Used page v → ⊥) → ((page v : ℕ) → s ≡ Step.Quar page v → ⊥)
+    → ((page v : ℕ) → s ≡ Step.Mark page v → ⊥) → FollowsStep s map map
+follows_untold s map head used quar mark p q a shows =
+    shows_still p s q a map (untold s head used quar mark) shows
 
 -- It leaves the gates where they are, and the turn.
 pub told_stays : (s : Step) → is_told s ≡ true → gates_stay s ≡ true

@@ -5,11 +5,11 @@ use Rattle.mk_laws.proofs.Vocabulary.{ltb-true, marker_at, marker_behind, marker
 use Rattle.mk_laws.proofs.Vocabulary.{true, ◌<◌, ◌∙◌, ◌≡◌}
 use Rattle.mk_core.specs.Effects.{moment_behind}
 use Rattle.mk_words.{proofs.Made.{Made, made}, specs.Steps.{IsEnabledTo, Tells, found_by, moment_of}}
-use Rattle.mk_words.specs.{Steps.{Marks, is_markers, marker_in}, States.{PassState, event_of, now_of}}
+use Rattle.mk_words.specs.{Steps.{Marks, marker_in}, States.{PassState, event_of, now_of}}
 
 -- a marker's step is a marker's
 
-marker_steps : (seat : Seat) (g : Group) → is_markers g ≡ true → is_open_to seat g ≡ true → (k : ℕ) × (seat ≡ Marker k)
+marker_steps : (seat : Seat) (g : Group) → g ≡ Group.Markers → is_open_to seat g ≡ true → (k : ℕ) × (seat ≡ Marker k)
 marker_steps seat x1 m h = grind arith
 
 behind_own : (c : Config) (m : Moment) (seat : Seat) (k : ℕ) (s : Step) → seat ≡ Marker k → k < length m.seats.markers
@@ -23,7 +23,7 @@ module _ (p : PassState) (s : Step) (n : ℕ) (q : PassState) (t : Tells p s n q
   d : Made p s q t.makes
   d = made p s q t.makes
 
-  pub marks : is_markers (group_of s) ≡ true → Marks p s n q
+  pub marks : group_of s ≡ Group.Markers → Marks p s n q
   marks kind =
       let c : Config = p.table.config in
       let k = marker_steps p.seat (group_of s) kind d.meets.kind in

@@ -3,7 +3,7 @@ use Rattle.std.proofs.Common.{replicate}
 use Rattle.mk_laws.proofs.Vocabulary.{Access, Caller, Config, Event, Host, IsHistory, IsTidy, IsWithinLimits, List}
 use Rattle.mk_laws.proofs.Vocabulary.{Seat, Step, ℕ, access, ap, arith, false, refl, subst, sym, true, word_accessed}
 use Rattle.mk_laws.proofs.{Vocabulary.{[], ◌++◌, ◌<◌, ◌∙◌, ◌∷◌, ◌≡◌}, Reaching.events_reach_the_table}
-use Rattle.mk_books.specs.KnownPages.{KnownPages}
+use Rattle.mk_core.specs.Below.Books.KnownPages.{KnownPages}
 use Rattle.mk_core.proofs.{Histories.enabled_more, LayoutLemmas.indexes_within, RegionLemmas.first_are_zero}
 use Rattle.mk_core.specs.{Layout.{IsOfTable, count_of_words, index_of}, History.{Grows, is_same_seat}}
 use Rattle.mk_core.specs.{History.{AreEnabledFrom, calls_from}, Words.{becomes, zero_words_of}}
@@ -12,9 +12,9 @@ use Rattle.atomic_table.specs.{Table.{Allows, Final, Joins, Seen, Splits, openin
 use Rattle.mk_words.proofs.{Cuts.{hands_over, joins, remembers, splits}, Keeps.{Ended, access_there, closes, opens}}
 use Rattle.mk_words.proofs.{Keeps.{performs_at, place_there, settles_at}, Seats.{has_all, has_first, has_left}}
 use Rattle.mk_words.proofs.{Seats.{only_one, without_keeps, without_less}, Tidy.none_tidy, Undecided.undecided_admitted}
-use Rattle.mk_words.specs.Rule.{Adds, Kept, Mine, adds, beside, copy_of, first_view, goes_with, no_step, nobody}
-use Rattle.mk_words.specs.{Rule.{settles, stays_with, stores_word, told_by}, States.{CallersAreBeforeOver, Has, HasAll}}
-use Rattle.mk_words.specs.States.{has_over, is_caller, PassState, WordsState, event_of, now_of}
+use Rattle.mk_words.specs.Rule.{Adds, Kept, Mine, adds, beside, goes_with, no_step, nobody}
+use Rattle.mk_words.specs.{Rule.{settles, stays_with, told_by, view}, States.{CallersAreBeforeOver, Has, HasAll}}
+use Rattle.mk_words.specs.States.{all_seats, has_over, is_caller, PassState, WordsState, event_of, now_of}
 use Rattle.mk_words.specs.{PageMaps.{IsMapOf, is_handing}, Rule.{IsInOrder, state_of}, Steps.{May, MayPerform, Tells}}
 use Rattle.mk_words.specs.declared.rule.View.{View}
 use mathlib.Core.Option.{some}
@@ -53,11 +53,11 @@ split_call config key words id me seat x picked order config_is key_is words_are
 )
 
 pub copy_call : (config key : Config) (words id : ℕ) (me : Mine) → key ≡ config → words ≡ count_of_words config.pages
-    → (0 < words) × Splits (Kept key) id me.0 me.0 (copy_of me.0)
+    → (0 < words) × Splits (Kept key) id me.0 me.0 (view me.0.config [] me.0.own.seen)
 copy_call config key words id me key_is words_are = (
   some_words words config.pages words_are,
-  subst (λ (d : Config). Splits (Kept d) id me.0 me.0 (copy_of me.0)) (sym key_is)
-      (splits config id me.0 me.0 (copy_of me.0) (remembers me.0)),
+  subst (λ (d : Config). Splits (Kept d) id me.0 me.0 (view me.0.config [] me.0.own.seen)) (sym key_is)
+      (splits config id me.0 me.0 (view me.0.config [] me.0.own.seen) (remembers me.0)),
 )
 
 -- a join, and the look after it
@@ -157,7 +157,7 @@ perform_learns pid qid me n seat s a answer picked q_is picked_is a_is order on 
 -- a store
 pub allows_store : (key : Config) (slots id : ℕ) (me : Mine) (i : ℕ) (e : Event) (value : ℕ)
     → Allows (Kept key) slots id me i (λ n. value) (λ n m. adds e no_step me n m)
-    → Allows (Kept key) slots id me i (λ n. value) (λ n m. stores_word e no_step me value m)
+    → Allows (Kept key) slots id me i (λ n. value) (λ n m. (found : ℕ) × adds e no_step me found m)
 allows_store key slots id me i e value allows s k long at small = grind arith
 
 -- at first
@@ -168,10 +168,11 @@ none_is_history c limits = record { within_limits = limits; enabled = tt; admitt
 
 pub first_call : (c : Config) (zeros : List ℕ) (slots : List KnownPages) (m : KnownPages) → IsWithinLimits c
     → zeros ≡ replicate (count_of_words c.pages) 0 → slots ≡ m ∷ [] → IsMapOf m (zero_words_of c.pages)
-    → Kept c (opening {S = KnownPages} zeros slots (first_view c))
+    → Kept c (opening {S = KnownPages} zeros slots (view c (all_seats c) []))
 first_call c zeros slots m limits are one shows = grind (arith, opens, first_are_zero, some)
 
-pub first_in_order : (c : Config) (me : Mine) → IsWithinLimits c → me ≡ (first_view c, []) → IsInOrder me Host
+pub first_in_order : (c : Config) (me : Mine) → IsWithinLimits c → me ≡ (view c (all_seats c) [], [])
+    → IsInOrder me Host
 first_in_order c me limits is = grind (arith, has_all, none_is_history, none_tidy)
 
 -- after a split

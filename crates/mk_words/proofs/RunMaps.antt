@@ -5,11 +5,11 @@ use Rattle.std.specs.List.{range_with_len}
 use Rattle.mk_laws.proofs.Vocabulary.{Bool, List, Page, Step, Words, ap, arith, cases_eq, cases_lt, cond, false}
 use Rattle.mk_laws.proofs.Vocabulary.{histories_keep_lengths, inl, inr, length, length-set}
 use Rattle.mk_laws.proofs.Vocabulary.{refl, subst, suc, sym, zero, ℕ, ◌+◌, ◌<◌, ◌==◌, ◌∙◌, ◌≡◌, ◌≤◌}
-use Rattle.mk_books.proofs.RunPages.{in_range, length-with_headers, page_outside}
-use Rattle.mk_books.specs.KnownPages.{KnownPages, Shows, is_bare, is_uncleaned, is_uncleaned_under}
-use Rattle.mk_books.specs.KnownPages.{with_header, page_at, RunIsTold, with_headers}
+use Rattle.mk_core.proofs.Below.Books.RunPages.{in_range, length-with_headers, page_outside}
+use Rattle.mk_core.specs.Below.Books.KnownPages.{KnownPages, Shows, is_bare, is_uncleaned, is_uncleaned_under}
+use Rattle.mk_core.specs.Below.Books.KnownPages.{with_header, page_at, RunIsTold, with_headers}
 use Rattle.mk_words.proofs.MapSteps.{map_goes_on, shows_told}
-use Rattle.mk_words.specs.PageMaps.{HeaderIsTold, IsMapOf}
+use Rattle.mk_words.{proofs.ToldMaps.HeaderIsTold, specs.PageMaps.IsMapOf}
 use Rattle.mk_words.specs.{TurnSteps.{StoresHeads, HasMap}, States.{PassState, WordsState, now_of}}
 
 -- which pages a map has as uncleaned after it was told of one header word

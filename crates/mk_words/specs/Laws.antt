@@ -1,18 +1,17 @@
 -- What is known of every step that a pass made. What holds of a pass or a turn has one proof at most.
-use Rattle.std.specs.Prelude.{◌≡◌, ℕ, true, List, [], ◌∷◌, ◌++◌, ◌<◌, length, All, IfSome, slice_get, Option, Some}
+use Rattle.std.specs.Prelude.{◌≡◌, ℕ, true, List, [], ◌∷◌, ◌++◌, All, IfSome, slice_get, Option, Some}
 use Rattle.std.specs.{Prelude.None, Coded.{×_prop, Unit-prop, le_prop}}
 use Rattle.mk_never.specs.declared.{types.Kind.Kind, values.Value.Value}
-use Rattle.mk_never.specs.declared.{values.Value.TheVariants.{Null, Num, Ptr}, operations.Op.Op}
+use Rattle.mk_never.specs.declared.{values.Value.TheVariants.{Null, Ptr}, operations.Op.Op}
 use Rattle.mk_never.specs.{NeverHeap.{NeverState, Call, register_at, after_op}, Admitted.{OperandsAreInRange, Meets}}
 use Rattle.mk_never.specs.Admitted.{AccessIsAdmitted, AreAdmitted, IsBase, IsNumber, IsOfKind, StoreIsAdmitted}
 use Rattle.mk_never.specs.declared.types.Kind.TheVariants.{Num as Number, To}
 use Rattle.mk_core.specs.declared.{config.Config.Config, events.Seat.TheVariants.{Caller, Marker, Host}}
 use Rattle.mk_core.specs.{declared.events.{Event.Event, Step.Step}, Enabled.MeetsAll, Effects.progress}
 use Rattle.mk_core.specs.{Frames.{IsLeft, IsLeftByAdmitted}, History.{AreOfOthers, left, world_behind, IsHistory}}
-use Rattle.mk_core.specs.{History.{AreEnabledFrom, World, first_world, never_first, calls}, Words.phase_of}
-use Rattle.mk_core.specs.{declared.events.Seat.Seat, Readings.Holds, Moments.{IsAmong, IsTypeAmong, IsWithinLimits}}
-use Rattle.mk_core.specs.{Moments.Moment, Calls.asked}
-use Rattle.mk_words.specs.States.{has_over, PassState, world_of, call_of, event_of, Has, IsPass, IsTurn, now_of}
+use Rattle.mk_core.specs.{History.{AreEnabledFrom, World}, Words.phase_of, Moments.{IsAmong, IsWithinLimits, Moment}}
+use Rattle.mk_core.specs.{declared.events.Seat.Seat, Readings.Holds}
+use Rattle.mk_words.specs.States.{has_over, PassState, world_of, call_of, event_of, IsPass, IsTurn}
 use Rattle.mk_words.specs.{Steps.{Makes, moment_of, found_by, Goes}, TurnSteps.world_at}
 use denote.Struct.Props.{props}
 
@@ -58,20 +57,8 @@ among_prop : (types : List (List Kind)) (k : Kind) → IsProp (IsAmong types k)
 among_prop types Number = hlevel props
 among_prop types (To ty offset) = hlevel props
 
-type_prop : (types : List (List Kind)) (kinds : List Kind) → IsProp (IsTypeAmong types kinds)
-type_prop types kinds = ×_prop (×_prop le_prop le_prop) (all_prop (IsAmong types) (among_prop types) kinds)
-
 limits_prop : (c : Config) → IsProp (IsWithinLimits c)
-limits_prop c x y i = record {
-  pages = ×_prop le_prop le_prop x.pages y.pages i;
-  resident = ×_prop le_prop le_prop x.resident y.resident i;
-  callers = ×_prop le_prop le_prop x.callers y.callers i;
-  markers = le_prop x.markers y.markers i;
-  type_count = le_prop x.type_count y.type_count i;
-  global_count = le_prop x.global_count y.global_count i;
-  types = all_prop (IsTypeAmong c.types) (type_prop c.types) c.types x.types y.types i;
-  globals = all_prop (λ ty. ty < length c.types) (λ ty. le_prop) c.globals x.globals y.globals i;
-}
+limits_prop c = hlevel (props, all_prop, among_prop)
 
 -- that events are enabled
 enabled_prop : (c : Config) (w : World) (es : List Event) → IsProp (AreEnabledFrom c w es)
@@ -83,16 +70,13 @@ enabled_prop c w (e ∷ es) = ×_prop (hlevel props) (enabled_prop c (world_behi
 
 meets_prop : (n : NeverState) (v : Value) (i : ℕ) {P : Kind → Type 0} → ((k : Kind) → IsProp (P k))
     → IsProp (Meets n v i P)
-meets_prop n Null i each = Unit-prop
-meets_prop n (Num m) i each = Unit-prop
 meets_prop n (Ptr number ty offset) i each = ×_prop le_prop (each _)
+meets_prop n _ i each = Unit-prop
 
 kind_prop : (v : Value) (k : Kind) → IsProp (IsOfKind v k)
-kind_prop Null Number = hlevel props
 kind_prop Null (To ty offset) = hlevel props
-kind_prop (Num m) k = hlevel props
-kind_prop (Ptr number ty offset) Number = hlevel props
 kind_prop (Ptr number ty offset) (To a b) = hlevel props
+kind_prop _ _ = hlevel props
 
 base_prop : (v : Value) → IsProp (IsBase v)
 base_prop Null = hlevel props
@@ -127,19 +111,8 @@ store_prop globals n c _ = Unit-prop
 admitted_prop : (globals : List ℕ) (n : NeverState) (xs : List Call) → IsProp (AreAdmitted globals n xs)
 admitted_prop globals n [] = Unit-prop
 admitted_prop globals n (call ∷ xs) =
-    ×_prop (λ x y i. record {
-      of_a_caller = le_prop x.of_a_caller y.of_a_caller i;
-      in_range = range_prop n call.op x.in_range y.in_range i;
-      access = access_prop n call.caller call.op x.access y.access i;
-      store = store_prop globals n call.caller call.op x.store y.store i;
-    }) (admitted_prop globals (after_op n call.caller call.op) xs)
-
-history_prop : (c : Config) (es : List Event) → IsProp (IsHistory c es)
-history_prop c es x y i = record {
-  within_limits = limits_prop c x.within_limits y.within_limits i;
-  enabled = enabled_prop c (first_world c) es x.enabled y.enabled i;
-  admitted = admitted_prop c.globals (never_first c) (asked (calls c es)) x.admitted y.admitted i;
-}
+    ×_prop (hlevel (props, range_prop, access_prop, store_prop))
+    (admitted_prop globals (after_op n call.caller call.op) xs)
 
 -- that a seat holds the turn
 holds_prop : (c : Config) (m : Moment) (s : Seat) → IsProp (Holds c m s)
@@ -147,20 +120,10 @@ holds_prop c m (Caller k) = hlevel props
 holds_prop c m (Marker k) = hlevel props
 holds_prop c m Host = hlevel props
 
-own_prop : (seats : List Seat) (s : Seat) → IsProp (Has seats s)
-own_prop seats s = hlevel props
-
 -- What holds of a pass has one proof.
 pub pass_prop : (p : PassState) → IsProp (IsPass p)
-pass_prop p x y i = record {
-  own = own_prop p.seats p.seat x.own y.own i;
-  history = history_prop p.table.config p.seen x.history y.history i;
-}
+pass_prop p = hlevel (props, limits_prop, enabled_prop, admitted_prop)
 
 -- What holds of a turn has one proof.
 pub turn_prop : (p : PassState) → IsProp (IsTurn p)
-turn_prop p x y i = record {
-  own = own_prop p.seats p.seat x.own y.own i;
-  holds = holds_prop p.table.config (now_of p) p.seat x.holds y.holds i;
-  history = history_prop p.table.config p.seen x.history y.history i;
-}
+turn_prop p = hlevel (props, limits_prop, enabled_prop, admitted_prop, holds_prop)

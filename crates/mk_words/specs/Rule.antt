@@ -1,12 +1,11 @@
 -- The rule of the table: what each step says of it, and what always holds of a pass.
 use Rattle.std.specs.Prelude.{◌≡◌, ◌≢◌, ℕ, List, [], ◌∷◌, ◌++◌}
-use Rattle.mk_books.specs.KnownPages.{KnownPages}
+use Rattle.mk_core.specs.Below.Books.KnownPages.{KnownPages}
 use Rattle.mk_core.specs.{Accesses.found, Counts.IsTidy, History.{left, IsHistory, AreOfOthers, Grows}, Layout.in_order}
 use Rattle.mk_core.specs.{Words.Words, declared.accesses.Access.{Access, TheVariants.Store}}
 use Rattle.mk_core.specs.declared.{config.Config.Config, events.{Event.Event, Seat.Seat}}
-use Rattle.mk_core.specs.declared.events.{Seat.TheVariants.Host, Step.TheVariants.Leave}
 use Rattle.mk_words.specs.{declared.rule.{Part.Part, View.View}, States.{Has, CallersAreBeforeOver}}
-use Rattle.mk_words.specs.{States.{without_seat, all_seats, PassState}, PageMaps.IsMapOf}
+use Rattle.mk_words.specs.{States.{without_seat, PassState}, PageMaps.IsMapOf}
 use Rattle.atomic_table.specs.{Table.{State, Me, Step as TableStep, step, rest}, Seated.TableId}
 use mathlib.Core.Option.{Option, some, none}
 use lib.ListN.{get_elem?}
@@ -23,10 +22,6 @@ no_part = part [] []
 abbrev pub view : Config → List Seat → List Event → View
 view c seats seen = record { config = c; own = part seats seen; came = no_part }
 
--- the first pass has all seats
-abbrev pub first_view : Config → View
-first_view c = view c (all_seats c) []
-
 -- what stands for a configuration that doesn't exist
 abbrev pub no_config : Config
 no_config = record { pages = 0; resident = 0; callers = 0; markers = 0; types = []; globals = [] }
@@ -38,10 +33,6 @@ nobody = view no_config [] []
 -- all seats of a view
 abbrev pub seats_of : View → List Seat
 seats_of v = v.own.seats ++ v.came.seats
-
--- The history begins with what was seen, and goes on with events of others.
-abbrev pub Sees : List Event → Part → Type 0
-Sees es p = Grows p.seats p.seen es
 
 -- The table's only slot has a map that shows these words.
 abbrev pub IsHome : List (Option KnownPages) → Words → Type 0
@@ -55,7 +46,8 @@ pub record Kept (c : Config) (s : State KnownPages View) : Type 0 where
   pub history : IsHistory c events
   pub tidy : IsTidy c events
   pub words : s.words ≡ in_order (left c events).now.words
-  pub sees : (id : ℕ) (v : View) → get_elem? s.views id ≡ some v → Sees events v.own × Sees events v.came
+  pub sees : (id : ℕ) (v : View) → get_elem? s.views id ≡ some v
+      → Grows v.own.seats v.own.seen events × Grows v.came.seats v.came.seen events
   pub apart : (i j : ℕ) (v w : View) (x : Seat) → get_elem? s.views i ≡ some v → get_elem? s.views j ≡ some w
       → Has (seats_of v) x → Has (seats_of w) x → i ≡ j
   pub before_over : (id : ℕ) (v : View) → get_elem? s.views id ≡ some v → CallersAreBeforeOver c (seats_of v) events
@@ -88,10 +80,6 @@ no_step = step 0 0 0 0 none
 abbrev pub adds : Event → TableStep KnownPages → Mine → ℕ → Mine → Type 0
 adds e st m found n = (n.1 ≡ m.1) × Adds e m.0 found n.0
 
--- A store isn't told what it finds.
-abbrev pub stores_word : Event → TableStep KnownPages → Mine → ℕ → Mine → Type 0
-stores_word e st m stored n = (found : ℕ) × adds e st m found n
-
 -- A look takes in what came by a join, and all events so far.
 pub record Settles (v w : View) : Type 0 where
   pub is : w ≡ view v.config (seats_of v) w.own.seen
@@ -105,27 +93,17 @@ pub record Settles (v w : View) : Type 0 where
 abbrev pub settles : TableStep KnownPages → Mine → ℕ → Mine → Type 0
 settles st m found n = (n.1 ≡ m.1) × Settles m.0 n.0
 
--- a view is cut: one seat goes with a new one, which has seen as much
-
 -- the view that stays when a seat is split off
 abbrev pub stays_with : Seat → View → View
 stays_with x v = record v { own = part (without_seat x v.own.seats) v.own.seen }
 
--- the view that goes with the seat
+-- the view that goes with the seat, which has seen as much
 abbrev pub goes_with : Seat → View → View
 goes_with x v = view v.config (x ∷ []) v.own.seen
-
--- or no seat goes
-abbrev pub copy_of : View → View
-copy_of v = view v.config [] v.own.seen
 
 -- two views beside each other, up to the next look
 abbrev pub beside : View → View → View
 beside v w = record v { came = w.own }
-
--- what stands for an event that doesn't exist
-abbrev pub no_event : Event
-no_event = record { seat = Host; step = Leave }
 
 -- A `take` that finds the turn free gets the page map too, which shows all that the new list leaves.
 abbrev pub takes_map : Event → TableStep KnownPages → Mine → ℕ → Mine → Type 0
@@ -156,16 +134,6 @@ pub record IsInOrder (me : Mine) (seat : Seat) : Type 0 where
   pub history : IsHistory me.0.config me.0.own.seen
   pub tidy : IsTidy me.0.config me.0.own.seen
   pub before_over : CallersAreBeforeOver me.0.config me.0.own.seats me.0.own.seen
-
--- a token that holds no slot, and one that holds that of the page map, in which a blank one lies meanwhile
-
--- The token has no slot.
-abbrev pub NoSlot : List (ℕ × KnownPages) → Type 0
-NoSlot slots = slots ≡ []
-
--- The token has the slot of the page map.
-abbrev pub MapSlot : List (ℕ × KnownPages) → Type 0
-MapSlot slots = (blank : KnownPages) × (slots ≡ (0, blank) ∷ [])
 
 -- A token is in order, and holds such slots.
 pub record IsHolding (such : List (ℕ × KnownPages) → Type 0) (me : Mine) (seat : Seat) : Type 0 where

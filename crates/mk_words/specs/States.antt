@@ -5,7 +5,7 @@ use Rattle.mk_core.specs.declared.{config.Config.Config, events.Seat.Seat}
 use Rattle.mk_core.specs.declared.events.{Seat.TheVariants.{Caller, Marker, Host}, Step.Step}
 use Rattle.mk_core.specs.{declared.events.Event.Event, Conditions.seat_exists, History.{is_same_seat, is_one_of, World}}
 use Rattle.mk_core.specs.{History.{left, IsHistory}, declared.seats.Flight.Flight, Moments.{Moment, flight_of}}
-use Rattle.mk_core.specs.{Readings.Holds, Layout.index_of_named, Words.Words, declared.events.Word.Word}
+use Rattle.mk_core.specs.{Readings.Holds, Words.Words}
 use Rattle.atomic_table.specs.Seated.{TableId}
 use Rattle.mk_words.specs.declared.finals.Final.{Final}
 
@@ -17,8 +17,6 @@ Has seats s = is_one_of seats s ≡ true
 abbrev pub without_seat : Seat → List Seat → List Seat
 without_seat s [] = []
 without_seat s (x ∷ xs) = if is_same_seat s x then without_seat s xs else x ∷ without_seat s xs
-
--- the seats of this many callers, and of this many markers
 
 -- the callers with numbers below this
 abbrev pub callers_below : ℕ → List Seat
@@ -105,33 +103,24 @@ call_of p = flight_of (now_of p) p.seat
 abbrev pub event_of : PassState → Step → Event
 event_of p s = record { seat = p.seat; step = s }
 
--- the history of the table, and what it was made for
-
 -- the history of a closed table, which only proofs have
 abbrev pub history_of : Final → List Event
 history_of f = f.memory.me.0.own.seen
 
--- its configuration
+-- the configuration that it was made for
 abbrev pub config_of : Final → Config
 config_of f = f.memory.me.0.config
 
--- How many cells are freed by the quarantine words of the first pages, of this many. These words have the freed cells
--- in their low halves.
-abbrev pub freed_bits_in : List ℕ → ℕ → ℕ → ℕ
-freed_bits_in words pages zero = 0
-freed_bits_in words pages (suc n) =
-    freed_bits_in words pages n + count_ones (slice_index words (index_of_named pages (Word.Quar n)) % 2 ^ 32)
-
--- and by the freed cells of these words
-abbrev pub freed_cells : Words → ℕ → ℕ
-freed_cells w zero = 0
-freed_cells w (suc n) = freed_cells w n + count_ones (slice_index w.freed n % 2 ^ 32)
+-- How many cells of this many pages are freed, by a word of each that has them in its low half.
+abbrev pub freed_cells : (ℕ → ℕ) → ℕ → ℕ
+freed_cells word zero = 0
+freed_cells word (suc page) = freed_cells word page + count_ones (word page % 2 ^ 32)
 
 -- It has the tallies, and the count of the freed cells of this many pages.
 pub record HasTallies (w : Words) (pages : ℕ) (f : Final) : Type 0 where
   pub held : f.held ≡ w.held
   pub fresh : f.fresh ≡ w.fresh
-  pub quarantined : f.quarantined ≡ freed_cells w pages
+  pub quarantined : f.quarantined ≡ freed_cells (slice_index w.freed) pages
   pub cycles : f.cycles ≡ w.cycles
   pub released : f.released ≡ w.released
   pub full : f.full ≡ w.full

@@ -8,7 +8,7 @@ use Rattle.mk_core.specs.{Accesses.{access, found, word_accessed, caller_number}
 use Rattle.mk_core.specs.{Moments.is_number_of, Effects.{answer_decided, marker_behind}}
 use Rattle.mk_core.specs.History.{left, IsEnabledBehind, IsAdmittedBehind, AreOfOthers, is_gate_held, is_same_seat}
 use Rattle.mk_core.specs.{History.{is_one_of, Finding, in_this_call}, Cycles.is_give, Counts.TalliesAreTidy}
-use Rattle.mk_core.specs.{declared.events.{Word.Word, Group.Group}, Words.{register_word, has_bit}}
+use Rattle.mk_core.specs.{declared.events.Word.Word, Words.{register_word, has_bit}}
 use Rattle.mk_core.specs.declared.{seats.Marker.Marker as MarkerState, events.Seat.Seat}
 use Rattle.mk_core.specs.Frames.{steady_of, CountsAreLeft}
 use Rattle.mk_words.specs.States.{HasCallers, is_over, PassState, IsPass, now_of, call_of, event_of, world_of}
@@ -101,11 +101,6 @@ pub record FindsHeld (p : PassState) (o : Op) (q : PassState) : Type 0 where
   pub makes : Makes p (Step.Enter o) q
   pub found : found_by makes ≡ 2
   pub held : is_gate_held p.table.config (caller_number p.seat) (p.seen ++ makes.others) ≡ true
-
--- it is a step of markers
-abbrev pub is_markers : Group → Bool
-is_markers Group.Markers = true
-is_markers _ = false
 
 -- what the pass's seat is at as a marker
 abbrev pub marker_in : PassState → MarkerState

@@ -3,13 +3,13 @@ use Rattle.std.specs.Prelude.{◌≡◌, ℕ, ◌%◌, ◌^◌, ◌++◌, Option
 use Rattle.std.specs.{Prelude.{◌||◌, List, ◌<◌, ◌+◌, suc, zero}, List.list_all}
 use Rattle.mk_never.specs.declared.operations.Op.{Op}
 use Rattle.mk_geom.specs.Addresses.{address_of, is_heap_address, page_at_address}
-use Rattle.mk_books.specs.KnownPages.{KnownPages}
+use Rattle.mk_core.specs.Below.Books.KnownPages.{KnownPages}
 use Rattle.mk_core.specs.declared.events.{Seat.TheVariants.Caller, Step.Step}
 use Rattle.mk_core.specs.{declared.seats.Flight.Flight, Accesses.granted_base, Calls.{at_rest, begun}}
 use Rattle.mk_core.specs.{Moments.{nothing_done, none_is_held, others_are_held}, Words.phase_of, Conditions.has_phase}
 use Rattle.mk_core.specs.{TurnConditions.held_by_pages, Readings.Holds, History.{World, world_behind, left, is_one_of}}
 use Rattle.mk_core.specs.{History.is_same_seat, Frames.{OwnIsLeft, HoldsAll, TurnIsLeft, CountsAreLeft, written_of}}
-use Rattle.mk_core.specs.{Effects.progress, declared.events.Event.Event, Counts.{TalliesAreExact, TalliesAreTidy}}
+use Rattle.mk_core.specs.{Effects.progress, declared.events.Event.Event}
 use Rattle.mk_core.specs.declared.events.Word.{Word}
 use Rattle.mk_words.specs.{PageMaps.{IsMapOf, is_told}, States.{PassState, world_of, now_of, call_of, event_of}}
 use Rattle.mk_words.specs.{States.TurnState, Steps.{Makes, found_by, Finds, IsEnabledTo}}
@@ -81,22 +81,18 @@ GatesAre false p = Unit {0}
 abbrev pub granted_address : PassState → ℕ
 granted_address p = address_of (granted_base p.table.config (call_of p) (now_of p).seats.holding.placing) % 2 ^ 64
 
+-- The second map shows what is left after this step of a turn's holder, if the first shows what is left before it.
+abbrev pub FollowsStep : Step → KnownPages → KnownPages → Type 0
+FollowsStep s old new = (p q : PassState) → Acts p s q → IsMapOf old (now_of p).words → IsMapOf new (now_of q).words
+
 -- A turn's map shows what is left after all that the pass has seen, and the gates are held, where that is known.
 pub record HasMap (held : Bool) (p : PassState) (map : KnownPages) : Type 0 where
   pub shows : IsMapOf map (now_of p).words
   pub gates : GatesAre held p
 
--- microseconds of the first sleep
-abbrev pub first_sleep : ℕ
-first_sleep = 50
-
--- microseconds of the longest one
-abbrev pub longest_sleep : ℕ
-longest_sleep = 1000
-
--- the sleep after one of this length
+-- the sleep after one of this length, in microseconds
 abbrev pub sleep_after : ℕ → ℕ
-sleep_after sleep = min (2 * sleep) longest_sleep
+sleep_after sleep = min (2 * sleep) 1000
 
 -- After a pause that was no sleep the next sleep is as long as it was to be, and else longer.
 abbrev pub PausesOnce : ℕ → ℕ → Type 0
@@ -122,13 +118,6 @@ pub record TakesTurn (p : PassState) (o : Option Op) (q : PassState) : Type 0 wh
   pub waited : PassState
   pub waits : Waits p waited
   pub takes : Finds waited (Step.Take o) 0 q
-
--- So it has the turn, as one has it directly after its `take`.
-pub record HasTakenTurn (p : PassState) (o : Option Op) (t : TurnState) : Type 0 where
-  pub takes : TakesTurn p o t.pass
-  pub fresh : IsFresh t.pass o
-  pub exact : TalliesAreExact t.pass.table.config t.pass.seen
-  pub tidy : TalliesAreTidy t.pass.table.config t.pass.seen
 
 -- The header of each page may be looked at.
 abbrev pub MayLookAtHeaders : PassState → Type 0

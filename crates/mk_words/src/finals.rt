@@ -2,13 +2,14 @@
 ghost use Rattle.std.specs.Prelude.{◌≡◌, ◌≤◌, ◌%◌, ◌^◌, count_ones, slice_index};
 ghost use Rattle.std.specs.Mem.Slots.{slots_items, slots_len, IsFull};
 ghost use Rattle.mk_core.specs.Layout.{count_of_words, index_of_named, NamesWord};
-ghost use Rattle.mk_words.specs.States.{freed_bits_in};
+ghost use Rattle.mk_core.specs.declared.events.Word.TheVariants.{Quar};
+ghost use Rattle.mk_words.specs.States.{freed_cells};
 
 use crate::homes::MapHome;
 use crate::indexes::index_of;
 use crate::rule::View;
 use atomic_table::{Closed, Seat as Token};
-use mk_books::QuarantineWord;
+use mk_core::lower::books::QuarantineWord;
 use mk_core::{TableWord, Word};
 use std::alloc::Global;
 
@@ -52,7 +53,8 @@ pub(crate) fn freed_bits(closed: &Closed<MapHome, Global>, pages: u64) -> u64
     requires pages { pages ≤ 4096 }
     requires full { IsFull closed.now.words }
     requires words { count_of_words pages ≤ slots_len closed.now.words }
-    ensures { result ≡ freed_bits_in (slots_items closed.now.words) pages pages }
+    ensures { result
+        ≡ freed_cells (λ page. slice_index (slots_items closed.now.words) (index_of_named pages (Quar page))) pages }
 {
     let mut freed = 0;
     let mut page = 0;

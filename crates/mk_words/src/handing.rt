@@ -1,7 +1,7 @@
 //! The two steps by which the turn changes hands, and the page map with it: it lies in the table's only slot while
 //! nobody has the turn.
 ghost use Rattle.std.specs.Prelude.{◌≡◌, ◌≢◌, ◌+◌, [], ◌∷◌, true, IfOk, IfErr};
-ghost use Rattle.mk_books.specs.KnownPages.{KnownPages};
+ghost use Rattle.mk_core.specs.Below.Books.KnownPages.{KnownPages};
 ghost use Rattle.mk_core.specs.{declared.accesses.Access.TheVariants.Exchange, Accesses.access, Moments.holder_number};
 ghost use Rattle.mk_core.specs.{Conditions.seat_exists, Readings.Holds};
 ghost use Rattle.mk_words.specs.{PageMaps.IsMapOf, States.now_of, Rule.{state_of, IsInOrder}};
@@ -15,7 +15,7 @@ use crate::telling::{GiveMap, Making, TakeMap};
 use crate::tokens::{SeatToken, TokenWith, TurnToken};
 use crate::words::Words;
 use atomic_table::Seat as Token;
-use mk_books::PageMap;
+use mk_core::lower::books::PageMap;
 use mk_core::{Seat, TableWord};
 use mk_never::Op;
 use std::marker::{Brand, PhantomData};

@@ -1,7 +1,7 @@
 //! Where the page map lies while nobody has the turn.
 ghost use Rattle.std.specs.Prelude.{◌≡◌, ◌<◌, length};
 
-use mk_books::PageMap;
+use mk_core::lower::books::PageMap;
 use std::marker::Model;
 
 /// The table's only slot. While nobody has the turn the page map lies in it, and else nothing. The map is behind a
@@ -12,7 +12,7 @@ pub struct MapHome {
 }
 
 impl Model for MapHome {
-    ghost use Rattle.mk_books.specs.KnownPages.{KnownPages};
+    ghost use Rattle.mk_core.specs.Below.Books.KnownPages.{KnownPages};
 
     ghost Value = { KnownPages };
 

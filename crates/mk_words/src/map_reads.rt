@@ -3,7 +3,7 @@
 ghost use Rattle.std.specs.Prelude.{◌≡◌, ◌<◌, ◌≤◌};
 ghost use Rattle.mk_geom.specs.PageUses.{first_where, is_free_page, range_start, resident_pages};
 ghost use Rattle.mk_geom.specs.PageUses.{uses_of_pages};
-ghost use Rattle.mk_books.specs.KnownPages.{IsNext, has_free_cell, has_freed_cells, is_in_use};
+ghost use Rattle.mk_core.specs.Below.Books.KnownPages.{IsNext, has_free_cell, has_freed_cells, is_free, is_in_use};
 ghost use Rattle.mk_core.specs.Words.{page_of};
 ghost use Rattle.mk_words.specs.{PageMaps.{HasNoMarks, IsNextUncleaned}, States.now_of};
 
@@ -40,6 +40,13 @@ impl<G: Gates> TurnAt<G> {
         ensures { IsNext (is_in_use (now_of self.now.pass).words.pages) from self.now.pass.table.config.pages result }
     {
         self.map.next_in_use(from)
+    }
+
+    /// The lowest free page, of those from this one on.
+    pub fn next_free(&self, from: u64) -> Option<u64>
+        ensures { IsNext (is_free (now_of self.now.pass).words.pages) from self.now.pass.table.config.pages result }
+    {
+        self.map.next_free(from)
     }
 
     /// The lowest page that has freed cells, of those from this one on.

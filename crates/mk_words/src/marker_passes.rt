@@ -1,9 +1,9 @@
 //! A marker's pass: what a marker is at, kept beside the right to make its steps.
 ghost use Rattle.std.specs.Prelude.{◌≡◌, true, false};
 ghost use Rattle.mk_core.specs.{History.IsHistory, Counts.IsTidy, Moments.outside};
-ghost use Rattle.mk_core.specs.Conditions.{group_of};
+ghost use Rattle.mk_core.specs.{Conditions.group_of, declared.events.Group.TheVariants.Markers};
 ghost use Rattle.mk_words.specs.{States.{CallersAreBeforeOver, Has}, PageMaps.is_handing};
-ghost use Rattle.mk_words.specs.Steps.{is_markers, marker_in, Marks, MayPerform};
+ghost use Rattle.mk_words.specs.Steps.{marker_in, Marks, MayPerform};
 
 use crate::passes::Pass;
 use crate::tokens::SeatToken;
@@ -88,7 +88,7 @@ impl MarkerPass {
         by: Access,
     ) -> u64
         requires one_table { self.old.table ≡ words.now }
-        requires kind { is_markers (group_of step) ≡ true }
+        requires kind { group_of step ≡ Markers }
         requires hands_none { is_handing step ≡ false }
         requires may { MayPerform self.old step word by }
         ensures { Marks self.old step result self.new }

@@ -1,6 +1,6 @@
 //! How one waits for what may take long. No promise rests on it, but how long each sleep is.
 ghost use Rattle.std.specs.{Prelude.{◌≡◌, ◌*◌, ◌<◌, ◌≤◌, IfSome, IfNone}, Duration.as_nanos};
-ghost use Rattle.mk_words.specs.TurnSteps.{first_sleep, sleep_after, PausesOnce};
+ghost use Rattle.mk_words.specs.TurnSteps.{sleep_after, PausesOnce};
 
 use crate::words::Words;
 use crossbeam_utils::Backoff;
@@ -25,19 +25,18 @@ pub struct Patience {
 
 impl Model for Patience {
     ghost use Rattle.std.specs.Prelude.{ℕ, ◌≤◌};
-    ghost use Rattle.mk_words.specs.TurnSteps.{longest_sleep};
 
     ghost Value = { ℕ };
 
     ghost view = { λ p. p.micros };
 
-    ghost invariant = { λ p. p.micros ≤ longest_sleep };
+    ghost invariant = { λ p. p.micros ≤ 1000 };
 }
 
 impl Patience {
     /// One who hasn't waited yet.
     pub fn new() -> Patience
-        ensures { result ≡ first_sleep }
+        ensures { result ≡ 50 }
     {
         Patience {
             backoff: Backoff::new(),
@@ -47,7 +46,7 @@ impl Patience {
 
     /// What was waited for came, so the next wait begins as the first one.
     pub fn reset(&mut self)
-        ensures { self.new ≡ first_sleep }
+        ensures { self.new ≡ 50 }
     {
         self.backoff.reset();
         self.micros = FIRST;
@@ -70,6 +69,8 @@ impl Patience {
 
     /// Pauses once, if another has the turn. Who has waited long is late while it sleeps. When it wakes it pauses as at
     /// first, since others may let it have the turn then.
+    #[cold]
+    #[inline(never)]
     pub fn pause_for_turn<R: Wait>(&mut self, rt: &R, words: &Words)
         ensures { PausesOnce self.old self.new }
     {

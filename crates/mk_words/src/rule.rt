@@ -24,9 +24,10 @@ pub struct View {
 pub struct OneHistory;
 
 impl TableRule<MapHome, View, Config> for OneHistory {
-    ghost use Rattle.mk_words.specs.Rule.{Kept, first_view};
+    ghost use Rattle.std.specs.Prelude.{[]};
+    ghost use Rattle.mk_words.specs.{Rule.{Kept, view}, States.all_seats};
 
     ghost holds = { Kept };
 
-    ghost first = { first_view };
+    ghost first = { λ c. view c (all_seats c) [] };
 }

@@ -1,7 +1,7 @@
 //! Steps of the turn's holder that store the header words of a whole run. The page map is told of all of them at once,
 //! which takes fewer instructions than a call for each page.
 ghost use Rattle.std.specs.Prelude.{◌≡◌, ◌+◌, ◌*◌, ◌<◌, ◌≤◌, ◌^◌, true, false, ℕ};
-ghost use Rattle.mk_books.specs.KnownPages.{HeadersSay, StandsOn, AreBare, run_word};
+ghost use Rattle.mk_core.specs.Below.Books.KnownPages.{HeadersSay, StandsOn, AreBare, run_word};
 ghost use Rattle.mk_geom.specs.PageUses.{PartOfRun};
 ghost use Rattle.mk_words.specs.{TurnSteps.{MayStoreHeads, StoresHeads}, States.{IsTurn, now_of}};
 ghost use Rattle.mk_words.specs.{Steps.IsEnabledTo, TurnSteps.Acts};
@@ -68,6 +68,7 @@ fn clear_headers(pass: &mut TurnToken, words: &Words, first: u64, count: u64)
 impl<G: Gates> TurnAt<G> {
     /// Makes a mapped run of this many free pages. The first page's header word will be `head`, the second's `next`,
     /// and each of the others 16 more than that of the page before it.
+    #[inline(always)]
     pub fn make_run(&mut self, words: &Words, first: u64, count: u64, head: u64, next: u64)
         requires one_table { self.old.pass.table ≡ words.now }
         requires within { first + count ≤ words.now.config.pages }

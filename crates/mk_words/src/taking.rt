@@ -4,7 +4,7 @@
 ghost use Rattle.std.specs.Prelude.{◌≡◌};
 ghost use Rattle.mk_core.specs.Counts.{TalliesAreExact, TalliesAreTidy};
 ghost use Rattle.mk_words.specs.{Steps.IsEnabledTo, TurnSteps.IsFresh};
-ghost use Rattle.mk_words.specs.{TurnSteps.{HasTakenTurn, TakesTurn}, Sweeping.TakingSweepsNothing};
+ghost use Rattle.mk_words.specs.{TurnSteps.TakesTurn, Sweeping.TakingSweepsNothing};
 ghost use Rattle.mk_core.specs.declared.events.Step.TheVariants as step;
 
 use crate::passes::Pass;
@@ -15,11 +15,14 @@ use mk_never::Op;
 use std::sync::Wait;
 
 /// Waits for the turn, and takes it.
-#[inline(never)]
+#[inline(always)]
 fn wait_for_turn<R: Wait>(rt: &R, words: &Words, home: Pass, op: Option<Op>) -> Turn
     requires one_table { home.table ≡ words.now }
     requires enabled { IsEnabledTo home (step.Take op) }
-    ensures { HasTakenTurn home op result }
+    ensures takes { TakesTurn home op result.pass }
+    ensures fresh { IsFresh result.pass op }
+    ensures exact { TalliesAreExact result.pass.table.config result.pass.seen }
+    ensures tidy { TalliesAreTidy result.pass.table.config result.pass.seen }
 {
     let mut pass = home;
     let mut patience = Patience::new();
@@ -39,7 +42,10 @@ fn wait_for_turn<R: Wait>(rt: &R, words: &Words, home: Pass, op: Option<Op>) -> 
 fn wait_apart<R: Wait>(rt: &R, words: &Words, home: Pass, op: Option<Op>) -> Turn
     requires one_table { home.table ≡ words.now }
     requires enabled { IsEnabledTo home (step.Take op) }
-    ensures { HasTakenTurn home op result }
+    ensures takes { TakesTurn home op result.pass }
+    ensures fresh { IsFresh result.pass op }
+    ensures exact { TalliesAreExact result.pass.table.config result.pass.seen }
+    ensures tidy { TalliesAreTidy result.pass.table.config result.pass.seen }
 {
     wait_for_turn(rt, words, home, op)
 }

@@ -13,9 +13,9 @@ pub trait Making {
 }
 
 impl Making for Brand {
-    ghost use Rattle.mk_words.specs.Rule.{no_event};
+    ghost use Rattle.mk_core.specs.declared.events.{Seat.TheVariants.Host, Step.TheVariants.Leave};
 
-    ghost event = { no_event };
+    ghost event = { record { seat = Host; step = Leave } };
 }
 
 /// A step that is an event.
@@ -29,15 +29,16 @@ impl<J: Making> Play<MapHome, View> for Make<J> {
     ghost then = { adds J.event };
 }
 
-/// A store that is an event.
+/// A store that is an event. It isn't told what it finds.
 pub struct Put<J> {
     of: PhantomData<J>,
 }
 
 impl<J: Making> Play<MapHome, View> for Put<J> {
-    ghost use Rattle.mk_words.specs.Rule.{stores_word};
+    ghost use Rattle.std.specs.Prelude.{ℕ};
+    ghost use Rattle.mk_words.specs.Rule.{adds};
 
-    ghost then = { stores_word J.event };
+    ghost then = { λ st m stored n. (found : ℕ) × adds J.event st m found n };
 }
 
 /// The step that takes the turn, and the page map with it.
@@ -101,11 +102,12 @@ impl<J: Handing> Split<View> for HandOver<J> {
 pub struct Remember;
 
 impl Split<View> for Remember {
-    ghost use Rattle.mk_words.specs.Rule.{copy_of};
+    ghost use Rattle.std.specs.Prelude.{[]};
+    ghost use Rattle.mk_words.specs.Rule.{view};
 
     ghost left = { λ v. v };
 
-    ghost right = { copy_of };
+    ghost right = { λ v. view v.config [] v.own.seen };
 }
 
 /// Two passes become one.

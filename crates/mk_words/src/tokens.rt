@@ -17,7 +17,7 @@ use std::marker::{Brand, Model, PhantomData};
 /// The slots that a token holds.
 pub(crate) trait Slots {
     ghost use Rattle.std.specs.Prelude.{List, ℕ};
-    ghost use Rattle.mk_books.specs.KnownPages.{KnownPages};
+    ghost use Rattle.mk_core.specs.Below.Books.KnownPages.{KnownPages};
 
     ghost such: { List (ℕ × KnownPages) → Type 0 };
 }
@@ -26,18 +26,19 @@ pub(crate) trait Slots {
 pub(crate) struct NoSlot;
 
 impl Slots for NoSlot {
-    ghost use Rattle.mk_words.specs.Rule.{NoSlot};
+    ghost use Rattle.std.specs.Prelude.{◌≡◌, []};
 
-    ghost such = { NoSlot };
+    ghost such = { λ slots. slots ≡ [] };
 }
 
-/// That of the page map.
+/// That of the page map, in which a blank one lies meanwhile.
 pub(crate) struct MapSlot;
 
 impl Slots for MapSlot {
-    ghost use Rattle.mk_words.specs.Rule.{MapSlot};
+    ghost use Rattle.std.specs.Prelude.{◌≡◌, [], ◌∷◌};
+    ghost use Rattle.mk_core.specs.Below.Books.KnownPages.{KnownPages};
 
-    ghost such = { MapSlot };
+    ghost such = { λ slots. (blank : KnownPages) × (slots ≡ (0, blank) ∷ []) };
 }
 
 /// A token with its seat, which holds the slots that `S` says.

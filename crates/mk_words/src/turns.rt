@@ -3,9 +3,9 @@ ghost use Rattle.std.specs.Prelude.{◌≡◌, ◌+◌, ◌<◌, IfOk, IfErr, le
 ghost use Rattle.mk_core.specs.{Calls.at_rest};
 ghost use Rattle.mk_core.specs.{Counts.{TalliesAreExact, TalliesAreTidy, IsTidy}, History.IsHistory};
 ghost use Rattle.mk_words.specs.{PageMaps.IsOnPage, States.{CallersAreBeforeOver, Has, IsTurn, call_of}};
-ghost use Rattle.mk_words.specs.{Laws.turn_prop, PageMaps.{IsToldOf, is_told, page_told}};
+ghost use Rattle.mk_words.specs.{Laws.turn_prop, PageMaps.{is_told, page_told}};
 ghost use Rattle.mk_words.specs.{Steps.{IsEnabledTo, MayPerform, Finds, Tells}};
-ghost use Rattle.mk_words.specs.TurnSteps.{IsFresh, StaysTurn, GatesAre, Acts};
+ghost use Rattle.mk_words.specs.TurnSteps.{IsFresh, StaysTurn, GatesAre, Acts, FollowsStep};
 ghost use Rattle.mk_core.specs.declared.events.Step.TheVariants as step;
 
 use crate::gates::{AllHeld, AnyGates, Gates};
@@ -13,7 +13,7 @@ use crate::indexes::page_of;
 use crate::passes::Pass;
 use crate::tokens::TurnToken;
 use crate::words::Words;
-use mk_books::{PageMap, QuarantineWord};
+use mk_core::lower::books::{PageMap, QuarantineWord};
 use mk_core::{Access, Seat, Step, TableWord};
 use mk_never::Op;
 use std::marker::{Model, PhantomData};
@@ -56,7 +56,7 @@ pub struct Busy {
 #[inline(always)]
 fn tell(map: &mut PageMap, step: Step)
     requires { is_told step ≡ true → page_told step < length map.old.pages }
-    ensures { IsToldOf step map.old map.new }
+    ensures { FollowsStep step map.old map.new }
 {
     match step {
         Step::Head { page, value } => map.header_stored(page, value),

@@ -3,7 +3,7 @@ ghost use Rattle.std.specs.Prelude.{◌≡◌, ◌≤◌, [], ◌∷◌, ◌++�
 ghost use Rattle.mk_geom.specs.Storages.{free_page};
 ghost use Rattle.mk_core.specs.{declared.events.Seat.TheVariants.Host, Moments.IsWithinLimits};
 ghost use Rattle.mk_core.specs.{History.{Grows, is_same_seat}, Moments.{marker_at, outside}};
-ghost use Rattle.mk_books.specs.KnownPages.{Shows};
+ghost use Rattle.mk_core.specs.Below.Books.KnownPages.{Shows};
 ghost use Rattle.mk_words.specs.States.{Has, HasAll, all_seats, without_seat, is_caller, has_over, IsPass};
 ghost use Rattle.mk_words.specs.States.{history_of, config_of, HasTallies, now_of};
 
@@ -15,7 +15,7 @@ use crate::rule::{OneHistory, View};
 use crate::telling::{HandOver, Handing, Remember, Settle, Together};
 use crate::tokens::{SeatToken, TokenWith};
 use atomic_table::Table;
-use mk_books::PageMap;
+use mk_core::lower::books::PageMap;
 use mk_core::{Config, Seat, Word};
 use mk_never::{NoMemory, TypeTable};
 use std::alloc::Global;

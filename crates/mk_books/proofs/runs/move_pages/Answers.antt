@@ -11,7 +11,7 @@ returns-then-last-lt64 c =
     (one_more_moved c.args.from c.args.end word
     (none_moved c.args.sets.now c.args.from c.args.end c.args.free c.requires.sets) c.move_word.ensures
     (λ place within. range_bits word c.args.from c.args.end c.ones_below-then-last-lt64.result
-      c.ones_below.result _ place
+    c.ones_below.result _ place
     (omega arith) within (c.ones_below.ensures place within)
     (c.ones_below-then-last-lt64.ensures place within ∙ ap (nat_lt place) rest)
-      (omega (arith, c.ones_below-then-last-lt64.type_inv)) refl))
+    (omega (arith, c.ones_below-then-last-lt64.type_inv)) refl))

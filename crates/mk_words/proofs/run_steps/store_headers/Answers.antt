@@ -1,6 +1,6 @@
 use Rattle.std.proofs.Common.{eq-eqb, ne_eqb}
 use Rattle.mk_laws.proofs.Vocabulary.{Bool, Step, ap, arith, cond, subst, suc, sym, ℕ, ◌*◌, ◌+◌, ◌-◌, ◌∙◌, ◌≡◌}
-use Rattle.mk_books.specs.KnownPages.{run_word}
+use Rattle.mk_core.specs.Below.Books.KnownPages.{run_word}
 use Rattle.mk_words.proofs.run_steps.store_headers.Goals as goal
 use Rattle.mk_words.proofs.run_steps.store_headers.Goals.{Joined-distance-eq0, else-distance-eq0, then-distance-eq0}
 use Rattle.mk_words.proofs.StoredHeads.{heads_keep_table, heads_keep_turn}

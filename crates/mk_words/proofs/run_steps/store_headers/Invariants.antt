@@ -1,4 +1,4 @@
-use Rattle.mk_books.specs.KnownPages.{run_word}
+use Rattle.mk_core.specs.Below.Books.KnownPages.{run_word}
 use Rattle.mk_words.proofs.run_steps.store_headers.Given as goal
 use Rattle.mk_words.specs.TurnSteps.{StoresHeads}
 

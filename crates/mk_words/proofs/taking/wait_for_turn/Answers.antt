@@ -8,12 +8,6 @@ waiting-preserved g c = record {
       c.in-Err.ensures.busy.makes;
 }
 
-pub returns-in-Ok : goal.returns-in-Ok
-returns-in-Ok g c =
-    let took = c.in-Ok.ensures in
-    record {
-      takes = record { waited = c.waiting.pass; waits = c.waiting.invariant.waits; takes = took.made };
-      fresh = took.fresh;
-      exact = took.exact;
-      tidy = took.tidy;
-    }
+pub returns-in-Ok-clause-takes : goal.returns-in-Ok-clause-takes
+returns-in-Ok-clause-takes g c =
+    record { waited = c.waiting.pass; waits = c.waiting.invariant.waits; takes = c.in-Ok.ensures.made }

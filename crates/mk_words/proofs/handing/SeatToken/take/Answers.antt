@@ -1,5 +1,5 @@
 use Rattle.mk_laws.proofs.Vocabulary.{List, Step, ℕ, ap, arith, subst, sym, ◌<◌, ◌∙◌, ◌∷◌, ◌≡◌}
-use Rattle.mk_books.specs.KnownPages.{KnownPages}
+use Rattle.mk_core.specs.Below.Books.KnownPages.{KnownPages}
 use Rattle.atomic_table.specs.Table.{rest}
 use Rattle.mk_words.proofs.HandingCalls.{order_of_view, take_access, take_order, take_tells, taken_learns, took}
 use Rattle.mk_words.proofs.{MapSteps.page_known, Owed.same_id, handing.SeatToken.take.Goals.After-exchange-home}

@@ -1,5 +1,5 @@
 use Rattle.mk_laws.proofs.Vocabulary.{sym}
-use Rattle.mk_books.specs.KnownPages.{run_word}
+use Rattle.mk_core.specs.Below.Books.KnownPages.{run_word}
 use Rattle.mk_words.proofs.{MapSteps.map_that, RunMaps.{run_goes_on, run_within}, StoredHeads.heads_keep_turn}
 use Rattle.mk_words.proofs.turns.TurnAt.unmap_run.Goals as goal
 

@@ -1,6 +1,6 @@
 use Rattle.std.proofs.Common.{All, replicate}
 use Rattle.mk_laws.proofs.Vocabulary.{List, ℕ, ap, arith, free_page, length, refl, [], ◌∙◌, ◌∷◌, ◌≡◌}
-use Rattle.mk_books.specs.KnownPages.{KnownPages, Shows}
+use Rattle.mk_core.specs.Below.Books.KnownPages.{KnownPages, Shows}
 use Rattle.mk_laws.proofs.OrderlyLists.{at_first}
 use Rattle.mk_words.proofs.Owed.{first_call, first_in_order}
 use Rattle.mk_words.proofs.words.Words.new.Goals as goal

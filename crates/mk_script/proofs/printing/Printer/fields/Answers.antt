@@ -1,6 +1,0 @@
-use Rattle.mk_script.proofs.Vocabulary.{arith}
-use Rattle.mk_script.proofs.{Spacing.drop_next, Spacing.pointer_behind, printing.Printer.fields.Goals.in-Number}
-use Rattle.mk_script.proofs.printing.Printer.fields.Goals as goal
-
-pub loop-word-preserved : goal.loop-word-preserved
-loop-word-preserved c = grind (arith, drop_next, in-Number, pointer_behind)
