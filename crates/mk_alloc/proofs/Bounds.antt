@@ -8,7 +8,8 @@ use Rattle.mk_alloc.proofs.{HeldQuarters.{IsLate, quarter_or_late}, Quarters.{be
 use Rattle.mk_alloc.proofs.{Quarters.quarantine_is_quarter_and_kept, CountedWords.IsQuarter}
 use Rattle.mk_alloc.proofs.{EndedCycles.fresh_is_quarter_of_held, EndedFrees.CallersAreExact}
 use Rattle.mk_alloc.proofs.KeptAllocations.{quarantine_is_fresh_or_kept, freed_runs_take_no_memory, kept_are_touched}
-use Rattle.mk_alloc.specs.Bounds.{FreshIsQuarterWhereReleasedInTurn, QuarantineIsBounded, QuarantinesAreBounded}
+use Rattle.mk_alloc.specs.Bounds.{QuarantineIsBounded, QuarantinesAreBounded, ReleasesInTurnOfBegin}
+use Rattle.mk_alloc.specs.Bounds.{FreshIsQuarterOfHeld}
 use Rattle.mk_core.specs.History.{AreOfOthers}
 
 others_first : (seats : List Seat) (xs ys : List Event) → AreOfOthers seats (xs ++ ys) → AreOfOthers seats xs
@@ -34,7 +35,7 @@ module _ (c : Config) (es front more : List Event) (is : es ≡ front ++ more) w
       others_first _ behind more (last before e (behind ++ more) (split before e behind at) begins host k lt)
 
 quarter_in_turn : (on : Bool) {c : Config} {es : List Event} → IsHistory c es → CallersAreExact on c es
-    → (left c es).now.words.turn ≡ 0 → FreshIsQuarterWhereReleasedInTurn c es
+    → (left c es).now.words.turn ≡ 0 → ReleasesInTurnOfBegin es → FreshIsQuarterOfHeld c es
 quarter_in_turn on {c = c} {es = es} h exact free in_turn =
     ⊎_elim (λ (quarter : IsQuarter c (left c es) 0). omega arith) (λ (l : IsLate es). absurd
     (true≢false (sym l.later ∙ in_turn l.begin l.last l.release))) (quarter_or_late on h exact free)

@@ -1,14 +1,13 @@
 -- The three steps of a Full: the tally is looked at, raised, and the New decided.
 use Rattle.std.proofs.Common.{min}
-use Rattle.mk_alloc.proofs.Vocabulary.{Acts, Answer, AnswersFull, Caller, Config, Decided, Does, Done}
-use Rattle.mk_alloc.proofs.Vocabulary.{Ended, Event, Flight, Holding, Holds, IsAtPhase, IsEnabledTo, IsQuiet, IsTurn}
-use Rattle.mk_alloc.proofs.Vocabulary.{IsUnplaced, LeavesTurn, List, Moment, None, Op, Option, PassState, Placing}
-use Rattle.mk_alloc.proofs.Vocabulary.{RunPages, Seat, SeesNone, Some, Stage, Steady, Step, World, ℕ, acting_caller}
-use Rattle.mk_alloc.proofs.Vocabulary.{answer_decided, ap, arith, call_decided, call_of, caller_of_pass, calls_more}
-use Rattle.mk_alloc.proofs.Vocabulary.{calm_keeps, comes_next, ends, entry_of, eq-eqb, event_of, false, flight_of}
-use Rattle.mk_alloc.proofs.Vocabulary.{free_then, full_answers, fulls_append, fulls_of, gates_behind, has_operands}
-use Rattle.mk_alloc.proofs.Vocabulary.{has_place, in_a_word, is_begin, is_close, is_pending_free_at, is_run_gone}
-use Rattle.mk_alloc.proofs.Vocabulary.{is_undecided_new}
+use Rattle.mk_alloc.proofs.Vocabulary.{Acts, Answer, AnswersFull, Caller, Config, Decided, Does, Ended, Event, Flight}
+use Rattle.mk_alloc.proofs.Vocabulary.{Holding, Holds, IsAtPhase, IsEnabledTo, IsQuiet, IsTurn, IsUnplaced, LeavesTurn}
+use Rattle.mk_alloc.proofs.Vocabulary.{List, Moment, None, Op, Option, PassState, Placing, RunPages, Seat, SeesNone}
+use Rattle.mk_alloc.proofs.Vocabulary.{Some, Stage, Steady, Step, World, ℕ, acting_caller, answer_decided, ap, arith}
+use Rattle.mk_alloc.proofs.Vocabulary.{call_decided, call_of, caller_of_pass, calls_more, calm_keeps, comes_next, ends}
+use Rattle.mk_alloc.proofs.Vocabulary.{entry_of, eq-eqb, event_of, false, flight_of, free_then, full_answers}
+use Rattle.mk_alloc.proofs.Vocabulary.{fulls_append, fulls_of, gates_behind, has_operands, has_place, in_a_word}
+use Rattle.mk_alloc.proofs.Vocabulary.{is_begin, is_close, is_pending_free_at, is_run_gone, is_undecided_new}
 use Rattle.mk_alloc.proofs.Vocabulary.{known_left, left, lt-ltb, made, meets_enabled, new_is_acting, now_of, object_for}
 use Rattle.mk_alloc.proofs.Vocabulary.{own_before, own_calls, place_now_for, refl, same_config, steady_of, subst}
 use Rattle.mk_alloc.proofs.Vocabulary.{sum_by_push, sym, true, unchanged, world_of, [], ◌++◌, ◌+◌, ◌∙◌, ◌∷◌, ◌≡◌}
@@ -66,13 +65,13 @@ module _ {p p1 p2 : PassState} {n v : ℕ} (quiet : IsQuiet p) (u : IsUnplaced p
   done_same = k2.call.done ∙ k1.call.done
 
   pub tallied_unplaced : IsUnplaced p2
-  tallied_unplaced = grind (arith, unplaced_kept, call_same, done_same, steady, Done)
+  tallied_unplaced = grind (arith, unplaced_kept, call_same, done_same, steady, Holding)
 
   pub tallied_idle : IsAtPhase p 0 → IsAtPhase p2 0
   tallied_idle idle = ap (λ (s : Steady). s.phase) steady ∙ idle
 
   pub tallied_ended : (now_of p).seats.holding.cycle ≡ Ended → (now_of p2).seats.holding.cycle ≡ Ended
-  tallied_ended ended = ap (λ (x : Done). x.cycle) done_same ∙ ended
+  tallied_ended ended = ap (λ (x : Holding). x.cycle) done_same ∙ ended
 
   pub tallied_nowhere : place_now_for p ≡ None → place_now_for p2 ≡ None
   tallied_nowhere none = grind (arith, still_nowhere, steady, same_pass, call_same)

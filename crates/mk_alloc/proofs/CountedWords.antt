@@ -10,7 +10,7 @@ use Rattle.mk_alloc.proofs.QuarantineVocabulary.{given_back_behind, held_by_allo
 use Rattle.mk_alloc.proofs.QuarantineVocabulary.{is_release, is_some, is_some_and, left, not, refl, storage_words, true}
 use Rattle.mk_alloc.proofs.QuarantineVocabulary.{with_released, world_behind, [], ◌&&◌, ◌*◌, ◌++◌, ◌+◌, ◌||◌, ◌∷◌, ◌≡◌}
 use Rattle.mk_alloc.proofs.{QuarantineVocabulary.◌≤◌, HeldFreed.{held_part, held_sum}}
-use Rattle.mk_alloc.specs.Bounds.{given_back_from, is_given_back, words_given_back}
+use Rattle.mk_alloc.specs.Bounds.{given_back_from, words_given_back}
 use Rattle.mk_core.specs.History.{left_from}
 
 -- a sum over those that pass a test, where each that does passes one of two others
@@ -32,7 +32,7 @@ filtered_in_parts f p q r each xs =
         omega arith
 
 abbrev given_part : Config → World → PlacedAllocation → ℕ
-given_part c w a = if is_given_back c w a then storage_words c a else 0
+given_part c w a = if is_mapped c a && (with_released c w.now.words a).released then storage_words c a else 0
 
 -- A `release` gives back what is held no more, and makes nothing fresh.
 

@@ -7,11 +7,11 @@ use Rattle.mk_caller.proofs.Below.Laws.Vocabulary.{heads_run, is_held, map, not,
 use Rattle.mk_caller.proofs.Below.Laws.Vocabulary.{◌+◌, ◌↔◌, ◌∙◌, ◌∷◌, ◌≡◌}
 use Rattle.mk_alloc.proofs.ObjectVocabulary.{Changes, ComesTo, FreesCell, HasFreed, IsOverQuarter, IsTrue, IsTurn}
 use Rattle.mk_alloc.proofs.ObjectVocabulary.{OnlyLooks, PassState, SetsGates, SetsTally, StaysSo, Unmaps, Wipes}
-use Rattle.mk_alloc.proofs.ObjectVocabulary.{WordsState, all_below_from, does_then, entry_for}
-use Rattle.mk_alloc.proofs.ObjectVocabulary.{is_following, is_freeing, is_freeing_small, is_look, is_tallying}
-use Rattle.mk_alloc.proofs.ObjectVocabulary.{none_is_held, now_of, steady_of, sum_by-cons, world_of}
-use Rattle.mk_alloc.proofs.JoinedLooks.{AreAmong, reached_world, reaches_after, reaches_answered, reaches_so}
-use Rattle.mk_alloc.proofs.{JoinedLooks.reaches_wider, FreedOnce.{FreesNot, once_behind}}
+use Rattle.mk_alloc.proofs.ObjectVocabulary.{WordsState, all_below_from, does_then, entry_for, is_following, is_freeing}
+use Rattle.mk_alloc.proofs.ObjectVocabulary.{is_freeing_small, is_look, sets_tallies, none_is_held, now_of, steady_of}
+use Rattle.mk_alloc.proofs.{ObjectVocabulary.{sum_by-cons, world_of}, JoinedLooks.{AreAmong, reached_world}}
+use Rattle.mk_alloc.proofs.JoinedLooks.{reaches_after, reaches_answered, reaches_so, reaches_wider}
+use Rattle.mk_alloc.proofs.FreedOnce.{FreesNot, once_behind}
 use Rattle.mk_alloc.specs.FreeParts.{IsDecidedAt, counted, IsButGates}
 use Rattle.mk_core.specs.Counts.{releases}
 
@@ -50,10 +50,10 @@ wipes_stay a = reaches_so a (λ at. changes_stay at.changes refl refl refl)
 pub unmaps_stay : {p q : PassState} {run : RunPages} → Unmaps p run q → Stays is_following p q
 unmaps_stay a = reaches_so a (λ at. changes_stay at.changes refl refl refl)
 
-pub fresh_stays : {p q : PassState} {n : ℕ} → SetsTally p Tally.Fresh n q → Stays is_tallying p q
+pub fresh_stays : {p q : PassState} {n : ℕ} → SetsTally p Tally.Fresh n q → Stays sets_tallies p q
 fresh_stays a = reaches_so a (λ at. changes_stay at refl refl refl)
 
-pub held_stays : {p q : PassState} {n : ℕ} → SetsTally p Tally.Held n q → Stays is_tallying p q
+pub held_stays : {p q : PassState} {n : ℕ} → SetsTally p Tally.Held n q → Stays sets_tallies p q
 held_stays a = reaches_so a (λ at. changes_stay at refl refl refl)
 
 pub stays_then : {one two kinds : Step → Bool} → AreAmong one kinds → AreAmong two kinds → {p q r : PassState}

@@ -12,9 +12,9 @@ use Rattle.mk_alloc.proofs.Vocabulary.{freed_where_it_stands, or_cases, true≢f
 use Rattle.mk_core.specs.{History.left_from, Cells.{is_left_unmarked, pointed_cell}, Words.Words}
 use Rattle.mk_never.specs.NeverHeap.{Call}
 use Rattle.mk_geom.specs.Addresses.{address_of}
-use Rattle.mk_alloc.specs.Deeds.{Deed, after_deed, back_after, back_from, begins_at_one, storage_from}
-use Rattle.mk_alloc.specs.Deeds.{DeedsGiveBack, DeedsLeaveTheStorage, bases_released, deeds_by, deeds_from, done_by}
-use Rattle.mk_alloc.specs.{Deeds.frees_at, Bounds.{given_back_from, is_given_back}}
+use Rattle.mk_alloc.specs.Deeds.{Deed, after_deed, back_after, back_from, begins_at_one, storage_from, DeedsGiveBack}
+use Rattle.mk_alloc.specs.Deeds.{DeedsLeaveTheStorage, bases_released, deeds_by, deeds_from, done_by, frees_at}
+use Rattle.mk_alloc.specs.Bounds.{given_back_from}
 
 -- Deeds one after the other.
 
@@ -174,7 +174,7 @@ deeds_leave_the_storage c es = deeds_leave c (first_world c) es
 
 given_one : (c : Config) (w : World) (i : ℕ) → i < length w.allocations
     → (is_mapped c (placed_at w.allocations i) && begins_at_one (bases_released c w) (placed_at w.allocations i))
-    ≡ is_given_back c w (placed_at w.allocations i)
+    ≡ (is_mapped c (placed_at w.allocations i) && (with_released c w.now.words (placed_at w.allocations i)).released)
 given_one c w i lt =
     given_at (placed_at w.allocations i).released _ _ _ (lists_test (left_unmarked c w.now.words) w.allocations i lt)
 

@@ -5,14 +5,14 @@ use Rattle.mk_alloc.proofs.{Vocabulary.{⊎_elim, ◌++◌, ◌∙◌, ◌∷◌
 use Rattle.mk_alloc.specs.TurnCycles.{AreFinishedAtOnce, EachIsFinished, IsFinishedAtOnce}
 use Rattle.mk_core.specs.{Cycles.through, Frames.Steady}
 use Rattle.mk_cycle.proofs.Begun.{begin_begun, begins_none, begun_then, does_begin_none, has_on}
-use Rattle.mk_cycle.{proofs.InParts.{InFirst, InSecond, in_parts}, specs.{Stops.IsClosedBy, TurnKeeps.clears}}
-use Rattle.mk_cycle.specs.BeginCycle.{MakesBegin, EachIsBegunUpTo, EachIsBegunYet, IsBegunUpTo}
+use Rattle.mk_cycle.proofs.InParts.{InFirst, InSecond, in_parts}
+use Rattle.mk_cycle.specs.{Stops.IsClosedBy, TurnKeeps.clears, BeginCycle.{MakesBegin, EachIsBegun, IsBegunUpTo}}
 
 -- No cycle begins so.
 abbrev pub Never : Config → Seat → List Event → List Event → Type 0
 Never c s es more = ⊥
 
-pub never_by_none : {p q : PassState} → SeesNone is_begin p q → EachIsBegunUpTo false Never p q
+pub never_by_none : {p q : PassState} → SeesNone is_begin p q → EachIsBegun false Never p q
 never_by_none none = record {
   more = none.more;
   is = none.is;
@@ -97,13 +97,13 @@ module _ {V : Type 0} (closes : V → PassState → PassState → Type 0) where
         (subst (λ (x : PassState). AreFinishedAtOnce closes x.table.config x.seat q.seen two.more) same two.each));
   }
 
-  pub unbegun_finished : {yet : Bool} {p q : PassState} → EachIsBegunUpTo yet Never p q → EachIsFinished closes p q
+  pub unbegun_finished : {yet : Bool} {p q : PassState} → EachIsBegun yet Never p q → EachIsFinished closes p q
   unbegun_finished none =
       record { more = none.more; is = none.is; each = λ b own. absurd (none.each b own).part }
 
   -- A cycle begins, and is finished before another begins.
   module _ (engine : V) {p b q : PassState} (own : Has p.seats p.seat) (law : BeginsCycle p b)
-      (closed : IsClosedBy (closes engine) b q) (none : EachIsBegunUpTo false Never b q) where
+      (closed : IsClosedBy (closes engine) b q) (none : EachIsBegun false Never b q) where
     abbrev m : MakesBegin p b
     m = law.makes
 
@@ -111,7 +111,7 @@ module _ {V : Type 0} (closes : V → PassState → PassState → Type 0) where
     abbrev IsUpToIt : Config → Seat → List Event → List Event → Type 0
     IsUpToIt c s es first = es ++ first ≡ b.seen
 
-    begun : EachIsBegunYet IsUpToIt p b
+    begun : EachIsBegun true IsUpToIt p b
     begun =
         let same = only_seen p m.cleared m.before.more m.before.is in
         let seen = ap (λ (x : PassState). x.seen) m.behind.is in

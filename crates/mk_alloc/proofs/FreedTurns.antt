@@ -15,10 +15,10 @@ use Rattle.mk_alloc.proofs.{Going.{IsCallers, callers_then, same_phase, then_on}
 use Rattle.mk_alloc.proofs.ListParts.{Lacks, SomeKind, cycle_in, lacks_append, lacks_at, lacks_first, none_at, only_at}
 use Rattle.mk_alloc.proofs.{ListParts.stands, Parts.{Part, part_lacks, seen_by, seen_then}}
 use Rattle.mk_alloc.proofs.UnsweptTurns.{kinds_keep, kinds_yet, turn_keeps, turn_keeps_yet}
-use Rattle.mk_alloc.proofs.CycleParts.{EndsIn, begins_held}
-use Rattle.mk_alloc.{proofs.Stretches.{SomeKinds, Within}, specs.{TurnCycles.CycleIsOn, Rooms.KeepsYet}}
+use Rattle.mk_alloc.proofs.{CycleParts.{EndsIn, begins_held}, Stretches.{SomeKinds, Within}}
+use Rattle.mk_alloc.specs.{Rooms.PassKeeps, Retiring.{DecidesFree, FindsFreed, Retires, IsUnloaded, is_freeing}}
+use Rattle.mk_alloc.specs.Retiring.{is_loading}
 use Rattle.mk_caller.proofs.Below.Laws.Vocabulary.{register_at}
-use Rattle.mk_alloc.specs.Retiring.{DecidesFree, FindsFreed, Retires, IsUnloaded, is_freeing, is_loading}
 use Rattle.mk_never.specs.Admitted.{IsBase}
 use Rattle.mk_core.specs.Cycles.{BeginsAndEndsIn, BeginsIn}
 use Rattle.mk_cycle.specs.EngineLaw.{Ways}
@@ -59,7 +59,7 @@ module _ (on : Bool) {c : Config} {s : Seat} {es : List Event} (t : TurnOf c s e
   -- One that is due begins one cycle.
   pub due_exact : (first : BeginsIn t) → Lacks is_begin first.before → Lacks is_begin first.behind
       → (on ≡ false → EndsIn first.behind) → (on ≡ true → Lacks finishes first.behind)
-      → (CycleIsOn t → At is_end first.before) → FreesFirst t → FreeIsExact on t
+      → (phase_of (left c t.before).now.words ≡ 1 → At is_end first.before) → FreesFirst t → FreeIsExact on t
   due_exact first none_before none_behind stopped goes_on older frees = record {
     begins = ((λ b. frees.due), (λ d. first));
     first = λ d. frees;
@@ -278,7 +278,7 @@ module _ {flag due : Bool} {r : ℕ} {p taken retired done : PassState} (f : Fre
     abbrev given : GivenBack (Op.Free r) Answer.Done p taken done q
     given = record { took = f.took; fresh = f.begins.fresh; on = freed; gives = gives; rests = rests }
 
-    pub freed_keeps : {V : Type 0} {ways : Ways V} → KeepsYet ways retired done → PassKeeps ways p q
+    pub freed_keeps : {V : Type 0} {ways : Ways V} → PassKeeps true ways retired done → PassKeeps false ways p q
     freed_keeps run = turn_keeps_yet given (kinds_yet (λ x h. grind arith) f.retires.decides.does run)
 
     told : IsDueIn (turn_of given) → due ≡ true
@@ -318,7 +318,7 @@ module _ {r : ℕ} {p taken done : PassState} (f : Refuses r p taken done) where
     abbrev given_double : GivenBack (Op.Free r) Answer.Double p taken done q
     given_double = record { took = f.took; fresh = f.begins.fresh; on = refused; gives = gives; rests = rests }
 
-    pub refused_keeps : {V : Type 0} {ways : Ways V} → PassKeeps ways p q
+    pub refused_keeps : {V : Type 0} {ways : Ways V} → PassKeeps false ways p q
     refused_keeps = turn_keeps given_double (kinds_keep (λ x h. grind arith) f.finds.decides.does)
 
     loading : Part is_loading taken done

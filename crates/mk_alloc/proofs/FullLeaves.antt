@@ -17,7 +17,7 @@ use Rattle.mk_alloc.proofs.Stretches.{First, IsOwn, Stretch, Within, call_in, do
 use Rattle.mk_alloc.proofs.{FreedTurns.is_quar, Going.IsCallers, Parts.{Part, seen_after, seen_by}}
 use Rattle.mk_core.proofs.RegisterAccesses.{tally_leaves_registers}
 use Rattle.mk_core.specs.{History.{AreOfOthers, left_from}, TurnConditions.may_wipe}
-use Rattle.mk_alloc.specs.Rooms.{KeepsItsWords, LeavesAllButReleased, OwnLeaveFrom, StaysOrIsReleased}
+use Rattle.mk_alloc.specs.Rooms.{LeavesAllButReleased, OwnLeaveFrom, StaysOrIsReleased}
 
 -- the kinds of the call's own steps
 
@@ -80,7 +80,10 @@ module _ (c : Config) (es : List Event) (s : Seat) (x : Step) (history : IsHisto
       unreleased (unmapped_is c w n0 st.known st.all.mirrors a there ∙ not-true _ parts.1)
       (subst (λ (k : ℕ). i < k) (sym (words_are c w n0 st.known st.all.mirrors a there)) lt)
 
-  words_stay : is_of_full x ≡ true → (a : ℕ) → KeepsItsWords c w (WorldBehind c w s x) (placed_at w.allocations a)
+  words_stay : is_of_full x ≡ true → (a : ℕ) → is_mapped c (placed_at w.allocations a) ≡ true
+      → (i : ℕ) → i < length (kinds_of c.types (placed_at w.allocations a).ty)
+      → slice_index (WorldBehind c w s x).now.words.heap ((placed_at w.allocations a).base + i)
+      ≡ slice_index w.now.words.heap ((placed_at w.allocations a).base + i)
   words_stay kind a mapped i lt = by x kind (comes_last c es (record { seat = s; step = x }) history).meets.holder
     where
       by : (y : Step) → is_of_full y ≡ true → holder_may c w.now (flight_of w.now s) y ≡ true

@@ -1,16 +1,16 @@
 -- Parts of a turn in which it goes on: the parts of cycles decide nothing, and what goes on in two parts goes on.
-use Rattle.mk_alloc.proofs.Vocabulary.{Acts, Answer, BeginsCycle, Bool, Caller, Config, Decided, Does, Done, Event}
-use Rattle.mk_alloc.proofs.Vocabulary.{FinishesCycle, Flight, IsEnabledTo, IsHistory, IsOutOfStop, IsQuiet, IsTurn}
-use Rattle.mk_alloc.proofs.Vocabulary.{KeepsGates, LeavesTurn, List, Looks, None, Op, Option, PassState}
-use Rattle.mk_alloc.proofs.Vocabulary.{PlacedAllocation, Some, Stage, Steady, Step, TalliesAreTidy, TurnGoesOn, ℕ}
-use Rattle.mk_alloc.proofs.Vocabulary.{and_from, ap, append-nil, arith, call_of, caller_of_pass, calm_keeps}
-use Rattle.mk_alloc.proofs.Vocabulary.{does_nothing, ends, entry_of, eq-eqb, free_then, fresh_words_of, full_answers}
-use Rattle.mk_alloc.proofs.Vocabulary.{gates_behind, gone_is_unmapped, held_by_allocations, in_a_word, inl, inr}
-use Rattle.mk_alloc.proofs.Vocabulary.{is_look, now_of, off_four, or_left, own_calls, phase_of, refl, releases}
-use Rattle.mk_alloc.proofs.Vocabulary.{same_config, steady_of, subst, sym, true, turn_stays, unchanged, world_of, ◌++◌}
-use Rattle.mk_alloc.proofs.{Vocabulary.{◌==◌, ◌||◌, ◌∙◌, ◌≡◌, ◌⊎◌}, CalmStretches.{cycles_in_turn, goes_undecided}}
-use Rattle.mk_alloc.proofs.{CalmStretches.is_of_cycles, Stretches.{does_both, does_once, does_stretch, widened}}
+use Rattle.mk_alloc.proofs.CalmStretches.{cycles_in_turn, goes_undecided, is_of_cycles}
 use Rattle.mk_alloc.proofs.{CycleParts.{begin_done, finish_done}, Parts.{Part, seen_behind}}
+use Rattle.mk_alloc.proofs.{Stretches.{does_both, does_once, does_stretch, widened}, Vocabulary.{Acts, Answer}}
+use Rattle.mk_alloc.proofs.Vocabulary.{BeginsCycle, Bool, Caller, Config, Decided, Does, Event, FinishesCycle, Flight}
+use Rattle.mk_alloc.proofs.Vocabulary.{IsEnabledTo, IsHistory, IsOutOfStop, IsQuiet, IsTurn, KeepsGates, LeavesTurn}
+use Rattle.mk_alloc.proofs.Vocabulary.{List, OnlyDoes, None, Op, Option, PassState, PlacedAllocation, Some, Stage}
+use Rattle.mk_alloc.proofs.Vocabulary.{Steady, Step, TalliesAreTidy, TurnGoesOn, ℕ, and_from, ap, append-nil, arith}
+use Rattle.mk_alloc.proofs.Vocabulary.{call_of, caller_of_pass, calm_keeps, does_nothing, ends, entry_of, eq-eqb}
+use Rattle.mk_alloc.proofs.Vocabulary.{free_then, fresh_words_of, full_answers, gates_behind, gone_is_unmapped}
+use Rattle.mk_alloc.proofs.Vocabulary.{held_by_allocations, in_a_word, inl, inr, is_look, now_of, off_four, or_left}
+use Rattle.mk_alloc.proofs.Vocabulary.{own_calls, phase_of, refl, releases, same_config, steady_of, subst, sym, true}
+use Rattle.mk_alloc.proofs.Vocabulary.{turn_stays, unchanged, world_of, ◌++◌, ◌==◌, ◌||◌, ◌∙◌, ◌≡◌, ◌⊎◌, Holding}
 use Rattle.mk_caller.proofs.{Below.Laws.Vocabulary.{OwnCycle, Word}, Below.Words.Tallies.settled_tallies}
 use Rattle.mk_core.specs.Counts.{TalliesAreExact}
 use Rattle.mk_cycle.proofs.{Allowed.{look_allowed, protocol}, BeginSteps.none_held_kept, MayAct.may_act}
@@ -23,7 +23,7 @@ use Rattle.mk_cycle.specs.{EngineLaw.IsFreeForCycle, TurnKeeps.{IsGone, done_of}
 pub phase_allowed : {p : PassState} → IsTurn p → IsFreeForCycle p → IsEnabledTo p (Step.Look Word.Phase)
 phase_allowed {p} t free = look_allowed p t free Word.Phase refl refl
 
-pub looked : {p q : PassState} → IsTurn p → IsFreeForCycle p → Acts p (Step.Look Word.Phase) q → Looks p q
+pub looked : {p q : PassState} → IsTurn p → IsFreeForCycle p → Acts p (Step.Look Word.Phase) q → OnlyDoes is_look p q
 looked {p} {q} t free a = record {
   does = does_once a.makes refl;
   keeps = calm_keeps p (Step.Look Word.Phase) q a t a.makes.pass.history refl free unchanged refl;
@@ -75,13 +75,13 @@ quiet_kept quiet k gates =
 
 -- where it looks, begins a cycle, or finishes one.
 
-pub quiet_looked : {p q : PassState} → IsQuiet p → Looks p q → IsQuiet q
+pub quiet_looked : {p q : PassState} → IsQuiet p → OnlyDoes is_look p q → IsQuiet q
 quiet_looked quiet k = quiet_kept quiet k.keeps k.gates
 
 -- Of what was done in the turn a cycle's begin and its end change the own cycle alone.
 still_free : {p q : PassState} {cycle : OwnCycle} → IsFreeForCycle p → call_of q ≡ call_of p
     → done_of (now_of q) ≡ record (done_of (now_of p)) { cycle = cycle } → IsGone q → IsFreeForCycle q
-still_free free call done gone = grind (arith, Done)
+still_free free call done gone = grind (arith, Holding)
 
 pub quiet_begun : {p q : PassState} → IsQuiet p → BeginsCycle p q → IsQuiet q
 quiet_begun {p} {q} quiet b = record {
@@ -134,7 +134,8 @@ pub undecided_part : {p q : PassState} → IsTurn p → IsCallers p → IsQuiet 
 undecided_part t seat quiet after d history call =
     grind (arith, widened, cycles_in_turn, seen_behind, is_of_cycles, goes_undecided, does_stretch, append-nil)
 
-pub looked_on : {p q : PassState} → IsTurn p → IsCallers p → IsQuiet p → Looks p q → IsHistory q.table.config q.seen
+pub looked_on : {p q : PassState} → IsTurn p → IsCallers p → IsQuiet p → OnlyDoes is_look p q
+    → IsHistory q.table.config q.seen
     → TurnGoesOn None p q
 looked_on t seat quiet k history =
     undecided_part t seat quiet (quiet_looked quiet k) (widened (λ x h. grind arith) k.does) history k.keeps.call.call

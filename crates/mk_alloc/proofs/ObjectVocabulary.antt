@@ -12,15 +12,16 @@ pub use Rattle.mk_caller.proofs.Below.Words.Undecided.{decides_nothing}
 pub use Rattle.mk_caller.specs.{Called.own_calls, Below.Words.Steps.{Does, IsEnabledTo}}
 pub use Rattle.mk_caller.specs.Below.Words.{TurnSteps.{Acts, turn_stays}, States.{IsTurn, PassState}}
 pub use Rattle.mk_caller.specs.Below.Words.States.{TurnState, WordsState, call_of, event_of, now_of, world_of}
-pub use Rattle.mk_alloc.specs.FreeParts.{FreesCell, FreesOnce, IsOverQuarter, MayFree, StaysSo}
-pub use Rattle.mk_alloc.specs.FreeParts.{is_following, Changes, HasGates, RunIsUnmapped, RunIsWiped, SetsGate}
-pub use Rattle.mk_alloc.specs.FreeParts.{SetsGates, SetsTally, Unmaps, Wipes, all_others, is_settling, is_tallying}
-pub use Rattle.mk_alloc.specs.{FreeParts.{with_tally, WipesTo}, Placing.{is_acting, is_steady_word, IsAsLeft}}
-pub use Rattle.mk_alloc.specs.Placing.{ComesTo, GoesTo, HasCarved, IsGrantedAt, IsOutOfStop, IsUnplaced, MayTake}
-pub use Rattle.mk_alloc.specs.Placing.{OnlyLooks, entry_for, is_look, is_placing, object_at_place, object_for, Carving}
-pub use Rattle.mk_alloc.specs.{Placing.{IsCellReady, Serving}, Retiring.{freed_and_fresh, CallIsAt, HasFreed}}
-pub use Rattle.mk_alloc.specs.Retiring.{IsFreeAt, IsFreedAt, is_freeing, is_loading, loaded_free, is_freeing_small}
+pub use Rattle.mk_alloc.specs.FreeParts.{FreesCell, FreesOnce, IsOverQuarter, MayFree, StaysSo, Changes, HasGates}
+pub use Rattle.mk_alloc.specs.FreeParts.{RunIsUnmapped, RunIsWiped, SetsGate, SetsGates, SetsTally, Unmaps, Wipes}
+pub use Rattle.mk_alloc.specs.{FreeParts.{all_others, is_settling, WipesTo}, Retiring.{is_following, freed_and_fresh}}
+pub use Rattle.mk_alloc.specs.Retiring.{CallIsAt, HasFreed, IsFreeAt, IsFreedAt, is_freeing, is_loading, loaded_free}
+pub use Rattle.mk_alloc.specs.{Retiring.is_freeing_small, Placing.{is_acting, is_steady_word, IsAsLeft, ComesTo}}
+pub use Rattle.mk_alloc.specs.Placing.{GoesTo, HasCarved, IsGrantedAt, IsOutOfStop, IsUnplaced, MayTake, OnlyLooks}
+pub use Rattle.mk_alloc.specs.Placing.{entry_for, is_placing, object_at_place, object_for, Carving, IsCellReady}
+pub use Rattle.mk_alloc.specs.Placing.{Serving}
 pub use Rattle.mk_caller.specs.States.{value_of}
+pub use Rattle.mk_cycle.specs.{TurnKeeps.{is_look, sets_tallies}, FinishCycle.with_tally}
 
 -- steps that hold gates
 abbrev pub is_holding : Step → Bool

@@ -86,29 +86,32 @@ none_then_none {p} {q} {r} x y = record {
 }
 
 pub ends_none : {p q : PassState} → EndsOnly p q → SeesNone is_begin p q
-ends_none x = record { more = x.more; is = x.is; none = x.none }
+ends_none x = x.begins_none
 
 pub finish_then_none : {p q r : PassState} → IsTurn p → FinishesCycle p q → IsHistory q.table.config q.seen
     → SeesNone is_begin q r → EndsOnly p r
 finish_then_none {p} {q} {r} t law history y =
     let f = finish_in p q t.own law t history in
     record {
-      more = f.more ++ y.more;
-      is = seen_then p.seen q.seen r.seen f.more y.more f.is y.is;
-      none = lacks_append is_begin f.more y.more f.begins_none y.none;
+      begins_none = record {
+        more = f.more ++ y.more;
+        is = seen_then p.seen q.seen r.seen f.more y.more f.is y.is;
+        none = lacks_append is_begin f.more y.more f.begins_none y.none;
+      };
       ended = longer_at y.more (end_at f.ends);
     }
 
 pub begin_then_ends : {p q r : PassState} → IsTurn p → BeginsCycle p q → IsHistory q.table.config q.seen
     → EndsOnly q r → RunsOne p r
-begin_then_ends {p} {q} {r} t law history y =
+begin_then_ends {p} {q} {r} t law history ends =
     let b = begin_in p q t.own law t history in
+    let y = ends.begins_none in
     record {
       more = b.before ++ b.begin ∷ (b.behind ++ y.more);
       is = seen_then p.seen q.seen r.seen (b.before ++ b.begin ∷ b.behind) y.more b.is y.is
           ∙ ap (λ (l : List Event). p.seen ++ l) (append_assoc b.before (b.begin ∷ b.behind) y.more);
       one = one_run b.before b.begin b.none_before
-          (lacks_append is_begin b.behind y.more b.none_behind y.none) (at_behind b.behind y.ended);
+          (lacks_append is_begin b.behind y.more b.none_behind y.none) (at_behind b.behind ends.ended);
     }
 
 pub none_runs_one : {p q : PassState} → SeesNone is_begin p q → RunsOne p q

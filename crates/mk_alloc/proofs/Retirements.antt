@@ -19,9 +19,8 @@ use Rattle.mk_alloc.proofs.JoinedLooks.{reached_table, reached_world, reaches_af
 use Rattle.mk_alloc.proofs.{JoinedLooks.{reaches_so, reaches_wider}, Serves.out_of_stop}
 use Rattle.mk_alloc.proofs.{LoadedFrees.loaded_undecided, MayAct.free_is_acting, SmallFrees.{exact_still, none_held}}
 use Rattle.mk_alloc.specs.{FreeParts.{IsDecidedAt, MayFreeOn, counted}, Retiring.{HasLoaded, HasSeen, IsLoaded}}
-use Rattle.mk_alloc.specs.Retiring.{IsUnloaded, KeepsValues, entry_seen, seen_free}
-use Rattle.mk_alloc.specs.Retiring.{DecidesFree, FindsFreed}
-use Rattle.mk_alloc.specs.Retiring.{IsFreed, Retires, freeing_kinds, kinds_for, with_freed_object}
+use Rattle.mk_alloc.specs.Retiring.{IsUnloaded, KeepsValues, seen_free, DecidesFree, FindsFreed, IsFreed, Retires}
+use Rattle.mk_alloc.specs.Retiring.{freeing_kinds, kinds_for, with_freed_object}
 use Rattle.mk_core.specs.Counts.{TalliesAreExact}
 
 -- A Free on its way: up to its `quar` it only loads, or comes to be decided.
@@ -84,7 +83,7 @@ loaded_then {r} {u} unloaded loaded some keeps = record {
 
 pub seen_at : {p q r : PassState} {f g : Flight} (cell : Cell) {double : Bool} → Comes p f q → HasSeen q cell r
     → is_freed (now_of q).words cell ≡ double → seen_free f double ≡ g
-    → ComesTo is_loading q (CallIsAt q.seat g (world_of q)) (entry_seen q double) r
+    → ComesTo is_loading q (CallIsAt q.seat g (world_of q)) (if double then entry_for q Answer.Double else []) r
 seen_at cell a b freed to = grind (arith, reaches_named, reaches_so)
 
 pub comes_seeing : {p q r : PassState} {f : Flight} (cell : Cell) → Comes p f q → HasSeen q cell r

@@ -1,20 +1,20 @@
 -- A New seeks room: the parts of its turn one after the other.
 use Rattle.mk_caller.proofs.Below.Laws.Vocabulary.{eqb-false, inr, is_undecided_new}
-use Rattle.mk_alloc.proofs.{JoinedLooks.{looks_object, looks_unplaced}, Vocabulary.{Answer, AsksRoom, BeginsCycle}}
-use Rattle.mk_alloc.proofs.Vocabulary.{Bool, Config, Does, Done, FinishesCycle, FitsNowhere, Flight, HasNoPlace}
-use Rattle.mk_alloc.proofs.Vocabulary.{IsAtPhase, IsHistory, IsOutOfStop, IsPlaced, IsQuiet, IsTurn, IsUnplaced, List}
-use Rattle.mk_alloc.proofs.Vocabulary.{Looks, Misfits, None, Object, OnlyLooks, Option, PassState, PlacedAllocation}
-use Rattle.mk_alloc.proofs.Vocabulary.{Seeks, Some, Steady, TurnGoesOn, ℕ, acting_caller, ap, arith, call_of, false}
-use Rattle.mk_alloc.proofs.Vocabulary.{is_look, looks_left, new_is_acting, now_of, object_for, object_made, only_seen}
-use Rattle.mk_alloc.proofs.Vocabulary.{own_seat, phase_of, place_after, place_now_for, refl, subst, world_of, ◌==◌, ◌∙◌}
-use Rattle.mk_alloc.proofs.{Vocabulary.◌≡◌, CalmStretches.{cycles_in_turn, is_of_cycles}}
-use Rattle.mk_alloc.proofs.{CycleParts.{begin_done, finish_done}, Going.{IsCallers, begun_on, finished_on, look_part}}
-use Rattle.mk_alloc.proofs.{Going.{looked_on, on_then, same_phase}, GrantParts.{calm_last, finish_room, grants_none}}
-use Rattle.mk_alloc.proofs.GrantParts.{last_behind, no_place, none_behind, none_last, none_then, nowhere_then}
-use Rattle.mk_alloc.proofs.GrantParts.{part_begun, room_kept, room_lacks, room_then}
-use Rattle.mk_alloc.proofs.PlacedTurns.{looked_beside, place_part, placed_on, served_by}
-use Rattle.mk_alloc.proofs.{FullLeaves.{cycles_leave, leaves_then}, Parts.Part, Stretches.widened}
-use Rattle.mk_alloc.specs.{declared.objects.Request.Request, Rooms.{IsPlacedOr, MisfitsIdly, NeedsRoom, SeeksRoom}}
+use Rattle.mk_alloc.proofs.{Parts.Part, Stretches.widened, JoinedLooks.{looks_object, looks_unplaced}}
+use Rattle.mk_alloc.proofs.{CalmStretches.{cycles_in_turn, is_of_cycles}, CycleParts.{begin_done, finish_done}}
+use Rattle.mk_alloc.proofs.{FullLeaves.{cycles_leave, leaves_then}, PlacedTurns.{looked_beside, place_part, placed_on}}
+use Rattle.mk_alloc.proofs.{PlacedTurns.served_by, Going.{IsCallers, begun_on, finished_on, look_part, looked_on}}
+use Rattle.mk_alloc.proofs.{Going.{on_then, same_phase}, GrantParts.{calm_last, finish_room, grants_none, last_behind}}
+use Rattle.mk_alloc.proofs.GrantParts.{no_place, none_behind, none_last, none_then, nowhere_then, part_begun, room_kept}
+use Rattle.mk_alloc.proofs.{GrantParts.{room_lacks, room_then}, Vocabulary.{Answer, AsksRoom, BeginsCycle, Bool}}
+use Rattle.mk_alloc.proofs.Vocabulary.{Config, Does, FinishesCycle, FitsNowhere, Flight, HasNoPlace, IsAtPhase}
+use Rattle.mk_alloc.proofs.Vocabulary.{IsHistory, IsOutOfStop, IsPlaced, IsQuiet, IsTurn, IsUnplaced, List, OnlyDoes}
+use Rattle.mk_alloc.proofs.Vocabulary.{Misfits, None, Object, OnlyLooks, Option, PassState, PlacedAllocation, Seeks}
+use Rattle.mk_alloc.proofs.Vocabulary.{Some, Steady, TurnGoesOn, ℕ, acting_caller, ap, arith, call_of, false, is_look}
+use Rattle.mk_alloc.proofs.Vocabulary.{looks_left, new_is_acting, now_of, object_for, object_made, only_seen, own_seat}
+use Rattle.mk_alloc.proofs.Vocabulary.{phase_of, place_after, place_now_for, refl, subst, world_of, ◌==◌, ◌∙◌, ◌≡◌}
+use Rattle.mk_alloc.proofs.Vocabulary.{Holding}
+use Rattle.mk_alloc.specs.{declared.objects.Request.Request, Rooms.{NeedsRoom, SeeksRoom, PlacesOrMisfits}}
 use Rattle.mk_caller.specs.Below.Words.States.{WordsState}
 use Rattle.mk_core.specs.Allocations.{place_among_allocations}
 
@@ -42,17 +42,16 @@ seeks_then {a} {p} {q} {r} x y =
 pub misfits_then : {p q r : PassState} → Seeks None p q → Misfits q r → Misfits p r
 misfits_then x m = record { turn = m.turn; seeks = seeks_then x m.seeks; unplaced = m.unplaced; nowhere = m.nowhere }
 
-pub idly_then : {p q r : PassState} → Seeks None p q → MisfitsIdly q r → MisfitsIdly p r
-idly_then x m = record { misfits = misfits_then x m.misfits; idle = m.idle }
-
--- with what it says of the whole where the object misfits
-pub tried_then : {misfit whole : PassState → PassState → Type 0} {is_placed : Bool} {p q r : PassState}
-    → Seeks None p q → IsPlacedOr misfit is_placed q r → (is_placed ≡ false → misfit q r → whole p r)
-    → IsPlacedOr whole is_placed p r
-tried_then x t misfits = record {
+pub tried_then : {is_placed : Bool} {p q r : PassState} → Seeks None p q → PlacesOrMisfits is_placed q r
+    → PlacesOrMisfits is_placed p r
+tried_then x t = record {
   placed = λ granted. seeks_then x (t.placed granted);
-  misfits = λ none. misfits none (t.misfits none);
+  misfits = λ none. misfits_then x (t.misfits none);
 }
+
+-- No cycle is on after one was finished.
+pub idle_still : {p q r : PassState} → FinishesCycle p q → OnlyLooks q r → IsAtPhase r 0
+idle_still f looks = ap (λ (s : Steady). s.phase) (looks_left looks).steady ∙ f.phase
 
 pub still_nowhere : (p q : PassState) → (world_of q).allocations ≡ (world_of p).allocations
     → q.table.config ≡ p.table.config → object_for q ≡ object_for p → place_now_for p ≡ None → place_now_for q ≡ None
@@ -151,7 +150,7 @@ module _ {w : WordsState} {p : PassState} {request : Request} (asked : SeeksRoom
               (room_kept (object_for p) seat asked.quiet.free.decided no_place_now part);
           unplaced = record {
             new = ap is_undecided_new b.call ∙ asked.unplaced.new;
-            placing = ap (λ (x : Done). x.placing) b.done ∙ asked.unplaced.placing;
+            placing = ap (λ (x : Holding). x.placing) b.done ∙ asked.unplaced.placing;
             phase = inr (ap (λ (s : Steady). s.phase) b.steady);
           };
           nowhere = ap (λ (c : Config). place_after c q.seen (object_for q))
@@ -169,31 +168,24 @@ module _ {w : WordsState} {p : PassState} {request : Request} (asked : SeeksRoom
         (finish_room (object_for p) seat asked.quiet.free.decided no_place_now f asked.turn history)
 
     pub room_finished : {q : PassState} → FinishesCycle p q → IsTurn q → SeeksRoom w q request
-    room_finished f turn = grind (arith, still_seeks, seeks_finished, Done)
-
-    pub misfits_finished : {q r : PassState} → FinishesCycle p q → IsHistory q.table.config q.seen → Misfits q r
-        → OnlyLooks q r → MisfitsIdly p r
-    misfits_finished {q} {r} f history m looks = record {
-      misfits = misfits_then (seeks_finished f history) m;
-      idle = ap (λ (s : Steady). s.phase) (looks_left looks).steady ∙ f.phase;
-    }
+    room_finished f turn = grind (arith, still_seeks, seeks_finished, Holding)
 
     -- and where it looked at the phase.
-    pub misfits_seen : {q : PassState} → Looks p q → IsTurn q → Misfits p q
+    pub misfits_seen : {q : PassState} → OnlyDoes is_look p q → IsTurn q → Misfits p q
     misfits_seen {q} k turn =
         let on = looked_on asked.turn (new_callers asked.unplaced) asked.quiet k turn.history in
         record {
           turn = turn;
           seeks = looked_undecided on k.does turn.history;
           unplaced = unplaced_kept asked.unplaced k.keeps.call.call
-              (ap (λ (x : Done). x.placing) k.keeps.call.done) (ap (λ (s : Steady). s.phase) k.keeps.steady);
+              (ap (λ (x : Holding). x.placing) k.keeps.call.done) (ap (λ (s : Steady). s.phase) k.keeps.steady);
           nowhere = still_nowhere p q (ap (λ (s : Steady). s.allocations) k.keeps.steady)
               (ap (λ (x : PassState). x.table.config) k.keeps.call.pass) (same_object on) none;
         }
 
 -- The phase that was seen is that after the look: no cycle is on, or one is.
 
-pub seen_at : {p q : PassState} {n : ℕ} → Looks p q → IsAtPhase p n → IsAtPhase q n
+pub seen_at : {p q : PassState} {n : ℕ} → OnlyDoes is_look p q → IsAtPhase p n → IsAtPhase q n
 seen_at k at = ap (λ (s : Steady). s.phase) k.keeps.steady ∙ at
 
 pub phase_seen : (p : PassState) → IsOutOfStop (now_of p) → (phase_of (now_of p).words == 1) ≡ false → IsAtPhase p 0

@@ -7,8 +7,8 @@ use Rattle.mk_alloc.proofs.{CalledTurns.GivenBack, ListParts.none_at, OwnGives.s
 use Rattle.mk_alloc.proofs.SaidCloses.{does_say_none, finish_says, nothing_said, said_then, unclosed_says_none}
 use Rattle.mk_alloc.proofs.FinishedCycles.{Never, finished_then, never_by_none, unbegun_finished}
 use Rattle.mk_alloc.specs.TurnCycles.{EachIsFinished, EachIsSaid}
-use Rattle.mk_alloc.specs.{TurnCalls.{CallsSweepNothing, SweepNothingWhereHeld}, Rooms.KeepsYet}
-use Rattle.mk_cycle.specs.{Stops.IsToldAtClose, BeginCycle.{EachIsBegunYet, HoldsFirst}, EngineLaw.Ways}
+use Rattle.mk_alloc.specs.{TurnCalls.{CallsSweepNothing, SweepNothingWhereHeld}, Rooms.PassKeeps}
+use Rattle.mk_cycle.specs.{Stops.IsToldAtClose, BeginCycle.{EachIsBegun, HoldsFirst}, EngineLaw.Ways}
 use Rattle.mk_core.specs.Cycles.{is_give}
 use Rattle.mk_cycle.proofs.Begun.{begun_then, does_begin_none, finish_begins_none, left_then, nothing_begun}
 use Rattle.mk_cycle.proofs.HeldFirst.{step_holds}
@@ -67,7 +67,7 @@ no_closes apart x h =
     (or_parts (is_begin x) (is_close x) (or_parts (is_mark x) (is_begin x || is_close x) (apart x h)).1).1
 
 module _ {V : Type 0} {ways : Ways V} where
-  pub keeps_still : {p : PassState} → PassKeeps ways p p
+  pub keeps_still : {p : PassState} → PassKeeps false ways p p
   keeps_still {p} = record {
     reached = λ none. nothing_sweeps p;
     begun = nothing_begun ways.begins p;
@@ -76,7 +76,7 @@ module _ {V : Type 0} {ways : Ways V} where
   }
 
   pub kinds_keep : {kinds : SomeKinds} {p q : PassState} → HaveNone kinds → Does kinds p q
-      → PassKeeps ways p q
+      → PassKeeps false ways p q
   kinds_keep {kinds} {p} {q} apart d = record {
     reached = λ none. does_sweep kinds p q (no_marks apart) d;
     begun = does_begin_none ways.begins kinds p q (no_begins apart) d;
@@ -85,7 +85,7 @@ module _ {V : Type 0} {ways : Ways V} where
   }
 
   pub unbegun_keeps : {p q : PassState} → SeesNone is_begin p q → SeesNone is_close p q → SweepsNothing p q
-      → PassKeeps ways p q
+      → PassKeeps false ways p q
   unbegun_keeps none unclosed unswept = record {
     reached = λ off. unswept;
     begun = record {
@@ -100,7 +100,7 @@ module _ {V : Type 0} {ways : Ways V} where
   pub finish_keeps : (engine : V) {p q : PassState} → IsTurn p → FinishesCycle p q
       → IsHistory q.table.config q.seen → (ways.sweeps ≡ false → SweepsNothing p q)
       → IsToldAtClose (ways.tells engine) p q
-      → PassKeeps ways p q
+      → PassKeeps false ways p q
   finish_keeps engine {p} {q} t law history reached told = record {
     reached = reached;
     begun = finish_begins_none ways.begins p q t.own law;
@@ -110,8 +110,8 @@ module _ {V : Type 0} {ways : Ways V} where
 
   -- one part after another
 
-  pub keeps_then : {p q r : PassState} → q ≡ record p { seen = q.seen } → PassKeeps ways p q
-      → PassKeeps ways q r → PassKeeps ways p r
+  pub keeps_then : {p q r : PassState} → q ≡ record p { seen = q.seen } → PassKeeps false ways p q
+      → PassKeeps false ways q r → PassKeeps false ways p r
   keeps_then {p} {q} {r} same one two = record {
     reached = λ none. sweeps_then p q r same (one.reached none) (two.reached none);
     begun = begun_then ways.begins p q r same one.begun two.begun;
@@ -119,17 +119,17 @@ module _ {V : Type 0} {ways : Ways V} where
     finished = λ off. finished_then ways.closes p q r same (one.finished off) (two.finished off);
   }
 
-  pub part_then : {kinds : SomeKinds} {p q r : PassState} → Does kinds p q → PassKeeps ways p q
-      → PassKeeps ways q r → PassKeeps ways p r
+  pub part_then : {kinds : SomeKinds} {p q r : PassState} → Does kinds p q → PassKeeps false ways p q
+      → PassKeeps false ways q r → PassKeeps false ways p r
   part_then {p = p} {q = q} d one two = keeps_then (only_seen p q d.more d.is) one two
 
   pub kinds_then : {kinds : SomeKinds} {p q r : PassState} → HaveNone kinds → Does kinds p q
-      → PassKeeps ways q r → PassKeeps ways p r
+      → PassKeeps false ways q r → PassKeeps false ways p r
   kinds_then apart d rest = part_then d (kinds_keep apart d) rest
 
   -- A cycle that was begun may still be on,
 
-  pub still_yet : {p : PassState} → KeepsYet ways p p
+  pub still_yet : {p : PassState} → PassKeeps true ways p p
   still_yet {p} = record {
     reached = λ none. nothing_sweeps p;
     begun = nothing_begun ways.begins p;
@@ -137,8 +137,8 @@ module _ {V : Type 0} {ways : Ways V} where
     finished = λ off. unbegun_finished ways.closes (nothing_begun Never {yet = false} p);
   }
 
-  pub yet_then : {p q r : PassState} → q ≡ record p { seen = q.seen } → PassKeeps ways p q
-      → KeepsYet ways q r → KeepsYet ways p r
+  pub yet_then : {p q r : PassState} → q ≡ record p { seen = q.seen } → PassKeeps false ways p q
+      → PassKeeps true ways q r → PassKeeps true ways p r
   yet_then {p} {q} {r} same one two = record {
     reached = λ none. sweeps_then p q r same (one.reached none) (two.reached none);
     begun = begun_then ways.begins p q r same one.begun two.begun;
@@ -146,18 +146,18 @@ module _ {V : Type 0} {ways : Ways V} where
     finished = λ off. finished_then ways.closes p q r same (one.finished off) (two.finished off);
   }
 
-  pub keeps_yet : {p q : PassState} → q ≡ record p { seen = q.seen } → PassKeeps ways p q
-      → KeepsYet ways p q
+  pub keeps_yet : {p q : PassState} → q ≡ record p { seen = q.seen } → PassKeeps false ways p q
+      → PassKeeps true ways p q
   keeps_yet same keeps = yet_then same keeps still_yet
 
   pub kinds_yet : {kinds : SomeKinds} {p q r : PassState} → HaveNone kinds → Does kinds p q
-      → KeepsYet ways q r → KeepsYet ways p r
+      → PassKeeps true ways q r → PassKeeps true ways p r
   kinds_yet {p = p} {q = q} apart d rest = yet_then (only_seen p q d.more d.is) (kinds_keep apart d) rest
 
   -- and then the close is wanted or the turn given back.
   pub left_keeps : {p q r : PassState} → q ≡ record p { seen = q.seen } → (ways.sweeps ≡ false → SweepsNothing p q)
-      → EachIsBegunYet ways.begins p q → EachIsSaid ways.tells p q → PassKeeps ways q r → HoldsFirst q r
-      → (ways.on ≡ false → EachIsFinished ways.closes p r) → PassKeeps ways p r
+      → EachIsBegun true ways.begins p q → EachIsSaid ways.tells p q → PassKeeps false ways q r → HoldsFirst q r
+      → (ways.on ≡ false → EachIsFinished ways.closes p r) → PassKeeps false ways p r
   left_keeps {p} {q} {r} same reached begun said two holds finished = record {
     reached = λ none. sweeps_then p q r same (reached none) (two.reached none);
     begun = left_then ways.begins same begun two.begun holds;
@@ -165,22 +165,22 @@ module _ {V : Type 0} {ways : Ways V} where
     finished = finished;
   }
 
-  pub then_leaves : {p q r : PassState} → q ≡ record p { seen = q.seen } → KeepsYet ways p q
-      → PassKeeps ways q r → HoldsFirst q r → PassKeeps ways p r
+  pub then_leaves : {p q r : PassState} → q ≡ record p { seen = q.seen } → PassKeeps true ways p q
+      → PassKeeps false ways q r → HoldsFirst q r → PassKeeps false ways p r
   then_leaves {p} {q} {r} same one two holds =
       left_keeps same one.reached one.begun one.said two holds
       (λ off. finished_then ways.closes p q r same (one.finished off) (two.finished off))
 
   -- A turn from the wait for it to its `give`.
   pub turn_keeps : {o : Op} {a : Answer} {p taken done q : PassState} → GivenBack o a p taken done q
-      → PassKeeps ways taken done → PassKeeps ways p q
+      → PassKeeps false ways taken done → PassKeeps false ways p q
   turn_keeps {o} {p = p} {taken} g inside =
       kinds_then {kinds = is_take} (λ x h. grind arith) (taking_does p (Some o) taken g.took.own g.took.takes)
       (part_then g.on.does inside (kinds_keep {kinds = is_give} (λ x h. grind arith) (does_once g.gives refl)))
 
   -- also where a cycle that it began is left on
   pub turn_keeps_yet : {o : Op} {a : Answer} {p taken done q : PassState} → GivenBack o a p taken done q
-      → KeepsYet ways taken done → PassKeeps ways p q
+      → PassKeeps true ways taken done → PassKeeps false ways p q
   turn_keeps_yet {o} {p = p} {taken} {done} g inside =
       kinds_then {kinds = is_take} (λ x h. grind arith) (taking_does p (Some o) taken g.took.own g.took.takes)
       (then_leaves (only_seen taken done g.on.does.more g.on.does.is) inside

@@ -41,16 +41,16 @@ pub use Rattle.mk_caller.specs.{Called.{stages_made, step_at}, States.{CallerSta
 pub use Rattle.mk_alloc.proofs.{JoinedLooks.{does_wider, looks_left}, Looks.acting_caller}
 pub use Rattle.mk_alloc.proofs.MayAct.{new_is_acting, off_four}
 pub use Rattle.mk_alloc.specs.{Retiring.IsDueSince, Placing.{object_for, place_now_for, FitsNowhere, IsOutOfStop}}
-pub use Rattle.mk_alloc.specs.Placing.{IsPlaced, IsUnplaced, OnlyLooks, is_look, is_placing}
-pub use Rattle.mk_alloc.specs.Rooms.{EndsOlder, RunsIfDue, BeginsTurn, IsQuiet, Looks, PassKeeps, TurnGoesOn}
-pub use Rattle.mk_alloc.specs.Rooms.{OwnLeaveAllButReleased, AnswersFull, AsksRoom, SeesNone, GrantsNone}
-pub use Rattle.mk_alloc.specs.{Rooms.{Misfits, RunsOne, Seeks, asks_room}, TurnCalls.{CalledInTurn, FreesObject}}
-pub use Rattle.mk_alloc.specs.{TurnCalls.{IsAnsweredDouble, IsAnsweredFull}, TurnCycles.{EndsExactly, FreeIsExact}}
-pub use Rattle.mk_alloc.specs.TurnCycles.{FreesFirst, HasNoPlace, IsDueIn, RunsOneCycle, TurnsOfAreExact, finishes}
-pub use Rattle.mk_alloc.specs.TurnCycles.{has_step, is_grant, is_of_cycle, is_want, lets_go, within_turn}
+pub use Rattle.mk_alloc.specs.{Placing.{IsPlaced, IsUnplaced, OnlyLooks, is_placing}, Rooms.{EndsOlder, RunsIfDue}}
+pub use Rattle.mk_alloc.specs.Rooms.{BeginsTurn, IsQuiet, PassKeeps, TurnGoesOn, OwnLeaveAllButReleased, AnswersFull}
+pub use Rattle.mk_alloc.specs.Rooms.{AsksRoom, SeesNone, GrantsNone, Misfits, RunsOne, Seeks, asks_room}
+pub use Rattle.mk_alloc.specs.TurnCalls.{CalledInTurn, FreesObject, IsAnsweredDouble, IsAnsweredFull}
+pub use Rattle.mk_alloc.specs.TurnCycles.{EndsExactly, FreeIsExact, FreesFirst, HasNoPlace, IsDueIn, RunsOneCycle}
+pub use Rattle.mk_alloc.specs.TurnCycles.{TurnsOfAreExact, finishes, has_step, is_grant, is_of_cycle, lets_go}
+pub use Rattle.mk_alloc.specs.TurnCycles.{within_turn}
 pub use Rattle.mk_cycle.proofs.{Calm.frees_none, CleaningSteps.calm_keeps, KeptInParts.{free_then, gates_behind}}
 pub use Rattle.mk_cycle.proofs.{KeptInParts.same_config, OwnSteps.no_more_calls}
-pub use Rattle.mk_cycle.specs.{TurnKeeps.{unchanged, Done, KeepsGates, LeavesTurn}, BeginCycle.BeginsCycle}
+pub use Rattle.mk_cycle.specs.TurnKeeps.{is_look, is_want, OnlyDoes, unchanged, KeepsGates, LeavesTurn, begins_marking}
+pub use Rattle.mk_cycle.specs.{TurnKeeps.{clears, holds_gates, is_giving_back, sets_tallies}, BeginCycle.BeginsCycle}
 pub use Rattle.mk_cycle.specs.{EngineLaw.{IsAtPhase, is_pending_free, is_pending_free_at}, FinishCycle.FinishesCycle}
-pub use Rattle.mk_cycle.specs.TurnKeeps.{begins_marking, clears, closes_marks, holds_gates, is_giving_back}
-pub use Rattle.mk_cycle.specs.TurnKeeps.{sets_tallies}
+pub use Rattle.mk_cycle.specs.Tracing.{is_tracing}

@@ -32,24 +32,18 @@ KeptAreTouched c es =
     (number : ℕ) (k : IsKeptByLastCycle c es number) → NoneSweeps c k.cycle.releasing.marking
     → IsTouched c k.cycle.releasing.marking number
 
--- the storage words of the mapped allocations in quarantine, and of those of them that were freed before the last
--- `begin`: where no cycle is on these are kept
-
 -- the words of mapped storage that is freed and not released
 abbrev pub quarantined_mapped : Config → List PlacedAllocation → ℕ
 quarantined_mapped c xs = sum_by (storage_words c) (filter (λ a. is_mapped c a && a.freed) xs)
 
--- those of it that were freed before the last `begin`
+-- those of it that were freed before the last `begin`: if no cycle is on, these are kept
 abbrev pub kept_mapped : Config → List PlacedAllocation → ℕ
 kept_mapped c xs = sum_by (storage_words c) (filter (λ a. is_mapped c a && a.freed && not a.fresh) xs)
 
--- The allocation is mapped, and a `release` here releases it.
-abbrev pub is_given_back : Config → World → PlacedAllocation → Bool
-is_given_back c w a = is_mapped c a && (with_released c w.now.words a).released
-
 -- the storage words that a `release` here gives back
 abbrev pub words_given_back : Config → World → ℕ
-words_given_back c w = sum_by (storage_words c) (filter (is_given_back c w) w.allocations)
+words_given_back c w =
+    sum_by (storage_words c) (filter (λ a. is_mapped c a && (with_released c w.now.words a).released) w.allocations)
 
 -- The words that were given back since the last `begin`: after a step, where they were n before it.
 abbrev pub given_back_behind : Config → World → Step → ℕ → ℕ
@@ -65,8 +59,6 @@ given_back_from c w n (e ∷ es) = given_back_from c (world_behind c w e) (given
 -- those of a history
 abbrev pub given_back : Config → List Event → ℕ
 given_back c es = given_back_from c (first_world c) 0 es
-
--- the words that are held after a list of events, and those of objects that were freed since the last `begin`
 
 -- the words held after these events
 abbrev pub held_after : Config → List Event → ℕ
@@ -95,10 +87,6 @@ ReleasesInTurnOfBegin es =
     (b : At is_begin es) → has_step is_begin b.behind ≡ false → (r : At is_release b.behind)
     → has_step is_give r.before ≡ false
 
--- If a cycle releases only in the turn of its `begin`, what is fresh is at most a quarter of what is held.
-abbrev pub FreshIsQuarterWhereReleasedInTurn : Config → List Event → Type 0
-FreshIsQuarterWhereReleasedInTurn c es = ReleasesInTurnOfBegin es → FreshIsQuarterOfHeld c es
-
 -- So all that quarantine holds in memory is at most a quarter of the same, and what was freed before the last `begin`.
 abbrev pub QuarantineIsQuarterAndKept : Config → List Event → Type 0
 QuarantineIsQuarterAndKept c es =
@@ -118,7 +106,7 @@ pub record QuarantineIsBounded (on : Bool) (c : Config) (es : List Event) : Type
   -- A quarter: of what is held and was given back, and of what is held alone where no `release` came in a later turn
   -- than its `begin`; so always where calls end the cycles that they begin.
   pub with_given_back : WhereTurnIsFree FreshIsQuarterWithGivenBack c es
-  pub released_in_turn : WhereTurnIsFree FreshIsQuarterWhereReleasedInTurn c es
+  pub released_in_turn : WhereTurnIsFree (λ c es. ReleasesInTurnOfBegin es → FreshIsQuarterOfHeld c es) c es
   pub of_held : on ≡ false → WhereTurnIsFree FreshIsQuarterOfHeld c es
   -- In quarantine: what was freed since the last `begin`, and what the last cycle kept, since pointers led to it.
   pub quarantined : AtEachMoment QuarantineIsFreshOrKept c es

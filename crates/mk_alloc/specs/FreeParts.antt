@@ -1,6 +1,6 @@
 -- The parts of a Free's turn round its `quar`: gates are held and opened, a run is unmapped and wiped, tallies are set.
-use Rattle.std.specs.Prelude.{◌≡◌, ◌≢◌, ℕ, ◌*◌, ◌/◌, ◌<◌, Bool, true, false, List, [], Some, ◌+◌, ◌≤◌, slice_index, ◌↔◌}
-use Rattle.std.specs.Prelude.{◌==◌, IsTrue, map, None, ◌∷◌, ◌++◌}
+use Rattle.std.specs.Prelude.{◌≡◌, ◌≢◌, ℕ, ◌*◌, ◌<◌, Bool, true, false, List, [], Some, ◌+◌, ◌≤◌, slice_index, ◌↔◌}
+use Rattle.std.specs.Prelude.{◌==◌, IsTrue, map, None, ◌∷◌, ◌++◌, ◌||◌}
 use Rattle.mk_geom.specs.{declared.{pages.Page.Page, addresses.Cell.Cell}, PageUses.PartOfRun}
 use Rattle.mk_books.specs.KnownPages.{StandsOn}
 use Rattle.mk_core.specs.Allocations.{freed_where_it_stands, PlacedAllocation, fresh_words_of, held_by_allocations}
@@ -12,34 +12,15 @@ use Rattle.mk_core.specs.declared.{config.Config.Config, events.{Answer.Answer, 
 use Rattle.mk_core.specs.declared.events.{Seat.Seat, Step.Step, Tally.Tally}
 use Rattle.mk_core.specs.declared.{events.Word.Word, seats.{RunPages.RunPages, Stage.Stage}}
 use Rattle.mk_caller.specs.Below.Words.States.{PassState, WordsState, call_of, now_of, world_of}
-use Rattle.mk_caller.specs.Below.Words.Steps.{Does}
+use Rattle.mk_caller.specs.Below.Words.Steps.{Does, is_open}
 use Rattle.mk_alloc.specs.{Placing.{is_acting, ComesTo, IsOutOfStop, entry_for}, Retiring.{IsFreeAt, is_freeing_small}}
-use Rattle.mk_alloc.specs.Retiring.{is_freeing, loaded_free}
+use Rattle.mk_alloc.specs.Retiring.{is_freeing, loaded_free, is_following}
 pub use Rattle.mk_cycle.specs.Stops.{all_others}
-
--- kinds of step: what comes after the `quar`, and parts of it
-
--- the kinds of step that come after the `quar`
-abbrev pub is_following : Step → Bool
-is_following (Step.Look x) = true
-is_following (Step.Open j) = true
-is_following (Step.Head p v) = true
-is_following (Step.Wipe n) = true
-is_following (Step.Tally n v) = true
-is_following _ = false
-
--- steps that set a tally
-abbrev pub is_tallying : Step → Bool
-is_tallying (Step.Look x) = true
-is_tallying (Step.Tally n v) = true
-is_tallying _ = false
+use Rattle.mk_cycle.specs.{TurnKeeps.sets_tallies, FinishCycle.with_tally}
 
 -- steps that end a Free
 abbrev pub is_settling : Step → Bool
-is_settling (Step.Look x) = true
-is_settling (Step.Open j) = true
-is_settling (Step.Tally n v) = true
-is_settling _ = false
+is_settling s = is_open s || sets_tallies s
 
 -- The holder's call is as it was, and what it has done in its turn, and all that none but it changes but its gates.
 pub record IsButGates (s : Seat) (w v : World) : Type 0 where
@@ -89,25 +70,16 @@ pub record MayOpen (w : WordsState) (p : PassState) : Type 0 where
   pub phase : IsOutOfStop (now_of p)
   pub gone : is_run_gone (now_of p).words (now_of p).seats.holding.freed ≡ true
 
--- The holder's call is as it was, and what it has done in its turn, and its gates; what none but it changes is
--- changed so.
+-- The holder's call, what it has done in its turn, and its gates are as they were; what only it changes is changed so.
 pub record Changes (s : Seat) (change : Steady → Steady) (w v : World) : Type 0 where
   pub call : flight_of v.now s ≡ flight_of w.now s
   pub holding : v.now.seats.holding ≡ w.now.seats.holding
   pub steady : steady_of v ≡ change (steady_of w)
   pub gates : (j : ℕ) → is_held v.now.words j ≡ is_held w.now.words j
 
--- the tallies, with this one set
-abbrev pub with_tally : Tally → ℕ → Steady → Steady
-with_tally Tally.Held n x = record x { held = n }
-with_tally Tally.Fresh n x = record x { fresh = n }
-with_tally Tally.Cycles n x = record x { cycles = n }
-with_tally Tally.Released n x = record x { released = n }
-with_tally Tally.Full n x = record x { full = n }
-
 -- One tally is set.
 abbrev pub SetsTally : PassState → Tally → ℕ → PassState → Type 0
-SetsTally p t n q = ComesTo is_tallying p (Changes p.seat (with_tally t n) (world_of p)) [] q
+SetsTally p t n q = ComesTo sets_tallies p (Changes p.seat (with_tally t n) (world_of p)) [] q
 
 -- the pages, changed to these
 abbrev pub with_pages : List Page → Steady → Steady
@@ -162,12 +134,6 @@ pub record MayWipeFrom (w : WordsState) (p : PassState) (pages : ℕ) (run : Run
   pub may : MayWipe p run
   pub wiped : (i : ℕ) → i < n → slice_index (now_of p).words.heap (64 * run.page + i) ≡ 0
 
--- A group of its words, on this page of it, is next.
-pub record MayWipeGroup (w : WordsState) (p : PassState) (pages : ℕ) (run : RunPages) (part group : ℕ) : Type 0 where
-  pub from : MayWipeFrom w p pages run (8 * group)
-  pub within : 8 * group + 8 ≤ 64 * run.count
-  pub on_page : part ≡ group / 8
-
 -- This many groups of its words, all on this page of it, are next.
 pub record MayWipeGroups (w : WordsState) (p : PassState) (pages : ℕ) (run : RunPages) (part group count : ℕ) : Type 0
   where
@@ -194,8 +160,7 @@ FreesOnly c seen xs es =
     (before : List Event) (e : Event) (behind : List Event) → es ≡ seen ++ before ++ e ∷ behind
     → event_frees c (seen ++ before) e ≡ true → (left c (seen ++ before ++ e ∷ [])).allocations ≡ xs
 
--- Among what the pass has seen since there is an event that frees. It leaves the allocations as they are now, and so
--- does every other that frees.
+-- Since then there is an event that frees. It leaves the allocations as they are now, as does every other that frees.
 pub record FreesOnce (p q : PassState) : Type 0 where
   pub before : List Event
   pub event : Event
@@ -206,22 +171,8 @@ pub record FreesOnce (p q : PassState) : Type 0 where
   pub only : FreesOnly p.table.config p.seen (world_of q).allocations q.seen
 
 -- the phase, and all that is counted but held and fresh words
-pub record Counted : Type 0 where
-  pub phase : ℕ
-  pub cycles : ℕ
-  pub released : ℕ
-  pub full : ℕ
-  pub releases : ℕ
-
--- the part of a world that a Free's counts need
-abbrev pub counted : Steady → Counted
-counted x = record {
-  phase = x.phase;
-  cycles = x.cycles;
-  released = x.released;
-  full = x.full;
-  releases = releases x.allocations;
-}
+abbrev pub counted : Steady → List ℕ
+counted x = x.phase ∷ x.cycles ∷ x.released ∷ x.full ∷ releases x.allocations ∷ []
 
 -- The call is decided. Its turn has the same place and cycle, and these counts are the same.
 pub record IsDecidedAt (s : Seat) (w v : World) : Type 0 where
@@ -239,8 +190,7 @@ pub record StaysSo (s : Seat) (w v : World) : Type 0 where
   pub fresh_words : v.now.fresh_words ≡ w.now.fresh_words
   pub allocations : v.allocations ≡ w.allocations
 
--- The object of the cell was freed, by one event of the turn, and it is known whether that is due. Where it heads no
--- run no gate was held.
+-- The cell's object was freed, by one event, and it is known if that is due. If it is small no gate was held.
 pub record FreesCell (p : PassState) (cell : Cell) (due : Bool) (q : PassState) : Type 0 where
   pub reaches : ComesTo is_freeing p (IsDecidedAt p.seat (world_of p)) (entry_for p Answer.Done) q
   pub allocations : (world_of q).allocations ≡ map (freed_where_it_stands (now_of p).words (Some cell))

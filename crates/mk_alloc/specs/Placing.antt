@@ -15,6 +15,7 @@ use Rattle.mk_core.specs.declared.seats.{Placing.TheVariants.{Unplaced, Granted}
 use Rattle.mk_caller.specs.{Called.own_calls, Below.Words.States.{PassState, call_of, now_of, world_of, WordsState}}
 use Rattle.mk_caller.specs.Below.Words.{Steps.Does, Sweeping.SweepsNothing}
 use Rattle.mk_alloc.specs.declared.objects.{Request.Request, Grant.Grant, Shape.Shape}
+use Rattle.mk_cycle.specs.TurnKeeps.{is_look}
 
 -- a word that only the turn's holder changes
 abbrev pub is_steady_word : Word → Bool
@@ -39,8 +40,7 @@ pub record IsAsLeft (s : Seat) (w v : World) : Type 0 where
   pub registers : (k r : ℕ) → s ≡ Caller k → r < 8 → register_word v.now.words k r ≡ register_word w.now.words k r
   pub gates : (j : ℕ) → is_held v.now.words j ≡ is_held w.now.words j
 
--- Between the first world and this one the New was served up to its cell: its call, and all but the pages, is as it
--- was.
+-- Between these worlds the New was served up to its cell: its call, and all but the pages, is as it was.
 pub record Serving (c : Config) (s : Seat) (o : Object) (place : Place) (w v : World) : Type 0 where
   pub call : flight_of v.now s ≡ flight_of w.now s
   pub object : object_made c (flight_of v.now s).op ≡ o
@@ -81,8 +81,6 @@ pub record Requests (p : PassState) (request : Request) : Type 0 where
 abbrev pub HeldIsExact : PassState → Type 0
 HeldIsExact p = (now_of p).words.held ≡ held_by_allocations p.table.config (world_of p).allocations
 
--- the object that its New creates, and the place that first fit gives it now
-
 -- the object of the New that is under way
 abbrev pub object_for : PassState → Object
 object_for p = object_made p.table.config (call_of p).op
@@ -90,13 +88,6 @@ object_for p = object_made p.table.config (call_of p).op
 -- its first-fit place
 abbrev pub place_now_for : PassState → Option Place
 place_now_for p = place_after p.table.config p.seen (object_for p)
-
--- kinds of step: looks, and those that serve a New besides
-
--- it is a look
-abbrev pub is_look : Step → Bool
-is_look (Step.Look x) = true
-is_look _ = false
 
 -- steps that place an object
 abbrev pub is_placing : Step → Bool
@@ -113,8 +104,7 @@ abbrev pub serves_at : Object → Place → Step → Bool
 serves_at o place (Step.Mark page cells) = page == place.page && cells == bits_made o
 serves_at o place s = is_placing s
 
--- The pass's seat did only steps of these kinds, which added these entries to its calls, and came to a world of this
--- sort. No cycle has ended, and no call was answered Full.
+-- The seat did only steps of these kinds, which added these entries to its calls, and came to a world of this sort.
 pub record ComesTo (kinds : Step → Bool) (p : PassState) (sort : World
     → Type 0) (entries : List Decided) (q : PassState) : Type 0 where
   pub same : q ≡ record p { seen = q.seen }
@@ -137,9 +127,8 @@ object_at_place c f place = record {
   released = false;
 }
 
--- Between these worlds the New was granted its object at this place: its call is decided, the object is an allocation
--- more, its address is in the register, and all else that none but the holder changes, but pages and the tally of held
--- words, is as it was.
+-- The New was granted its object at this place: its call is decided, the object is an allocation more, its address in
+-- the register. All else that only the holder changes, but pages and the tally of held words, is as it was.
 pub record IsGrantedAt (c : Config) (s : Seat) (place : Place) (w v : World) : Type 0 where
   pub call : flight_of v.now s ≡ record (flight_of w.now s) { stage = Stage.Give }
   pub placing : v.now.seats.holding.placing ≡ Granted
@@ -204,8 +193,7 @@ pub record ShapeGoesTo (w : WordsState) (p : PassState) (shape : Shape) (place :
   pub shaped : object_shaped shape ≡ object_for p
   pub goes : GoesTo p place
 
--- It may be served: this is its register, this the used word of its place's page, which is free or not. The tally of
--- held words is exact.
+-- It may be served: this is its register, and the used word of its place's page. The tally of held words is exact.
 pub record MayServe (w : WordsState) (p : PassState) (grant : Grant) : Type 0 where
   pub object : ShapeGoesTo w p grant.shape grant.place
   pub register : grant.register ≡ d_of (call_of p).op

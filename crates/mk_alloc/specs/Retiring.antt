@@ -1,27 +1,26 @@
 -- Freeing an object: what is asked, how far the call is, and what comes of it.
 use Rattle.std.specs.Prelude.{◌≡◌, ℕ, ◌+◌, ◌-◌, ◌^◌, min, map, slice_index, slice_set, ◌==◌, ◌<◌, Bool, true, false}
-use Rattle.std.specs.Prelude.{List, [], Some, if◌then◌else◌, ◌∷◌, ◌++◌}
+use Rattle.std.specs.Prelude.{List, [], Some, if◌then◌else◌, ◌∷◌, ◌++◌, ◌||◌}
 use Rattle.mk_never.specs.{Admitted.IsBase, declared.{operations.Op.Op, values.Value.Value}}
 use Rattle.mk_never.specs.{declared.values.Value.TheVariants.{Null, Num, Ptr}, NeverHeap.{NeverState, allocation_at}}
 use Rattle.mk_never.specs.Types.{is_large, kinds_of}
 use Rattle.mk_geom.specs.{declared.addresses.Cell.Cell, PageUses.or_else}
 use Rattle.mk_core.specs.Allocations.{freed_where_it_stands, PlacedAllocation, placed_at}
 use Rattle.mk_core.specs.{Moments.{flight_of, is_held, none_is_held}, Counts.{IsDue, TalliesAreExact, TalliesAreTidy}}
-use Rattle.mk_core.specs.{Effects.{run_of_cell, words_freed}, Calls.{begun, Decided}, History.{World, never_behind}}
-use Rattle.mk_core.specs.{Words.{register_word, phase_of}, declared.events.{Answer.Answer, Seat.Seat}}
-use Rattle.mk_core.specs.declared.events.{Seat.TheVariants.Caller, Step.Step}
-use Rattle.mk_core.specs.{declared.{seats.Flight.Flight, config.Config.Config}, Cells.is_freed, Frames.steady_of}
-use Rattle.mk_core.specs.{declared.{seats.Stage.Stage, events.Event.Event}, NewPlaces.is_run_gone}
+use Rattle.mk_core.specs.{Effects.{run_of_cell, words_freed}, Calls.begun, History.{World, never_behind}}
+use Rattle.mk_core.specs.{Words.{register_word, phase_of}, declared.events.Answer.Answer, declared.events.Seat.Seat}
+use Rattle.mk_core.specs.{declared.events.Seat.TheVariants.Caller, declared.events.Step.Step}
+use Rattle.mk_core.specs.{declared.seats.Flight.Flight, declared.config.Config.Config, Cells.is_freed, Frames.steady_of}
+use Rattle.mk_core.specs.{declared.seats.Stage.Stage, declared.events.Event.Event, NewPlaces.is_run_gone}
 use Rattle.mk_caller.specs.{States.value_of, Below.Words.States.{PassState, call_of, now_of, world_of}}
 use Rattle.mk_caller.specs.{Called.own_calls, Below.Words.Steps.Does}
-use Rattle.mk_alloc.specs.Placing.{ComesTo, entry_for}
+use Rattle.mk_alloc.specs.{Placing.{ComesTo, entry_for}, TurnCycles.is_hold}
 
 -- The values of all its caller's registers are as they were.
 abbrev pub KeepsValues : PassState → PassState → Type 0
 KeepsValues p q = (r : ℕ) → r < 8 → value_of q r ≡ value_of p r
 
--- The turn is for a Free of this register, at this point of the call, and the register is null or points to the first
--- word of its allocation.
+-- The turn is for a Free of this register, at this point of the call. The register is null or points to a first word.
 pub record IsFreeAt (p : PassState) (r : ℕ) (f : Flight) : Type 0 where
   pub call : call_of p ≡ f
   pub small : r < 8
@@ -64,17 +63,18 @@ is_freeing_small (Step.Quar p v) = true
 is_freeing_small (Step.Tally n v) = true
 is_freeing_small _ = false
 
+-- the kinds of step that come after the `quar`
+abbrev pub is_following : Step → Bool
+is_following (Step.Look x) = true
+is_following (Step.Open j) = true
+is_following (Step.Head p v) = true
+is_following (Step.Wipe n) = true
+is_following (Step.Tally n v) = true
+is_following _ = false
+
 -- the kinds of step by which an object is freed
 abbrev pub is_freeing : Step → Bool
-is_freeing (Step.Look x) = true
-is_freeing Step.Reg = true
-is_freeing (Step.Hold j) = true
-is_freeing (Step.Open j) = true
-is_freeing (Step.Quar p v) = true
-is_freeing (Step.Head p v) = true
-is_freeing (Step.Wipe n) = true
-is_freeing (Step.Tally n v) = true
-is_freeing _ = false
+is_freeing s = is_freeing_small s || is_hold s || is_following s
 
 -- The Free has loaded its register, and null decides it.
 abbrev pub HasLoaded : PassState → ℕ → ℕ → PassState → Type 0
@@ -82,24 +82,17 @@ HasLoaded p r u q =
     ComesTo is_loading p (CallIsAt p.seat (loaded_free r u) (world_of p))
     (if u == 0 then entry_for p Answer.Done else []) q
 
--- A Free whose target's quarantine word was looked at: the freed bit decides it.
-
--- the Free after its look at the quarantine word
+-- the Free after its look at the quarantine word: the freed bit of its target decides it
 abbrev pub seen_free : Flight → Bool → Flight
 seen_free f double = if double then record f { stage = Stage.Give } else f
-
--- its entry then
-abbrev pub entry_seen : PassState → Bool → List Decided
-entry_seen p double = if double then entry_for p Answer.Double else []
 
 -- The Free has looked at the quarantine word.
 abbrev pub HasSeen : PassState → Cell → PassState → Type 0
 HasSeen p cell q =
     ComesTo is_loading p (CallIsAt p.seat (seen_free (call_of p) (is_freed (now_of p).words cell)) (world_of p))
-    (entry_seen p (is_freed (now_of p).words cell)) q
+    (if is_freed (now_of p).words cell then entry_for p Answer.Double else []) q
 
--- The target was quarantined: the call is decided, the allocation of the cell is freed and fresh, a run is what the
--- call has freed, and all else that none but the holder changes is as it was.
+-- The target was quarantined: the call is decided, the cell's allocation is freed and fresh, and all else is as it was.
 pub record IsFreedAt (c : Config) (s : Seat) (cell : Cell) (w v : World) : Type 0 where
   pub call : flight_of v.now s ≡ record (flight_of w.now s) { stage = Stage.Give }
   pub holding : v.now.seats.holding
@@ -146,8 +139,7 @@ pub record IsDueSince (p q : PassState) : Type 0 where
   pub is : q.seen ≡ p.seen ++ before ++ event ∷ behind
   pub due : IsDue p.table.config (p.seen ++ before) event
 
--- A Free was decided by this answer, by steps of these kinds. Its turn is as it was, nothing is under way in it, and
--- the tallies are those of the counts.
+-- A Free was decided by this answer, by such steps. Nothing is under way in its turn, and the tallies are exact.
 pub record DecidesFree (kinds : Step → Bool) (a : Answer) (p q : PassState) : Type 0 where
   pub pass : q ≡ record p { seen = q.seen }
   pub does : Does kinds p q

@@ -3,39 +3,35 @@ use Rattle.std.specs.Prelude.{◌≡◌, ℕ, ◌+◌, ◌<◌, true, List, [], 
 use Rattle.std.specs.Prelude.{None, is_some, Bool, ◌||◌}
 use Rattle.mk_never.specs.{Types.kinds_of, declared.operations.Op.Op}
 use Rattle.mk_geom.specs.{declared.pages.Census.Census, PageUses.{census_among, uses_of_pages}}
-use Rattle.mk_core.specs.declared.{config.Config.Config, events.{Event.Event, Seat.Seat}}
+use Rattle.mk_core.specs.{declared.config.Config.Config, declared.events.Event.Event, declared.events.Seat.Seat}
 use Rattle.mk_core.specs.{Allocations.{PlacedAllocation, is_mapped, placed_at}, History.{is_same_seat, World}}
 use Rattle.mk_core.specs.{History.world_behind, declared.events.Answer.Answer, Counts.{TalliesAreExact, TalliesAreTidy}}
-use Rattle.mk_core.specs.{Calls.entry_of, Moments.none_is_held, declared.{seats.Stage.Stage, events.Step.Step}}
-use Rattle.mk_core.specs.declared.seats.{Object.Object, OwnCycle.TheVariants.Ended}
-use Rattle.mk_core.specs.Cycles.{At, is_begin, is_end}
+use Rattle.mk_core.specs.{Calls.entry_of, Moments.none_is_held, declared.seats.Stage.Stage, declared.events.Step.Step}
+use Rattle.mk_core.specs.{declared.seats.Object.Object, Cycles.{At, is_begin, is_end}}
 use Rattle.mk_caller.specs.Below.Words.States.{PassState, world_of, WordsState, call_of, now_of, IsTurn, event_of}
 use Rattle.mk_caller.specs.Below.Words.{TurnSteps.{IsFresh, turn_stays}, Steps.Does}
 use Rattle.mk_caller.specs.{Below.Words.Sweeping.SweepsNothing, States.caller_of_pass, Called.own_calls}
 use Rattle.mk_alloc.specs.TurnCycles.{EachIsFinished, EachIsSaid, HasNoPlace, RunsOneCycle, has_step, is_grant, is_hold}
-use Rattle.mk_alloc.specs.{TurnCycles.{is_want, lets_go}, Placing.{IsOutOfStop, is_look, IsUnplaced, Requests}}
-use Rattle.mk_alloc.specs.{Placing.{object_for, place_now_for}, declared.objects.Request.Request}
-use Rattle.mk_cycle.specs.{BeginCycle.{EachIsBegun, EachIsBegunYet, BeginsCycle}, EngineLaw.{IsFreeForCycle, IsAtPhase}}
-use Rattle.mk_cycle.specs.{EngineLaw.Ways, TurnKeeps.{KeepsGates, LeavesTurn, unchanged}, FinishCycle.FinishesCycle}
+use Rattle.mk_alloc.specs.{TurnCycles.lets_go, Placing.{IsOutOfStop, IsUnplaced, Requests, object_for, place_now_for}}
+use Rattle.mk_alloc.specs.declared.objects.Request.{Request}
+use Rattle.mk_cycle.specs.{TurnKeeps.{is_look, is_want, OnlyDoes}, BeginCycle.{EachIsBegun, BeginsCycle}}
+use Rattle.mk_cycle.specs.{EngineLaw.{IsFreeForCycle, IsAtPhase, Ways}, FinishCycle.FinishesCycle}
 
 -- An allocation is as it was, but that it may be released, and no longer fresh.
 pub record StaysOrIsReleased (a b : PlacedAllocation) : Type 0 where
   pub same : b ≡ record a { fresh = b.fresh; released = b.released }
   pub released : a.released ≡ true → b.released ≡ true
 
--- An allocation that is mapped keeps its words.
-abbrev pub KeepsItsWords : Config → World → World → PlacedAllocation → Type 0
-KeepsItsWords c w v a =
-    is_mapped c a ≡ true → (i : ℕ) → i < length (kinds_of c.types a.ty)
-    → slice_index v.now.words.heap (a.base + i) ≡ slice_index w.now.words.heap (a.base + i)
-
--- All registers and globals stay, and so does each allocation that isn't released. None is new.
+-- Registers and globals stay, and all allocations but that some are released; mapped ones keep their words.
 pub record LeavesAllButReleased (c : Config) (w v : World) : Type 0 where
   pub registers : v.now.words.registers ≡ w.now.words.registers
   pub globals : v.now.words.globals ≡ w.now.words.globals
   pub count : length v.allocations ≡ length w.allocations
   pub each : (a : ℕ) → StaysOrIsReleased (placed_at w.allocations a) (placed_at v.allocations a)
-  pub words : (a : ℕ) → KeepsItsWords c w v (placed_at w.allocations a)
+  pub words : (a : ℕ) → is_mapped c (placed_at w.allocations a) ≡ true
+      → (i : ℕ) → i < length (kinds_of c.types (placed_at w.allocations a).ty)
+      → slice_index v.now.words.heap ((placed_at w.allocations a).base + i)
+      ≡ slice_index w.now.words.heap ((placed_at w.allocations a).base + i)
 
 -- So does each event of the seat in the list,
 unfoldable pub OwnLeaveFrom : Config → Seat → World → List Event → Type 0
@@ -74,39 +70,25 @@ pub record TurnGoesOn (a : Option Answer) (p q : PassState) : Type 0 where
   pub decided : is_some a ≡ true → (call_of q).stage ≡ Stage.Give
   pub undecided : a ≡ None → call_of q ≡ call_of p
 
--- The holder looked, and all is as it was.
-pub record Looks (p q : PassState) : Type 0 where
-  pub does : Does is_look p q
-  pub keeps : LeavesTurn unchanged p q
-  pub gates : KeepsGates p q
-
 -- A cycle may run in it: the turn of this table is quiet, and the engine is made for the table's pages.
 pub record MayRunCycle (w : WordsState) (pages : ℕ) (p : PassState) : Type 0 where
   pub one_table : p.table ≡ w
   pub made_for : pages ≡ w.config.pages
   pub quiet : IsQuiet p
 
--- What an engine keeps to from one to the other. If it doesn't sweep it makes no sweeping mark. After each `begin` it
--- does its part, and then nothing but holding gates comes before the close is wanted or the turn given back. At each
--- `close` it says of the world what engines of its type say. If it doesn't keep on, it finishes at once each cycle that
--- it begins.
-pub record PassKeeps {V : Type 0} (ways : Ways V) (p q : PassState) : Type 0 where
+-- What an engine keeps to. If it doesn't sweep it makes no sweeping mark. After each `begin` it does its part, and then
+-- only holds gates until it wants the close or gives the turn back, which may be `yet` to come. At each `close` it says
+-- of the world what engines of its type say. If it doesn't keep on, it finishes at once each cycle that it begins.
+pub record PassKeeps {V : Type 0} (yet : Bool) (ways : Ways V) (p q : PassState) : Type 0 where
   pub reached : ways.sweeps ≡ false → SweepsNothing p q
-  pub begun : EachIsBegun ways.begins p q
-  pub said : EachIsSaid ways.tells p q
-  pub finished : ways.on ≡ false → EachIsFinished ways.closes p q
-
--- So it keeps in a turn that goes on: a cycle that was begun may still be on.
-pub record KeepsYet {V : Type 0} (ways : Ways V) (p q : PassState) : Type 0 where
-  pub reached : ways.sweeps ≡ false → SweepsNothing p q
-  pub begun : EachIsBegunYet ways.begins p q
+  pub begun : EachIsBegun yet ways.begins p q
   pub said : EachIsSaid ways.tells p q
   pub finished : ways.on ≡ false → EachIsFinished ways.closes p q
 
 -- A cycle that was on is finished.
 pub record EndsOlder (p q : PassState) : Type 0 where
   pub looked : PassState
-  pub looks : Looks p looked
+  pub looks : OnlyDoes is_look p looked
   pub none : IsAtPhase p 0 → q ≡ looked
   pub on : IsAtPhase p 1 → FinishesCycle looked q
 
@@ -152,10 +134,8 @@ pub record SeesNone (kind : Step → Bool) (p q : PassState) : Type 0 where
 
 -- or of cycles only the end of one,
 pub record EndsOnly (p q : PassState) : Type 0 where
-  pub more : List Event
-  pub is : q.seen ≡ p.seen ++ more
-  pub none : has_step is_begin more ≡ false
-  pub ended : At is_end more
+  pub begins_none : SeesNone is_begin p q
+  pub ended : At is_end begins_none.more
 
 -- or one cycle at most that is begun, and it is ended.
 pub record RunsOne (p q : PassState) : Type 0 where
@@ -193,20 +173,10 @@ pub record Misfits (p q : PassState) : Type 0 where
   pub unplaced : IsUnplaced q
   pub nowhere : place_now_for q ≡ None
 
--- Nor is a cycle on,
-pub record MisfitsIdly (p q : PassState) : Type 0 where
-  pub misfits : Misfits p q
-  pub idle : IsAtPhase q 0
-
--- though one was begun and ended in the turn.
-pub record MisfitsAtLast (p q : PassState) : Type 0 where
-  pub idly : MisfitsIdly p q
-  pub ended : (now_of q).seats.holding.cycle ≡ Ended
-
--- It was granted, or else it misfits so.
-pub record IsPlacedOr (misfit : PassState → PassState → Type 0) (is_placed : Bool) (p q : PassState) : Type 0 where
+-- It was granted, or else it misfits.
+pub record PlacesOrMisfits (is_placed : Bool) (p q : PassState) : Type 0 where
   pub placed : is_placed ≡ true → Seeks (Some Answer.Done) p q
-  pub misfits : is_placed ≡ false → misfit p q
+  pub misfits : is_placed ≡ false → Misfits p q
 
 -- It was answered Full, and all allocations stay.
 pub record AnswersFull (p q : PassState) : Type 0 where

@@ -12,17 +12,15 @@ use Rattle.mk_caller.specs.{Called.FindsGateHeld, Below.Words.Sweeping.SweepsNot
 use Rattle.mk_alloc.specs.{Retiring.{kinds_for, is_loading}, Rooms.{RunsIfDue, OwnLeaveAllButReleased}}
 use Rattle.mk_alloc.specs.TurnCycles.{EndsExactly, IsDueIn, TurnsOfAreExact}
 
--- A caller may call so, with an engine that is made for this many pages: its pass is home, it exists, no other seat is
--- in its pass, and its heap has so many pages.
+-- A caller may call so: it exists, its pass is home and only its own, and its heap has as many pages as the engine.
 pub record MayTakeTurns (pages : ℕ) (s : CallerState) : Type 0 where
   pub home : s.home ≡ true
   pub exists : caller_of_pass s.pass < s.pass.table.config.callers
   pub alone : s.pass.seats ≡ s.pass.seat ∷ []
   pub made_for : pages ≡ s.pass.table.config.pages
 
--- The pass waited for the turn, did this operation, was answered so, and gave the turn back. What it has seen begins
--- with what it had seen, and its turn is what stands between its `take` and its `give`. Its caller has one entry more,
--- and no call in flight.
+-- The pass waited for the turn, did this operation, was answered so, and gave the turn back. Its turn is what stands
+-- between its `take` and its `give`. Its caller has one entry more, and no call in flight.
 pub record CalledInTurn (on : Bool) (p : PassState) (o : Op) (a : Answer) (q : PassState) : Type 0 where
   pub taken : PassState
   pub done : PassState
@@ -90,8 +88,6 @@ abbrev pub StayExactBehindOthers : Type 0
 StayExactBehindOthers =
     (on : Bool) (c : Config) (s : Seat) (seats : List Seat) (es fs : List Event) → Has seats s → Grows seats es fs
     → TurnsOfAreExact on c s es → TurnsOfAreExact on c s fs
-
--- A call with `enter` and `leave` takes no step that is a sweeping mark, nor does one that finds its gate held.
 
 -- A call that needs no turn makes no sweeping mark.
 abbrev pub CallsSweepNothing : Type 0

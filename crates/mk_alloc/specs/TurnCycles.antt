@@ -6,7 +6,8 @@ use Rattle.mk_core.specs.Cycles.{At, is_begin, is_close, through, TurnOf, Begins
 use Rattle.mk_core.specs.{History.{World, left}, declared.{events.Step.Step, seats.Object.Object}}
 use Rattle.mk_core.specs.{Allocations.FitsAmongAllocations, Counts.IsDue, NewPlaces.object_made, Words.phase_of}
 use Rattle.mk_caller.specs.Below.Words.States.{Has, PassState}
-use Rattle.mk_cycle.specs.{BeginCycle.are_own_of, Stops.IsClosedBy, EngineLaw.IsAtPhase, TurnKeeps.begins_marking}
+use Rattle.mk_cycle.specs.{BeginCycle.are_own_of, Stops.IsClosedBy, EngineLaw.IsAtPhase}
+use Rattle.mk_cycle.specs.TurnKeeps.{begins_marking, is_want}
 
 -- An engine says this of the world.
 pub record IsSaid {V : Type 0} (tells : V → Config → World → Type 0) (c : Config) (w : World) : Type 0 where
@@ -16,8 +17,7 @@ pub record IsSaid {V : Type 0} (tells : V → Config → World → Type 0) (c : 
 -- Some engine says it at each `close` of the seat in the list that goes on,
 abbrev pub AreSaidAtCloses : {V : Type 0} → (V → Config → World → Type 0) → Config → Seat → List Event → List Event
     → Type 0
-AreSaidAtCloses tells c s es more =
-    (k : At is_close more) → k.event.seat ≡ s → IsSaid tells c (left c (es ++ k.before))
+AreSaidAtCloses tells c s es more = (k : At is_close more) → k.event.seat ≡ s → IsSaid tells c (left c (es ++ k.before))
 
 -- and so at each one from what the one pass had seen to what the other has seen.
 pub record EachIsSaid {V : Type 0} (tells : V → Config → World → Type 0) (p q : PassState) : Type 0 where
@@ -57,13 +57,6 @@ pub record EachIsFinished {V : Type 0} (closes : V → PassState → PassState �
   pub more : List Event
   pub is : q.seen ≡ p.seen ++ more
   pub each : AreFinishedAtOnce closes p.table.config p.seat p.seen more
-
--- kinds of step
-
--- it is a `want`
-abbrev pub is_want : Step → Bool
-is_want Step.Want = true
-is_want _ = false
 
 -- what keeps another caller from its next call
 abbrev pub is_hold : Step → Bool
@@ -109,10 +102,6 @@ pub record IsDueIn {c : Config} {s : Seat} {es : List Event} (t : TurnOf c s es)
   pub is : t.behind ≡ before ++ event ∷ behind
   pub due : IsDue c (within_turn t before) event
 
--- A cycle was on when the turn began.
-abbrev pub CycleIsOn : {c : Config} {s : Seat} {es : List Event} → TurnOf c s es → Type 0
-CycleIsOn {c = c} t = phase_of (left c t.before).now.words ≡ 1
-
 -- A free is due in the turn, before it does anything with cycles.
 pub record FreesFirst {c : Config} {s : Seat} {es : List Event} (t : TurnOf c s es) : Type 0 where
   pub due : IsDueIn t
@@ -132,7 +121,7 @@ pub record FreeIsExact (on : Bool) {c : Config} {s : Seat} {es : List Event} (t 
   pub stopped : on ≡ false → BeginsIn t → BeginsAndEndsIn t
   pub one : on ≡ false → RunsOneCycle t.behind
   pub goes_on : on ≡ true → (b : BeginsIn t) → has_step finishes b.behind ≡ false
-  pub older : on ≡ true → CycleIsOn t → (b : BeginsIn t) → At is_end b.before
+  pub older : on ≡ true → phase_of (left c t.before).now.words ≡ 1 → (b : BeginsIn t) → At is_end b.before
 
 -- The object has no place after this list.
 abbrev pub HasNoPlace : Config → Object → List Event → Type 0

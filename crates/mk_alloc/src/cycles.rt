@@ -1,7 +1,6 @@
 //! The cycle that a free begins if one is due.
-ghost use Rattle.std.specs.Prelude.{◌≡◌};
-ghost use Rattle.mk_alloc.specs.Rooms.{EndsOlder, RunsCycle, RunsIfDue};
-ghost use Rattle.mk_alloc.specs.Rooms.{KeepsYet, MayRunCycle, PassKeeps};
+ghost use Rattle.std.specs.Prelude.{◌≡◌, true, false};
+ghost use Rattle.mk_alloc.specs.Rooms.{EndsOlder, RunsCycle, RunsIfDue, PassKeeps, MayRunCycle};
 
 use crate::turns::is_cycle_on;
 use mk_caller::lower::words::{Turn, Words};
@@ -19,7 +18,7 @@ fn finish_older<E: Engine, R: Threads + Wait + Sync>(
     requires may_run { MayRunCycle words.now (E.made_for engine.old) turn.pass }
     ensures made_for { E.made_for engine.new ≡ E.made_for engine.old }
     ensures ends { EndsOlder turn.pass result.pass }
-    ensures keeps { PassKeeps E.ways turn.pass result.pass }
+    ensures keeps { PassKeeps false E.ways turn.pass result.pass }
 {
     let mut turn = turn;
     if is_cycle_on(words, &mut turn) {
@@ -41,7 +40,7 @@ fn run_cycle<E: Engine, R: Threads + Wait + Sync>(
     requires may_run { MayRunCycle words.now (E.made_for engine.old) turn.pass }
     ensures made_for { E.made_for engine.new ≡ E.made_for engine.old }
     ensures runs { RunsCycle E.ways.on turn.pass result.pass }
-    ensures keeps { KeepsYet E.ways turn.pass result.pass }
+    ensures keeps { PassKeeps true E.ways turn.pass result.pass }
 {
     let mut turn = finish_older(rt, words, turn, engine);
     begin_cycle(rt, words, &mut turn, engine);
@@ -64,7 +63,7 @@ fn run_apart<E: Engine, R: Threads + Wait + Sync>(
     requires may_run { MayRunCycle words.now (E.made_for engine.old) turn.pass }
     ensures made_for { E.made_for engine.new ≡ E.made_for engine.old }
     ensures runs { RunsCycle E.ways.on turn.pass result.pass }
-    ensures keeps { KeepsYet E.ways turn.pass result.pass }
+    ensures keeps { PassKeeps true E.ways turn.pass result.pass }
 {
     run_cycle(rt, words, turn, engine)
 }
@@ -80,7 +79,7 @@ pub(crate) fn run_if_due<E: Engine, R: Threads + Wait + Sync>(
     requires may_run { MayRunCycle words.now (E.made_for engine.old) turn.pass }
     ensures made_for { E.made_for engine.new ≡ E.made_for engine.old }
     ensures runs { RunsIfDue E.ways.on due turn.pass result.pass }
-    ensures keeps { KeepsYet E.ways turn.pass result.pass }
+    ensures keeps { PassKeeps true E.ways turn.pass result.pass }
 {
     if due {
         run_apart(rt, words, turn, engine)

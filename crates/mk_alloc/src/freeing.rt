@@ -1,5 +1,5 @@
 //! Freeing objects.
-ghost use Rattle.std.specs.Prelude.{◌≡◌, ◌<◌, ◌∷◌, [], IfOk, OnErr, true};
+ghost use Rattle.std.specs.Prelude.{◌≡◌, ◌<◌, ◌∷◌, [], IfOk, OnErr, true, false};
 ghost use Rattle.mk_never.specs.Admitted.{IsBase};
 ghost use Rattle.mk_caller.specs.States.{caller_of_pass, value_of};
 ghost use Rattle.mk_alloc.specs.{TurnCalls.{FreesObject, IsAnsweredDouble, MayTakeTurns}, Rooms.PassKeeps};
@@ -29,7 +29,7 @@ pub fn free_object<E: Engine, R: Threads + Wait + Sync>(
     ensures made_for { E.made_for engine.new ≡ E.made_for engine.old }
     ensures freed { IfOk result (λ freed. FreesObject E.ways.on caller.old.pass p freed.due caller.new.pass) }
     ensures double { OnErr result (IsAnsweredDouble E.ways.on caller.old.pass p caller.new.pass) }
-    ensures keeps { PassKeeps E.ways caller.old.pass caller.new.pass }
+    ensures keeps { PassKeeps false E.ways caller.old.pass caller.new.pass }
 {
     let words = caller.words();
     let home = caller.lend();

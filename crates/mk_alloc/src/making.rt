@@ -40,7 +40,7 @@ fn make_room_or_count<E: Engine, R: Threads + Wait + Sync>(
     ensures seeks { Seeks (Some (answer_with result.1)) turn.pass result.0.pass }
     ensures full { IfSome result.1 (CountsFull turn.pass result.0.pass) }
     ensures one { RunsOne turn.pass result.0.pass }
-    ensures keeps { PassKeeps E.ways turn.pass result.0.pass }
+    ensures keeps { PassKeeps false E.ways turn.pass result.0.pass }
 {
     let (mut turn, placed) = make_room(rt, words, turn, request, engine);
     if placed {
@@ -69,7 +69,7 @@ pub fn new_object<E: Engine, R: Threads + Wait + Sync>(
         answer.Done caller.new.pass) }
     ensures full { IfErr result (λ full.
         IsAnsweredFull E.ways.on caller.old.pass (op.New d ty false) full.census caller.new.pass) }
-    ensures keeps { PassKeeps E.ways caller.old.pass caller.new.pass }
+    ensures keeps { PassKeeps false E.ways caller.old.pass caller.new.pass }
 {
     let words = caller.words();
     let home = caller.lend();

@@ -4,9 +4,10 @@ ghost use Rattle.mk_core.specs.{Calls.{at_rest, has_operands, is_under_turn}, Wo
 ghost use Rattle.mk_caller.specs.Below.Words.{States.{call_of, now_of}, Steps.Makes};
 ghost use Rattle.mk_caller.specs.Below.Words.TurnSteps.{TakesTurn};
 ghost use Rattle.mk_caller.specs.States.{IsIdleCaller, caller_of_pass};
-ghost use Rattle.mk_alloc.specs.Rooms.{BeginsTurn, IsQuiet, Looks};
+ghost use Rattle.mk_alloc.specs.Rooms.{BeginsTurn, IsQuiet};
 ghost use Rattle.mk_core.specs.declared.events.Step.TheVariants as step;
 ghost use Rattle.mk_core.specs.declared.seats.Stage.TheVariants as stage;
+ghost use Rattle.mk_cycle.specs.TurnKeeps.{is_look, OnlyDoes};
 
 use mk_caller::lower::words::{Pass, Turn, Words, take_turn};
 use mk_core::{Phase, Word};
@@ -34,7 +35,7 @@ pub(crate) fn take<R: Wait>(rt: &R, words: &Words, home: Pass, op: Op) -> Turn
 pub(crate) fn is_cycle_on(words: &Words, turn: &mut Turn) -> bool
     requires one_table { turn.old.pass.table ≡ words.now }
     requires quiet { IsQuiet turn.old.pass }
-    ensures looks { Looks turn.old.pass turn.new.pass }
+    ensures looks { OnlyDoes is_look turn.old.pass turn.new.pass }
     ensures on { result ≡ (phase_of (now_of turn.old.pass).words == 1) }
 {
     let found = turn.look(words, Word::Phase);

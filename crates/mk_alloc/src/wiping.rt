@@ -1,7 +1,7 @@
 //! The words of the run of a large object that a Free has freed and unmapped are wiped. Most are 0 already, so those of
 //! a group are looked at together first. A word that is 0 isn't stored to.
 ghost use Rattle.std.specs.Prelude.{◌≡◌, ◌+◌, ◌*◌, ◌<◌, true};
-ghost use Rattle.mk_alloc.specs.FreeParts.{MayWipe, MayWipeFrom, MayWipeGroup, MayWipeGroups, Wipes, WipesTo};
+ghost use Rattle.mk_alloc.specs.FreeParts.{MayWipe, MayWipeFrom, MayWipeGroups, Wipes, WipesTo};
 
 use mk_caller::lower::words::{Turn, Words};
 use mk_core::{RunPages, Word};
@@ -23,7 +23,7 @@ fn are_zero(
     part: u64,
     group: u64,
 ) -> bool
-    requires { MayWipeGroup words.now turn.old.pass pages run part group }
+    requires { MayWipeGroups words.now turn.old.pass pages run part group 1 }
     ensures still { WipesTo turn.old.pass run (8 * group) turn.new.pass }
     ensures zero { result ≡ true → WipesTo turn.old.pass run (8 * group + 8) turn.new.pass }
 {
@@ -41,7 +41,7 @@ fn are_zero(
 /// Wipes a group of words of the run, which are on this page of it. Few groups have a word that isn't 0.
 #[inline(never)]
 fn wipe_words(words: &Words, turn: &mut Turn, pages: u64, run: RunPages, part: u64, group: u64)
-    requires { MayWipeGroup words.now turn.old.pass pages run part group }
+    requires { MayWipeGroups words.now turn.old.pass pages run part group 1 }
     ensures { WipesTo turn.old.pass run (8 * group + 8) turn.new.pass }
 {
     words.is_within_limits();
@@ -59,7 +59,7 @@ fn wipe_words(words: &Words, turn: &mut Turn, pages: u64, run: RunPages, part: u
 /// Wipes what isn't 0 of a group of words of the run, which are on this page of it.
 #[inline(always)]
 fn wipe_group(words: &Words, turn: &mut Turn, pages: u64, run: RunPages, part: u64, group: u64)
-    requires { MayWipeGroup words.now turn.old.pass pages run part group }
+    requires { MayWipeGroups words.now turn.old.pass pages run part group 1 }
     ensures { WipesTo turn.old.pass run (8 * group + 8) turn.new.pass }
 {
     if are_zero(words, turn, pages, run, part, group) {

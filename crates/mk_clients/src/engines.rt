@@ -1,7 +1,7 @@
 //! Clients: who has a turn that is free for a cycle may begin one with an engine that traces, and nothing more is
 //! asked.
-ghost use Rattle.std.specs.Prelude.{◌≡◌, OnOk};
-ghost use Rattle.mk_heap.specs.Below.Cycles.BeginCycle.{BeginsCycle, EachIsBegunYet, IsBegun};
+ghost use Rattle.std.specs.Prelude.{◌≡◌, OnOk, true};
+ghost use Rattle.mk_heap.specs.Below.Cycles.BeginCycle.{BeginsCycle, EachIsBegun, IsBegun};
 ghost use Rattle.mk_heap.specs.Below.Cycles.{EngineLaw.{IsFreeForCycle, IsAtPhase}, Beside.MarksRoots};
 
 use mk_heap::lower::cycles::{Engine, MostlyEngine, StopEngine, begin_cycle};
@@ -22,7 +22,7 @@ pub(crate) fn begin_beside<R: Threads + Wait + Sync>(
     requires phase { IsAtPhase turn.old.pass 0 }
     requires free { IsFreeForCycle turn.old.pass }
     ensures begins { OnOk result (BeginsCycle turn.old.pass turn.new.pass) }
-    ensures begun { OnOk result (EachIsBegunYet MarksRoots turn.old.pass turn.new.pass) }
+    ensures begun { OnOk result (EachIsBegun true MarksRoots turn.old.pass turn.new.pass) }
 {
     let mut engine = MostlyEngine::make(alloc, words.pages())?;
     begin_cycle(rt, words, turn, &mut engine);

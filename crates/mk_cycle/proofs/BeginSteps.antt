@@ -15,7 +15,7 @@ use Rattle.mk_core.specs.{Counts.TalliesAreExact, Moments.none_is_held, declared
 use Rattle.mk_cycle.proofs.KeptInParts.{gates_behind, gates_then, same_config}
 use Rattle.mk_cycle.proofs.OwnSteps.{done_in, keeps_counts, same_call, same_pass, still_gone}
 use Rattle.mk_cycle.proofs.{Allowed.in_turn_after, Allowed.protocol, MayAct.may_act}
-use Rattle.mk_cycle.specs.{BeginCycle.BeginsCycle, BeginCycle.with_cycle_begun, EngineLaw.BeginsMarking}
+use Rattle.mk_cycle.specs.{BeginCycle.{BeginsCycle, with_cycle_begun}, TurnKeeps.{OnlyDoes, begins_marking}}
 
 pub all_from : (n : ℕ) (test : ℕ → Bool) → ((k : ℕ) → k < n → test k ≡ true) → all_below n test ≡ true
 all_from zero test h = all_below_zero_is test
@@ -117,7 +117,7 @@ counts_then p q r same a b = grind arith
 
 -- All of it: pages are cleaned, the cycle begins, and the engine does its part.
 pub begins_cycle : {w : WordsState} {p b d q : PassState} → IsCleared w p b → ((page : ℕ) → page < p.table.config.pages
-    → WasUndirty page p b) → Acts b Step.Begin d → BeginsMarking d q → BeginsCycle p q
+    → WasUndirty page p b) → Acts b Step.Begin d → OnlyDoes begins_marking d q → BeginsCycle p q
 begins_cycle {p = p} {b = b} {d = d} {q = q} x undirty a law =
     let k = x.cleans in
     let t : IsTurn b = x.holds in

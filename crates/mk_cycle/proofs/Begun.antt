@@ -9,11 +9,10 @@ use Rattle.mk_words.specs.Steps.{Does, are_of}
 use Rattle.mk_cycle.proofs.Vocabulary.{Has, Makes, PassState, does_step, event_of, holds_gates, is_giving_back}
 use Rattle.mk_cycle.proofs.{Vocabulary.{only_seen_by, sets_tallies}, InParts.{InFirst, InSecond, in_parts}}
 use Rattle.mk_core.specs.History.{AreOfOthers, is_same_seat, own_from}
-use Rattle.mk_cycle.specs.BeginCycle.{AreBegunFirst, AreBegunUpTo, DoesNothing, EachIsBegun, EachIsBegunUpTo}
-use Rattle.mk_cycle.specs.BeginCycle.{EachIsBegunYet}
-use Rattle.mk_cycle.specs.BeginCycle.{HoldsFirst, IsBegun, IsBegunUpTo, are_own_of, only_holds}
+use Rattle.mk_cycle.specs.BeginCycle.{AreBegun, DoesNothing, EachIsBegun, HoldsFirst, IsBegun, IsBegunUpTo, are_own_of}
+use Rattle.mk_cycle.specs.{BeginCycle.only_holds, FinishCycle.FinishesCycle, TurnKeeps.begins_marking}
+use Rattle.mk_cycle.specs.Tracing.{is_tracing}
 use Rattle.mk_cycle.proofs.HeldFirst.{holds_longer, holds_on, own_kinds}
-use Rattle.mk_cycle.specs.{FinishCycle.FinishesCycle, TurnKeeps.{begins_marking, closes_marks}}
 use Rattle.mk_words.{proofs.Seats.{same_self}, specs.Steps.{is_open}}
 
 -- These kinds of step have no `begin` among them.
@@ -77,8 +76,8 @@ module _ (begins : Config → Seat → List Event → List Event → Type 0) {ye
   -- two parts
   parts_append : {yes : Bool} (c : Config) (s : Seat) (es xs ys : List Event)
       → ((l : List Event) → only_holds yes s l ≡ true → only_holds yet s (l ++ ys) ≡ true)
-      → AreBegunUpTo yes begins c s es xs → AreBegunUpTo yet begins c s (es ++ xs) ys
-      → AreBegunUpTo yet begins c s es (xs ++ ys)
+      → AreBegun yes begins c s es xs → AreBegun yet begins c s (es ++ xs) ys
+      → AreBegun yet begins c s es (xs ++ ys)
   parts_append c s es xs ys on one two b own =
       ⊎_elim (λ (t : InFirst xs ys b.before b.event b.behind). subst
       (λ (l : List Event). IsBegunUpTo yet begins c s (es ++ through b) l) (sym t.then) (later ys on (one (record
@@ -94,24 +93,24 @@ module _ (begins : Config → Seat → List Event → List Event → Type 0) {ye
         of_kind = b.of_kind;
       }) own)) (in_parts xs ys b.before b.event b.behind b.is)
 
-  pub begun_append : (c : Config) (s : Seat) (es xs ys : List Event) → AreBegunFirst begins c s es xs
-      → AreBegunUpTo yet begins c s (es ++ xs) ys → AreBegunUpTo yet begins c s es (xs ++ ys)
+  pub begun_append : (c : Config) (s : Seat) (es xs ys : List Event) → AreBegun false begins c s es xs
+      → AreBegun yet begins c s (es ++ xs) ys → AreBegun yet begins c s es (xs ++ ys)
   begun_append c s es xs ys one two =
       parts_append {yes = false} c s es xs ys (λ l h. holds_longer yet s l ys h) one two
 
-  pub begun_then : (p q r : PassState) → q ≡ record p { seen = q.seen } → EachIsBegun begins p q
-      → EachIsBegunUpTo yet begins q r → EachIsBegunUpTo yet begins p r
+  pub begun_then : (p q r : PassState) → q ≡ record p { seen = q.seen } → EachIsBegun false begins p q
+      → EachIsBegun yet begins q r → EachIsBegun yet begins p r
   begun_then p q r same one two = record {
     more = one.more ++ two.more;
     is = two.is ∙ ap (λ (l : List Event). l ++ two.more) one.is ∙ append_assoc p.seen one.more two.more;
     each = begun_append p.table.config p.seat p.seen one.more two.more one.each
-        (subst (λ (l : List Event). AreBegunUpTo yet begins p.table.config p.seat l two.more) one.is
-        (subst (λ (x : PassState). AreBegunUpTo yet begins x.table.config x.seat q.seen two.more) same two.each));
+        (subst (λ (l : List Event). AreBegun yet begins p.table.config p.seat l two.more) one.is
+        (subst (λ (x : PassState). AreBegun yet begins x.table.config x.seat q.seen two.more) same two.each));
   }
 
   -- nothing, and steps of other kinds
 
-  pub nothing_begun : (p : PassState) → EachIsBegunUpTo yet begins p p
+  pub nothing_begun : (p : PassState) → EachIsBegun yet begins p p
   nothing_begun p = record {
     more = [];
     is = sym (append-nil p.seen);
@@ -123,7 +122,7 @@ module _ (begins : Config → Seat → List Event → List Event → Type 0) {ye
       nowhere (x ∷ xs) e behind is = cc
 
   pub does_begin_none : (kinds : Step → Bool) (p q : PassState) → HaveNoBegin kinds → Does kinds p q
-      → EachIsBegunUpTo yet begins p q
+      → EachIsBegun yet begins p q
   does_begin_none kinds p q none d = record {
     more = d.more;
     is = ap (λ (x : PassState). x.seen) d.is;
@@ -134,7 +133,7 @@ module _ (begins : Config → Seat → List Event → List Event → Type 0) {ye
   -- one step of another kind
 
   pub step_begins_none : (p q : PassState) (x : Step) → Has p.seats p.seat → Makes p x q → is_begin x ≡ false
-      → EachIsBegunUpTo yet begins p q
+      → EachIsBegun yet begins p q
   step_begins_none p q x own m none =
       does_begin_none (λ (y : Step). not (is_begin y)) p q (λ y h. not-true (is_begin y) h)
       (does_step (λ (y : Step). not (is_begin y)) p q x m (ap not none))
@@ -204,7 +203,7 @@ module _ (begins : Config → Seat → List Event → List Event → Type 0) (p 
       let tail : part.more ≡ ys ++ x ∷ behind = cc in
       absurd (no_more (record { before = ys; event = x; behind = behind; is = tail; of_kind = of_kind }) is)
 
-  pub begin_begun : EachIsBegunYet begins p q
+  pub begin_begun : EachIsBegun true begins p q
   begin_begun = record {
     more = m.others ++ e ∷ part.more;
     is = part.is ∙ ap (λ (x : PassState). x.seen ++ part.more) m.is
@@ -217,8 +216,8 @@ module _ (begins : Config → Seat → List Event → List Event → Type 0) (p 
 
 module _ (begins : Config → Seat → List Event → List Event → Type 0) where
   -- What was begun is left then: after it the seat only holds gates, until it wants the close or gives its turn back.
-  pub left_then : {p q r : PassState} → q ≡ record p { seen = q.seen } → EachIsBegunYet begins p q
-      → EachIsBegun begins q r → HoldsFirst q r → EachIsBegun begins p r
+  pub left_then : {p q r : PassState} → q ≡ record p { seen = q.seen } → EachIsBegun true begins p q
+      → EachIsBegun false begins q r → HoldsFirst q r → EachIsBegun false begins p r
   left_then {p} {q} {r} same one two held =
       let holds : only_holds false p.seat two.more ≡ true =
       subst (λ (x : PassState). only_holds false x.seat two.more ≡ true) same
@@ -229,12 +228,12 @@ module _ (begins : Config → Seat → List Event → List Event → Type 0) whe
         is = two.is ∙ ap (λ (l : List Event). l ++ two.more) one.is ∙ append_assoc p.seen one.more two.more;
         each = parts_append begins {yet = false} {yes = true} p.table.config p.seat p.seen one.more two.more
             (λ l h. holds_on false p.seat l two.more h holds) one.each
-            (subst (λ (l : List Event). AreBegunUpTo false begins p.table.config p.seat l two.more) one.is
-            (subst (λ (x : PassState). AreBegunUpTo false begins x.table.config x.seat q.seen two.more) same two.each));
+            (subst (λ (l : List Event). AreBegun false begins p.table.config p.seat l two.more) one.is
+            (subst (λ (x : PassState). AreBegun false begins x.table.config x.seat q.seen two.more) same two.each));
       }
 
   -- the end of a cycle
-  pub finish_begins_none : (p q : PassState) → Has p.seats p.seat → FinishesCycle p q → EachIsBegun begins p q
+  pub finish_begins_none : (p q : PassState) → Has p.seats p.seat → FinishesCycle p q → EachIsBegun false begins p q
   finish_begins_none p q own law =
       let m = law.makes in
       let r = m.releases in
@@ -254,7 +253,7 @@ module _ (begins : Config → Seat → List Event → List Event → Type 0) whe
       begun_then begins p m.held q held
       (does_begin_none begins holds_gates p m.held (begins_none holds_gates refl) m.holds)
       (begun_then begins m.held r.closing q closing
-      (does_begin_none begins closes_marks m.held r.closing (begins_none closes_marks refl) r.marks.does)
+      (does_begin_none begins is_tracing m.held r.closing (begins_none is_tracing refl) r.marks.does)
       (begun_then begins r.closing r.closed q closed
       (step_begins_none begins r.closing r.closed Step.Close own_closing r.close refl)
       (begun_then begins r.closed m.released q released

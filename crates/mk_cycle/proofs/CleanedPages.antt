@@ -1,5 +1,6 @@
 -- Pages are cleaned one by one, and others are passed over: what is known of those before goes on.
-use Rattle.mk_words.proofs.Below.Laws.Vocabulary.{Steady, ℕ, ap, arith, cases_lt, false, header_at, sym, ◌+◌, ◌<◌, ◌∙◌}
+use Rattle.mk_words.proofs.Below.Laws.Vocabulary.{Steady, ℕ, ap, arith, cases_lt, false, header_at, inl, inr, subst}
+use Rattle.mk_words.proofs.Below.Laws.Vocabulary.{sym, ◌+◌, ◌<◌, ◌∙◌}
 use Rattle.mk_words.proofs.Below.Laws.{Vocabulary.{◌≡◌, ◌≤◌}, FreePages.free_pages_have_nothing}
 use Rattle.mk_books.specs.KnownPages.{is_in_use, page_at}
 use Rattle.mk_cycle.proofs.Vocabulary.{Cleans, IsClean, IsTurn, PassState, WordsState, below_more, now_of}
@@ -75,11 +76,6 @@ ready_later k h = record { clean = clean_stays k h.clean; undirty = undirty_late
 pub ready_earlier : {o p q : PassState} {page : ℕ} → Cleans o p → IsReadyPage page p q → IsReadyPage page o q
 ready_earlier k h = record { clean = h.clean; undirty = undirty_earlier k h.undirty }
 
-pub ready_more : {o p q : PassState} {n : ℕ} → Cleans o p → Cleans p q → AreReady o p n → IsReadyPage n p q
-    → AreReady o q (n + 1)
-ready_more first k before here =
-    below_more _ _ (λ page lt. ready_later k (before page lt)) (ready_earlier first here)
-
 -- A free page that has no marks is ready.
 ready_free : {o p : PassState} {page : ℕ} → IsTurn p → Cleans o p → HasNoMarks (now_of p).words page
     → header_at (now_of p).words page ≡ 0 → IsReadyPage page o p
@@ -95,3 +91,22 @@ pub ready_past : {o p : PassState} (from n pages : ℕ) → IsTurn p → Cleans 
     → ((page : ℕ) → from ≤ page → page < n → is_in_use (now_of p).words.pages page ≡ false) → AreReady o p n
 ready_past from n pages t k free few before more page lt =
     grind (arith, cases_lt, no_header, free_stay_bare, ready_free)
+
+-- Pages from one on and below another are ready.
+abbrev pub AreReadyFrom : PassState → PassState → ℕ → ℕ → Type 0
+AreReadyFrom o p from n = (page : ℕ) → from ≤ page → page < n → IsReadyPage page o p
+
+pub ready_from_more : {o p q : PassState} {from n : ℕ} → Cleans o p → Cleans p q → AreReadyFrom o p from n
+    → IsReadyPage n p q → AreReadyFrom o q from (n + 1)
+ready_from_more {o} {p} {q} {n = n} first k before here page low high = elim (cases_lt page n) [
+  | inl below ↦ ready_later k (before page low below)
+  | inr past ↦ subst (λ r. IsReadyPage r o q) (omega arith) (ready_earlier first here)
+]
+
+-- What is known up to the first of them is known up to their end.
+pub ready_to_end : {o p q : PassState} {n end : ℕ} → Cleans o p → Cleans p q → AreReady o p n
+    → AreReadyFrom p q n end → AreReady o q end
+ready_to_end {n = n} first k before range page lt = elim (cases_lt page n) [
+  | inl below ↦ ready_later k (before page below)
+  | inr past ↦ ready_earlier first (range page past lt)
+]

@@ -3,7 +3,7 @@ use Rattle.std.proofs.lemmas.Nat.{le_or_l, le_or_r}
 use Rattle.mk_words.proofs.Below.Laws.Vocabulary.{List, Words, ℕ, ap, arith, bit_or, cases_eq, cases_lt}
 use Rattle.mk_words.proofs.Below.Laws.Vocabulary.{get_or-set_other, get_or-set_same, get_or_past, head_page, inl, inr}
 use Rattle.mk_words.proofs.Below.Laws.Vocabulary.{length, no_bit, refl, set-get_or, set_past, slice_index, slice_set}
-use Rattle.mk_words.proofs.Below.Laws.Vocabulary.{subst, sym, ◌+◌, ◌<◌, ◌∙◌, ◌≡◌, ◌≢◌}
+use Rattle.mk_words.proofs.Below.Laws.Vocabulary.{subst, sym, ◌+◌, ◌<◌, ◌∙◌, ◌≡◌, ◌≢◌, ◌≤◌}
 use Rattle.mk_cycle.proofs.DirtyWords.{dirty_is_one}
 use Rattle.mk_cycle.specs.{Stops.still_words, Grays.{BlacksFewer, DirtyFewer, DirtyIsUnscanned, HasDirtyPart}}
 use Rattle.mk_cycle.specs.Grays.{IsCleaner, IsUnmarked}
@@ -71,6 +71,9 @@ dirt_cleaner w v page e =
 pub blacks_cleaner : {w v : Words} → BlacksFewer w v → IsCleaner w v
 blacks_cleaner fewer = grind (arith, same_dirt)
 
+pub cleaner_nothing : (w : Words) → IsCleaner w w
+cleaner_nothing w = record { is = refl; fewer = λ p z. z }
+
 pub cleaner_then : {u v w : Words} → IsCleaner u v → IsCleaner v w → IsCleaner u w
 cleaner_then {w = w} one two = record {
   is = two.is ∙ ap (λ (x : Words). record x { blacks = w.blacks; dirty = w.dirty }) one.is;
@@ -110,3 +113,13 @@ no_bit_of_either a b none = let left = le_or_l a b in let right = le_or_r a b in
 pub pages_then : (P Q : ℕ → Type 0) (i : ℕ) → ((p : ℕ) → P p → Q p) → ((p : ℕ) → p < i → P p) → Q i → (p : ℕ)
     → p < i + 1 → Q p
 pages_then P Q i on before here p lt = grind (arith, cases_lt)
+
+-- and the same of the pages from one on
+pub range_then : (P Q : ℕ → Type 0) (from i : ℕ) → ((p : ℕ) → P p → Q p)
+    → ((p : ℕ) → from ≤ p → p < i → P p) → Q i → (p : ℕ) → from ≤ p → p < i + 1 → Q p
+range_then P Q from i on before here p low lt = grind (arith, cases_lt)
+
+-- and what holds of each page below the first of a range, and of each of the range
+pub range_past : (P Q : ℕ → Type 0) (first end : ℕ) → ((p : ℕ) → P p → Q p) → ((p : ℕ) → p < first → P p)
+    → ((p : ℕ) → first ≤ p → p < end → Q p) → (p : ℕ) → p < end → Q p
+range_past P Q first end on before range p lt = grind (arith, cases_lt)

@@ -2,16 +2,16 @@
 use Rattle.mk_words.proofs.Below.Laws.Vocabulary.{Config, PlacedAllocation, Steady, Step, TalliesAreTidy, Words, ℕ}
 use Rattle.mk_words.proofs.Below.Laws.Vocabulary.{all_below-at, ap, arith, ends, has_place, in_a_word, is_held, map}
 use Rattle.mk_words.proofs.Below.Laws.Vocabulary.{not, refl, subst, sym, true, with_released, [], ◌+◌, ◌<◌, ◌∙◌, ◌≡◌}
-use Rattle.mk_cycle.proofs.Vocabulary.{Acts, CountsAreLeft, Done, HasReleased, HoldsFewer, IsAtPhase, IsFreeForCycle}
-use Rattle.mk_cycle.proofs.Vocabulary.{IsTurn, KeepsCall, KeepsGates, PassState, Released, done_of, full_answers}
-use Rattle.mk_cycle.proofs.Vocabulary.{is_pending_free, now_of, releases, steady_of, world_of}
-use Rattle.mk_cycle.proofs.{Allowed.{in_turn_after, in_turn_before}, EndSteps.{as_many_fulls, ended_call, ended_done}}
-use Rattle.mk_cycle.proofs.EndSteps.{ended_gates, ended_gone, one_more_end, steady_ended}
-use Rattle.mk_cycle.proofs.KeptInParts.{calls_then, free_then, gates_then, same_config}
-use Rattle.mk_cycle.proofs.{BeginSteps.{all_from, counts_then}, HeldReleased.held_alike, NewlyReleased.newly_added}
-use Rattle.mk_cycle.{proofs.{OwnSteps.same_pass, ReleasedCounts.told_to}, specs.FinishCycle.{words_released}}
+use Rattle.mk_words.proofs.Below.Laws.Vocabulary.{Holding}
+use Rattle.mk_cycle.proofs.{Allowed.{in_turn_after, in_turn_before}, BeginSteps.{all_from, counts_then}}
+use Rattle.mk_cycle.proofs.EndSteps.{as_many_fulls, ended_call, ended_done, ended_gates, ended_gone, one_more_end}
+use Rattle.mk_cycle.proofs.{EndSteps.steady_ended, HeldReleased.held_alike, KeptInParts.{calls_then, free_then}}
+use Rattle.mk_cycle.proofs.{KeptInParts.{gates_then, same_config}, NewlyReleased.newly_added, OwnSteps.same_pass}
+use Rattle.mk_cycle.proofs.{ReleasedCounts.told_to, Vocabulary.{Acts, CountsAreLeft, HasReleased, HoldsFewer}}
+use Rattle.mk_cycle.proofs.Vocabulary.{IsAtPhase, IsFreeForCycle, IsTurn, KeepsCall, KeepsGates, PassState, Released}
+use Rattle.mk_cycle.proofs.Vocabulary.{done_of, full_answers, is_pending_free, now_of, releases, steady_of, world_of}
+use Rattle.mk_cycle.specs.{FinishCycle.{words_released, Sets, with_cycle_counted, FinishesCycle}, Freeing.GivesAllBack}
 use Rattle.mk_core.specs.{Counts.TalliesAreExact, Effects.cycle_ended, Moments.none_is_held}
-use Rattle.mk_cycle.specs.{FinishCycle.{Sets, with_cycle_counted, FinishesCycle}, Freeing.GivesAllBack}
 
 pub gives_call : {p g : PassState} → GivesAllBack p g → KeepsCall p g
 gives_call x = grind (arith, calls_then)
@@ -25,7 +25,7 @@ gives_counts x = grind (arith, counts_then, same_config)
 pub ended_free : {g e : PassState} → IsAtPhase g 4 → Acts g Step.End e → IsFreeForCycle g → IsFreeForCycle e
 ended_free {g} {e} at a free = record {
   decided = ap is_pending_free (ended_call t at u a) ∙ free.decided;
-  unplaced = ap (λ (d : Done). has_place d.placing) (ended_done t at u a) ∙ free.unplaced;
+  unplaced = ap (λ (d : Holding). has_place d.placing) (ended_done t at u a) ∙ free.unplaced;
   gone = ended_gone t at u a free.gone;
 }
   where
@@ -158,7 +158,7 @@ module _ {p g e q : PassState} {r : Released} (gives : GivesAllBack p g) (free :
     pass = pass_q;
     call = sets.call.call ∙ ended_call t gives.phase u a ∙ (gives_call gives).call;
     done = sets.call.done ∙ done_e
-        ∙ ap (λ (x : Done). record x { cycle = cycle_ended x.cycle }) (gives_call gives).done;
+        ∙ ap (λ (x : Holding). record x { cycle = cycle_ended x.cycle }) (gives_call gives).done;
     phase = ap (λ (s : Steady). s.phase) steady_q;
     gates = gates_q;
     allocations = allocations_q;

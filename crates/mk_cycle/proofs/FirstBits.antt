@@ -6,7 +6,7 @@ use Rattle.mk_words.proofs.Below.Laws.Vocabulary.{has_bit, has_bit_without, head
 use Rattle.mk_words.proofs.Below.Laws.Vocabulary.{no_bit, refl, slice_index, subst, sym, true, without, ◌-◌, ◌<◌, ◌==◌}
 use Rattle.mk_words.proofs.Below.Laws.Vocabulary.{◌^◌, ◌≡◌, ◌≤◌}
 use Rattle.mk_cycle.proofs.NoGrays.{no_gray, no_gray_found}
-use Rattle.mk_cycle.specs.Grays.{AllAreBlack, HasNoGray, IsGray, gray_bits}
+use Rattle.mk_cycle.specs.Grays.{HasNoGray, IsGray, gray_bits}
 
 -- what holds of a value that is told where a test holds, and what holds where it doesn't
 
@@ -38,7 +38,7 @@ none_is_first cells x n o some fits lowest is =
 -- Each marked cell is black where no cell is marked, or none that isn't black.
 
 pub ungray_are_black : (marks blacks n : ℕ) → ((k : ℕ) → k < n → has_bit (without marks blacks) k ≡ false)
-    → AllAreBlack n marks blacks
+    → (k : ℕ) → k < n → has_bit marks k ≡ true → has_bit blacks k ≡ true
 ungray_are_black marks blacks n none k lt marked = grind (arith, has_bit_without)
 
 -- A gray cell is marked and isn't black.

@@ -10,9 +10,8 @@ use Rattle.mk_cycle.proofs.{BesideSteps.{goes_hold, goes_look, hold_others}, Hol
 use Rattle.mk_cycle.proofs.{HoldingSteps.{holds_nothing, holds_then}, KeptInParts.{gates_behind}}
 use Rattle.mk_cycle.proofs.{MarksBeside.{goes_nowhere, goes_then, others_on}, OwnSteps.{keeps_call, keeps_counts}}
 use Rattle.mk_cycle.proofs.{Steps.may_step, TracedMarks.ready_of}
-use Rattle.mk_cycle.specs.Beside.{GoesBeside, IsBeside, KeepsOtherGates, MaySetGate, SetsGate}
-use Rattle.mk_cycle.specs.Stops.{HoldsSuch, MayHoldGate, all_others, only_gate, HolderIsLoaded}
-use Rattle.mk_cycle.specs.TurnKeeps.{unchanged}
+use Rattle.mk_cycle.specs.{Beside.{GoesBeside, IsBeside, KeepsOtherGates, SetsGate}, Stops.{HoldsSuch, all_others}}
+use Rattle.mk_cycle.specs.{Stops.{only_gate, HolderIsLoaded, IsForGate}, TurnKeeps.unchanged}
 
 -- one step
 
@@ -77,7 +76,7 @@ pub still_loaded : {such : ℕ → Bool} {t u : TurnState} → HoldsSuch such t 
 still_loaded holds ready = let kept = (such_holds holds).keeps.call in grind arith
 
 pub may_hold_still : {such : ℕ → Bool} {w : WordsState} {t u : TurnState} {caller : ℕ} → HoldsSuch such t u
-    → MayHoldGate w t.pass caller → MayHoldGate w u.pass caller
+    → IsForGate HolderIsLoaded w t.pass caller → IsForGate HolderIsLoaded w u.pass caller
 may_hold_still {caller = caller} holds may =
     let same = (such_holds holds).keeps.call.pass in
     record {
@@ -89,7 +88,7 @@ may_hold_still {caller = caller} holds may =
 
 -- The steps may come.
 
-module _ {w : WordsState} (t : TurnState) {caller : ℕ} (may : MayHoldGate w t.pass caller) where
+module _ {w : WordsState} (t : TurnState) {caller : ℕ} (may : IsForGate HolderIsLoaded w t.pass caller) where
   pub gate_within : caller < t.pass.table.config.callers
   gate_within = subst (λ (x : WordsState). caller < x.config.callers) (sym may.one_table) may.within
 
@@ -137,16 +136,16 @@ held_beside {caller} {u = v} b (HoldsSuch.then_tries {u = u} j of before a) =
       others = others_on caller v x.on x.others leaves;
     }
 
-pub sets_beside : {w : WordsState} {caller : ℕ} {t u : TurnState} → MaySetGate w t.pass caller
+pub sets_beside : {w : WordsState} {caller : ℕ} {t u : TurnState} → IsForGate IsBeside w t.pass caller
     → HoldsSuch (only_gate caller) t u → is_held (now_of u.pass).words caller ≡ true → SetsGate caller true t u
 sets_beside may holds set =
-    let x = held_beside may.beside holds in record { on = x.on; others = x.others; set = set }
+    let x = held_beside may.ready holds in record { on = x.on; others = x.others; set = set }
 
-pub may_hold_beside : {w : WordsState} {p : PassState} {caller : ℕ} → IsTurn p → MaySetGate w p caller
-    → MayHoldGate w p caller
+pub may_hold_beside : {w : WordsState} {p : PassState} {caller : ℕ} → IsTurn p → IsForGate IsBeside w p caller
+    → IsForGate HolderIsLoaded w p caller
 may_hold_beside turn may = record {
   one_table = may.one_table;
-  ready = ready_of turn may.beside.free;
+  ready = ready_of turn may.ready.free;
   within = may.within;
   another = may.another;
 }

@@ -1,9 +1,9 @@
 -- What is kept in parts is kept.
 use Rattle.mk_words.proofs.Below.Laws.Vocabulary.{Config, Steady, Step, World, ℕ, ap, arith, cases_eq, eq-eqb, inl, inr}
 use Rattle.mk_words.proofs.Below.Laws.Vocabulary.{is_held, ne_eqb, refl, slice_index, subst, sym, world_behind, ◌<◌}
-use Rattle.mk_words.proofs.Below.Laws.Vocabulary.{◌==◌, ◌∙◌, ◌≡◌, ◌≢◌}
-use Rattle.mk_cycle.proofs.Vocabulary.{Acts, Done, IsFreeForCycle, KeepsCall, KeepsGates, LeavesTurn, PassState}
-use Rattle.mk_cycle.proofs.Vocabulary.{event_of, world_at}
+use Rattle.mk_words.proofs.Below.Laws.Vocabulary.{◌==◌, ◌∙◌, ◌≡◌, ◌≢◌, Holding}
+use Rattle.mk_cycle.proofs.Vocabulary.{Acts, IsFreeForCycle, KeepsCall, KeepsGates, LeavesTurn, PassState, event_of}
+use Rattle.mk_cycle.proofs.Vocabulary.{world_at}
 
 pub calls_then : {p q r : PassState} → KeepsCall p q → KeepsCall q r → KeepsCall p r
 calls_then a b = grind arith
@@ -51,4 +51,4 @@ gates_behind p s q a same j lt =
     ∙ held_so _ _ (a.turn.held_gates j) (a.turn.other_gates j)
 
 pub free_then : (p q : PassState) → KeepsCall p q → IsFreeForCycle p → IsFreeForCycle q
-free_then p q k free = grind (arith, Done)
+free_then p q k free = grind (arith, Holding)

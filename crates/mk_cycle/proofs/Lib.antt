@@ -32,6 +32,7 @@ pub mod Sweepless
 pub mod Told
 pub mod ClosedBy
 pub mod PageByPage
+pub mod RangeEnds
 pub mod InParts
 pub mod Begun
 pub mod Undirty

@@ -7,12 +7,12 @@ use Rattle.mk_words.proofs.Below.Laws.Vocabulary.{◌++◌, ◌+◌, ◌<◌, �
 use Rattle.mk_words.proofs.Doing.{does_nothing, does_then}
 use Rattle.mk_cycle.proofs.Since.{done_then, nothing_done, nothing_keeps, rule_then}
 use Rattle.mk_cycle.specs.Beside.{FindsInRoot, GoesBeside, IsBeside, KeepsOtherGates, LooksAt, MarksBeside}
-use Rattle.mk_cycle.specs.Beside.{MarksReachedAlone, MaySetGate, SetsGate, StaysWell, done_since, found_well}
-use Rattle.mk_cycle.specs.{Beside.{is_same_root, looks_at}, Grays.TracesReached, Stops.is_root}
+use Rattle.mk_cycle.specs.Beside.{MarksReachedAlone, SetsGate, StaysWell, done_since, found_well, looks_at}
+use Rattle.mk_cycle.specs.{Grays.TracesReached, Stops.{is_root, IsHeldOrOwn, IsForGate}}
+use Rattle.mk_cycle.specs.TurnKeeps.{KeepsGates, LeavesTurn, unchanged, begins_marking}
 use Rattle.mk_words.specs.Steps.{Does}
 use Rattle.mk_core.specs.{History.Finding, Conditions.is_word}
 use Rattle.mk_cycle.proofs.KeptInParts.{free_then, gates_then, keeps_at_once, keeps_then, same_config}
-use Rattle.mk_cycle.specs.{TurnKeeps.{KeepsGates, LeavesTurn, unchanged, begins_marking}, Stops.IsHeldOrOwn}
 use Rattle.mk_words.specs.States.{PassState, TurnState, WordsState, event_of, now_of}
 
 -- The turn goes on being free, and the cycle marking.
@@ -104,7 +104,7 @@ then_looked x {p = p} {r = r} d e here =
 
 -- A look at a root, and the marks after it by which its value points well.
 
-same_root : (x : Word) → is_root x ≡ true → is_same_root x x ≡ true
+same_root : (x : Word) → is_root x ≡ true → looks_at x (Step.Look x) ≡ true
 same_root (Word.Reg j r) h = and_from (j == j) (r == r) (eq-eqb j j refl) (eq-eqb r r refl)
 same_root (Word.Global g) h = eq-eqb g g refl
 same_root _ h = cc
@@ -140,11 +140,11 @@ pub others_on : (caller : ℕ) {t u : TurnState} (v : TurnState) → GoesBeside 
     → KeepsOtherGates caller u.pass v.pass → KeepsOtherGates caller t.pass v.pass
 others_on caller v on a b j lt ne = grind (arith, same_config)
 
-pub may_on : {w : WordsState} {t u : TurnState} {caller : ℕ} → MaySetGate w t.pass caller → GoesBeside t u
-    → MaySetGate w u.pass caller
+pub may_on : {w : WordsState} {t u : TurnState} {caller : ℕ} → IsForGate IsBeside w t.pass caller → GoesBeside t u
+    → IsForGate IsBeside w u.pass caller
 may_on {caller = caller} may on = record {
   one_table = on.table ∙ may.one_table;
-  beside = on.beside;
+  ready = on.beside;
   within = may.within;
   another = ap (λ (p : PassState). is_number_of p.seat caller) on.marks.does.is ∙ may.another;
 }

@@ -4,7 +4,6 @@ use Rattle.mk_words.proofs.Below.Laws.Vocabulary.{Bool, List, PlacedAllocation, 
 use Rattle.mk_words.proofs.Below.Laws.Vocabulary.{if◌then◌else◌, length, map, not, refl, suc, true, zero, [], ◌&&◌, ◌+◌}
 use Rattle.mk_words.proofs.Below.Laws.Vocabulary.{◌∷◌, ◌≡◌}
 use Rattle.mk_cycle.proofs.Vocabulary.{count_by, newly_released, releases, sum_by, sum_by-cons}
-use Rattle.mk_cycle.specs.FinishCycle.{is_newly_released}
 
 -- Sums of what is the same at each place are the same,
 pub same_at_each : {X : Type 0} (d : X) (f g : X → ℕ) (xs : List X)
@@ -31,7 +30,7 @@ parts_at_each d f g h (x ∷ xs) same =
 
 module _ (f : PlacedAllocation → PlacedAllocation) where
   abbrev pub is_new : PlacedAllocation → Bool
-  is_new a = is_newly_released a (f a)
+  is_new a = not a.released && (f a).released
 
   length_cons : (b : Bool) (a : PlacedAllocation) (ys : List PlacedAllocation)
       → length (if b then a ∷ ys else ys) ≡ cond b 1 0 + length ys

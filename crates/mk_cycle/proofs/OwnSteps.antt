@@ -7,15 +7,15 @@ use Rattle.mk_words.proofs.Below.Laws.Vocabulary.{at_rest, calls, false, flight_
 use Rattle.mk_words.proofs.Below.Laws.Vocabulary.{is_heap_store, is_run_gone, left, length, progress, refl, still}
 use Rattle.mk_words.proofs.Below.Laws.Vocabulary.{subst, sym, true, true≢false, world_behind, [], ◌++◌, ◌<◌, ◌∙◌, ◌∷◌}
 use Rattle.mk_words.proofs.{Below.Laws.Vocabulary.◌≡◌, Below.Laws.RunWords.gone_behind}
-use Rattle.mk_cycle.proofs.Vocabulary.{Acts, CountsAreLeft, Done, Has, IsGone, KeepsCall, PassState, call_of, event_of}
+use Rattle.mk_cycle.proofs.Vocabulary.{Acts, CountsAreLeft, Has, IsGone, KeepsCall, PassState, call_of, event_of}
 use Rattle.mk_cycle.proofs.Vocabulary.{holder_finds, holding_behind, made, now_of, stands, steady_of, world_at}
 use Rattle.mk_cycle.proofs.Vocabulary.{world_of}
 use Rattle.mk_core.{proofs.Histories.calls_more, specs.Effects.moment_behind}
 use Rattle.mk_words.proofs.Made.{Made}
 
 -- what a holding shows of what was done
-abbrev pub done_in : Holding → Done
-done_in h = record { placing = h.placing; freed = h.freed; cycle = h.cycle }
+abbrev pub done_in : Holding → Holding
+done_in h = record h { hand = None }
 
 -- A step that goes on with the call as it was.
 pub flight_behind : (c : Config) (m : Moment) (seat : Seat) (s : Step) → Protocol c m → Holds c m seat

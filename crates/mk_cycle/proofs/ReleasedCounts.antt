@@ -13,7 +13,8 @@ use Rattle.mk_cycle.proofs.Vocabulary.{released_below, stands, sum_below, sum_by
 use Rattle.mk_cycle.proofs.CellCounts.{AreTheirBits, cells_are_as_many, cells_weigh_as_much}
 use Rattle.mk_cycle.proofs.NewlyReleased.{is_new, left_filtered, newly_counted, newly_weighed, parts_at_each}
 use Rattle.mk_cycle.proofs.{NewlyReleased.same_at_each, CellBits.has_bit_and}
-use Rattle.mk_cycle.specs.{FinishCycle.is_in_snapshot_of_cycle, Freeing.{cells_marked, left_marked}}
+use Rattle.mk_cycle.specs.{FinishCycle.is_in_snapshot_of_cycle, Freeing.cells_marked}
+use Rattle.std.specs.Prelude.{bit_and}
 
 -- a history whose next event may be a `release`
 module _ {c : Config} {es : List Event} (h : IsHistory c es) (at : phase_of (left c es).now.words ≡ 3) where
@@ -82,7 +83,7 @@ module _ {c : Config} {es : List Event} (h : IsHistory c es) (at : phase_of (lef
       → b ≡ (a.freed && not a.fresh) → (f a).released ≡ (b && not m) → is_kept a ≡ (b && m)
   rest_is a b m u freed snapshot gone = grind arith
 
-  marked_are : AreTheirBits c es is_kept (left_marked w)
+  marked_are : AreTheirBits c es is_kept (λ p. bit_and (slice_index w.snapshot p) (slice_index w.marks p))
   marked_are = record {
     none = refl;
     small = λ p.
@@ -137,7 +138,7 @@ module _ {c : Config} {es : List Event} (h : IsHistory c es) (at : phase_of (lef
   kept_told =
       let all = parts_at_each never_granted (λ a. cond {A = ℕ} (is_in_snapshot_of_cycle a) 1 0) (λ a. cond
       (is_kept a) 1 0) (λ a. cond (is_new f a) 1 0) xs (λ i. parts (placed_at xs i) (new_is_in_snapshot i)) in
-      let marked = cells_are_as_many c es h quiet is_kept (left_marked w) marked_are in
+      let marked = cells_are_as_many c es h quiet is_kept _ marked_are in
       let unmarked = cells_are_as_many c es h quiet (is_new f) (left_unmarked w) unmarked_are in
       omega arith
 

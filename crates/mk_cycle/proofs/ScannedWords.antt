@@ -43,6 +43,10 @@ pub scans_to : {pages : ℕ} {t u : TurnState} {a b : Notes} {cell : Cell} {from
     → Scans pages t a u b cell from end → Scans pages t a u b cell from n
 scans_to n le all = record { marks = all.marks; well = λ k lo hi. all.well k lo (omega arith) }
 
+pub scans_after : {pages : ℕ} {t u : TurnState} {a b : Notes} {cell : Cell} {from end : ℕ} (n : ℕ) → from ≤ n
+    → Scans pages t a u b cell from end → Scans pages t a u b cell n end
+scans_after n le all = record { marks = all.marks; well = λ k lo hi. all.well k (omega arith) hi }
+
 -- One word, which was looked at, and what it points into then marked.
 pub one_scanned : {pages : ℕ} {t u v : TurnState} {a b : Notes} {cell : Cell} {i value : ℕ} → LooksOn t u → value
     ≡ slice_index (still_words t.pass).heap (first_word (still_words t.pass) cell + i) → MarksAndNotes pages u a v b

@@ -8,12 +8,11 @@ pub use Rattle.mk_words.proofs.{Below.Laws.RunsStill.holder_finds, Doing.{does_n
 pub use Rattle.mk_words.proofs.Sweeping.{does_sweep, only_seen_by, other_step_sweeps, sweeps_then}
 pub use Rattle.mk_words.{proofs.Made.{made}, specs.{Steps.{IsEnabledTo, Makes}, TurnSteps.{Acts, world_at}, States.Has}}
 pub use Rattle.mk_words.specs.States.{IsTurn, PassState, WordsState, call_of, event_of, now_of, world_of}
-pub use Rattle.mk_cycle.specs.BeginCycle.{Cleans, IsClean, WasUndirty}
-pub use Rattle.mk_cycle.specs.EngineLaw.{IsAtPhase, IsFreeForCycle, IsTurnAt}
-pub use Rattle.mk_cycle.specs.{EngineLaw.is_pending_free, FinishCycle.{HasReleased, HoldsFewer, newly_released}}
-pub use Rattle.mk_cycle.specs.Freeing.{AreFreeCells, Frees, FreesPage, GivesNothingBack, HasFreeCells, IsOccupied}
-pub use Rattle.mk_cycle.specs.Freeing.{IsSettledPage, IsUnmappedWord, IsZero, PageState, SamePage, page_state}
-pub use Rattle.mk_cycle.specs.{Stops.HoldsGates, TurnKeeps.{clears, holds_gates, is_giving_back, sets_tallies}}
-pub use Rattle.mk_cycle.specs.Freeing.{cells_unmarked, held_below, held_unmarked, released_below, released_on}
-pub use Rattle.mk_cycle.specs.{Freeing.{sum_below, words_unmarked}, TurnKeeps.{Done, IsGone, KeepsCall}}
+pub use Rattle.mk_cycle.specs.{BeginCycle.{Cleans, IsClean, WasUndirty}, EngineLaw.{IsAtPhase, IsFreeForCycle}}
+pub use Rattle.mk_cycle.specs.{EngineLaw.{IsTurnAt, is_pending_free}, FinishCycle.{HasReleased, HoldsFewer}}
+pub use Rattle.mk_cycle.specs.{FinishCycle.newly_released, Freeing.{AreFreeCells, Frees, FreesPage, GivesNothingBack}}
+pub use Rattle.mk_cycle.specs.Freeing.{HasFreeCells, IsOccupied, IsSettledPage, IsUnmappedWord, IsZero, PageState}
+pub use Rattle.mk_cycle.specs.Freeing.{SamePage, page_state, cells_unmarked, held_below, held_unmarked, released_below}
+pub use Rattle.mk_cycle.specs.{Freeing.{released_on, sum_below, words_unmarked}, Stops.HoldsGates}
+pub use Rattle.mk_cycle.specs.TurnKeeps.{clears, holds_gates, is_giving_back, sets_tallies, IsGone, KeepsCall}
 pub use Rattle.mk_cycle.specs.{TurnKeeps.{KeepsGates, LeavesTurn, done_of}, declared.finishing.Released.Released}

@@ -5,7 +5,7 @@ use Rattle.mk_words.proofs.Below.Laws.Vocabulary.{[], ◌%◌, ◌+◌, ◌++◌
 use Rattle.mk_words.proofs.{Below.Laws.ProtocolReadings.words_tell, PointedCells.found_there}
 use Rattle.mk_cycle.proofs.Parts.{counted_then, counted_wider, traces_step, traces_wider}
 use Rattle.mk_cycle.proofs.Steps.{step_counts, step_untouched, still_ready}
-use Rattle.mk_cycle.specs.Tracing.{Counted, Traces, is_marking, is_tracing, is_waiting, is_want}
+use Rattle.mk_cycle.specs.{Tracing.{Counted, Traces, is_marking, is_tracing, is_waiting}, TurnKeeps.is_want}
 use Rattle.mk_cycle.specs.{EngineLaw.WantsFirst, Grays.{TracesReached, WaitsForMarkers}}
 use Rattle.mk_cycle.specs.Stops.{HolderIsLoaded, IsWanted}
 use Rattle.mk_words.{proofs.TurnSteps.still_stopped, specs.Steps.Does}

@@ -21,8 +21,7 @@ IsUnscanned p page = slice_index (now_of p).words.blacks page ≡ 0
 abbrev pub HasTakenSnapshot : PassState → ℕ → Type 0
 HasTakenSnapshot p page = slice_index (now_of p).words.snapshot page ≡ slice_index (now_of p).words.freed page
 
--- The page's dirty word was 0 at a moment from what the one pass had seen to what the other has seen. A caller may set
--- it again at once.
+-- The page's dirty word was 0 at a moment between the two passes. A caller may set it again at once.
 pub record WasUndirty (page : ℕ) (p q : PassState) : Type 0 where
   pub before : List Event
   pub behind : List Event
@@ -83,10 +82,7 @@ pub record BeginsCycle (p q : PassState) : Type 0 where
   pub exact : TalliesAreExact p.table.config p.seen → TalliesAreExact q.table.config q.seen
   pub tidy : TalliesAreTidy p.table.config p.seen → TalliesAreTidy q.table.config q.seen
 
--- What an engine does directly after a `begin`, that it does so after each one, and that then nothing but holding gates
--- comes before the close is wanted. It is said of a seat, of the events up to the `begin`, and of those after it.
-
--- it does nothing
+-- An engine's part after a `begin` is said of a seat, the events up to it, and those after it. This is to do nothing.
 abbrev pub DoesNothing : Config → Seat → List Event → List Event → Type 0
 DoesNothing c s es more = more ≡ []
 
@@ -114,8 +110,7 @@ leaves_begun Step.Want = true
 leaves_begun Step.Give = true
 leaves_begun _ = false
 
--- In a list the seat does nothing but hold gates, until it wants the close or gives its turn back. If the list ends
--- before that, the answer is `yet`.
+-- The seat only holds gates, until it wants the close or gives its turn back. If the list ends before, this is `yet`.
 unfoldable pub only_holds : Bool → Seat → List Event → Bool
 only_holds yet s [] = yet
 only_holds yet s (e ∷ es) =
@@ -130,7 +125,7 @@ pub record HoldsFirst (p q : PassState) : Type 0 where
   pub holds : only_holds false p.seat more ≡ true
 
 -- It did its part in the first of these events, in which it looks, marks, and holds and opens gates. Then it only holds
--- gates, until it wants the close or gives its turn back.
+-- gates, until it wants the close or gives its turn back: one of these is among the events, or may be `yet` to come.
 pub record IsBegunUpTo (yet : Bool) (begins : Config → Seat → List Event → List Event → Type 0) (c : Config) (s : Seat)
     (es more : List Event) : Type 0 where
   pub first : List Event
@@ -140,43 +135,23 @@ pub record IsBegunUpTo (yet : Bool) (begins : Config → Seat → List Event →
   pub marking : are_own_of begins_marking s first ≡ true
   pub holds : only_holds yet s rest ≡ true
 
--- That it wants it or gives it back is among these events,
-abbrev pub IsBegunFirst : (Config → Seat → List Event → List Event → Type 0) → Config → Seat → List Event
+-- So it is after each `begin` of the seat in the list that goes on,
+abbrev pub AreBegun : Bool → (Config → Seat → List Event → List Event → Type 0) → Config → Seat → List Event
     → List Event
     → Type 0
-IsBegunFirst begins c s es more = IsBegunUpTo false begins c s es more
-
--- after each `begin` of the seat in the list that goes on,
-abbrev pub AreBegunUpTo : Bool → (Config → Seat → List Event → List Event → Type 0) → Config → Seat → List Event
-    → List Event
-    → Type 0
-AreBegunUpTo yet begins c s es more =
+AreBegun yet begins c s es more =
     (b : At is_begin more) → b.event.seat ≡ s → IsBegunUpTo yet begins c s (es ++ through b) b.behind
 
--- and it has ended its part among these events,
-abbrev pub AreBegunFirst : (Config → Seat → List Event → List Event → Type 0) → Config → Seat → List Event
-    → List Event
-    → Type 0
-AreBegunFirst begins c s es more = AreBegunUpTo false begins c s es more
-
 -- after each one from what the one pass had seen to what the other has seen,
-pub record EachIsBegunUpTo (yet : Bool) (begins : Config → Seat → List Event → List Event → Type 0) (p q : PassState)
+pub record EachIsBegun (yet : Bool) (begins : Config → Seat → List Event → List Event → Type 0) (p q : PassState)
     : Type 0 where
   pub more : List Event
   pub is : q.seen ≡ p.seen ++ more
-  pub each : AreBegunUpTo yet begins p.table.config p.seat p.seen more
-
--- the same, where that is among them,
-abbrev pub EachIsBegun : (Config → Seat → List Event → List Event → Type 0) → PassState → PassState → Type 0
-EachIsBegun begins p q = EachIsBegunUpTo false begins p q
-
--- or that is still to come,
-abbrev pub EachIsBegunYet : (Config → Seat → List Event → List Event → Type 0) → PassState → PassState → Type 0
-EachIsBegunYet begins p q = EachIsBegunUpTo true begins p q
+  pub each : AreBegun yet begins p.table.config p.seat p.seen more
 
 -- and after each one of a whole history, whoever made it.
 abbrev pub CyclesAreBegun : (Config → Seat → List Event → List Event → Type 0) → Config → List Event → Type 0
-CyclesAreBegun begins c es = (b : At is_begin es) → IsBegunFirst begins c b.event.seat (through b) b.behind
+CyclesAreBegun begins c es = (b : At is_begin es) → IsBegunUpTo false begins c b.event.seat (through b) b.behind
 
 -- There is nothing but holding gates between each `begin` of the history and the wish to close, or the turn's `give`.
 abbrev pub CyclesHoldGatesFirst : Config → List Event → Type 0

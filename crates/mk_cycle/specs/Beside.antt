@@ -1,10 +1,10 @@
 -- What the turn's holder marks beside callers and markers, from the roots on, while a cycle marks.
 use Rattle.std.specs.Prelude.{◌≡◌, ◌≢◌, ℕ, ◌<◌, Bool, true, false, ◌&&◌, ◌||◌, ◌==◌, not, List, [], ◌∷◌, length, drop}
 use Rattle.std.specs.{Prelude.◌++◌, List.{list_all, list_any}}
-use Rattle.mk_core.specs.declared.events.{Event.Event, Step.Step, Word.Word}
-use Rattle.mk_core.specs.{Cells.points_well, History.{Finding, in_this_call, left}, Moments.{is_held, is_number_of}}
-use Rattle.mk_core.specs.{Words.Words, declared.{config.Config.Config, events.Seat.Seat}, Conditions.is_word}
-use Rattle.mk_words.specs.{States.{PassState, TurnState, WordsState, world_of, now_of, event_of}, Steps.{Does, done_in}}
+use Rattle.mk_core.specs.{declared.events.Event.Event, declared.events.Step.Step, declared.events.Word.Word}
+use Rattle.mk_core.specs.{Cells.points_well, History.{Finding, in_this_call, left}, Moments.is_held, Words.Words}
+use Rattle.mk_core.specs.{declared.config.Config.Config, declared.events.Seat.Seat, Conditions.is_word}
+use Rattle.mk_words.specs.{States.{PassState, TurnState, world_of, now_of, event_of}, Steps.{Does, done_in}}
 use Rattle.mk_cycle.specs.{Grays.TracesReached, Stops.{is_root, IsHeldOrOwn}, Tracing.OwnStepsKeep}
 use Rattle.mk_cycle.specs.{EngineLaw.{IsFreeForCycle, IsAtPhase}, TurnKeeps.{begins_marking, LeavesTurn, unchanged}}
 use Rattle.mk_cycle.specs.BeginCycle.{CyclesAreBegun}
@@ -17,18 +17,11 @@ seen_since p q = drop (length p.seen) q.seen
 abbrev pub done_since : PassState → PassState → List Finding
 done_since p q = done_in p (seen_since p q)
 
--- looks at a root
-
--- they are one register, or one global
-abbrev pub is_same_root : Word → Word → Bool
-is_same_root (Word.Reg j r) (Word.Reg k s) = (j == k) && (r == s)
-is_same_root (Word.Global g) (Word.Global h) = g == h
-is_same_root _ _ = false
-
--- it is a look at this word
+-- it is a look at this root
 abbrev pub looks_at : Word → Step → Bool
-looks_at x (Step.Look y) = is_same_root x y
-looks_at x _ = false
+looks_at (Word.Reg j r) (Step.Look (Word.Reg k s)) = (j == k) && (r == s)
+looks_at (Word.Global g) (Step.Look (Word.Global h)) = g == h
+looks_at _ _ = false
 
 -- it is a look at a root
 abbrev pub looks_at_root : Step → Bool
@@ -39,15 +32,9 @@ looks_at_root _ = false
 abbrev pub LooksAt : Word → PassState → PassState → Type 0
 LooksAt x p q = list_any (λ (f : Finding). looks_at x f.event.step) (done_since p q) ≡ true
 
--- Each value that its looks found in roots points well now.
-
 -- what the look found points well now
 abbrev pub found_well : ℕ → Words → Finding → Bool
 found_well pages w f = not (looks_at_root f.event.step) || points_well pages w f.found
-
--- So does all that was found at roots.
-abbrev pub FoundPointsWell : PassState → PassState → Type 0
-FoundPointsWell p q = list_all (found_well p.table.config.pages (now_of q).words) (done_since p q) ≡ true
 
 -- Its marks are of what stood in a root, or in a cell that was marked.
 abbrev pub MarksReachedAlone : PassState → PassState → Type 0
@@ -64,12 +51,12 @@ pub record IsBeside (p : PassState) : Type 0 where
   pub free : IsFreeForCycle p
   pub marking : IsAtPhase p 1
 
--- From one to the other its holder looked, marked, and held or opened gates.
+-- From one to the other its holder looked, marked, and held or opened gates. What it found at roots points well.
 pub record MarksBeside (p q : PassState) : Type 0 where
   pub does : Does begins_marking p q
   pub keeps : LeavesTurn unchanged p q
   pub reached : MarksReachedAlone p q
-  pub found : FoundPointsWell p q
+  pub found : list_all (found_well p.table.config.pages (now_of q).words) (done_since p q) ≡ true
   pub well : StaysWell p q
 
 -- The same of a turn.
@@ -103,13 +90,6 @@ IsOpenToLook p x = (k r : ℕ) → x ≡ Word.Reg k r → IsHeldOrOwn p k
 abbrev pub KeepsOtherGates : ℕ → PassState → PassState → Type 0
 KeepsOtherGates caller p q =
     (j : ℕ) → j < p.table.config.callers → j ≢ caller → is_held (now_of q).words j ≡ is_held (now_of p).words j
-
--- On these words, beside the callers, the gate of this other caller may be held or opened.
-pub record MaySetGate (w : WordsState) (p : PassState) (caller : ℕ) : Type 0 where
-  pub one_table : p.table ≡ w
-  pub beside : IsBeside p
-  pub within : caller < w.config.callers
-  pub another : is_number_of p.seat caller ≡ false
 
 -- The turn went on, and this gate is held then, or not. The others are as they were.
 pub record SetsGate (caller : ℕ) (held : Bool) (t u : TurnState) : Type 0 where

@@ -6,12 +6,10 @@ use Rattle.mk_core.specs.{History.World, declared.{events.Word.Word, seats.Fligh
 use Rattle.mk_core.specs.{declared.{seats.Stage.Stage, events.Step.Step}, Words.phase_of, Cycles.MarksAreClosed}
 use Rattle.mk_words.specs.{States.{PassState, WordsState, world_of, now_of, call_of}, Below.Laws.Theorems.has_place}
 use Rattle.mk_words.specs.Steps.{Does, count_done, IsEnabledTo, Makes}
-use Rattle.mk_cycle.specs.TurnKeeps.{is_want, begins_marking, closes_marks, LeavesTurn, KeepsGates, IsGone, unchanged}
-use Rattle.mk_cycle.specs.TurnKeeps.{but_phase}
+use Rattle.mk_cycle.specs.{TurnKeeps.{is_want, LeavesTurn, IsGone, but_phase}, Tracing.is_tracing}
 
--- Whether a cycle that a free begins goes on after the call, and whether they make sweeping marks; what they do
--- directly after a `begin`; what a value promises of the world in which it closed marks last, and what it did in that
--- stop.
+-- Whether a cycle that a free begins goes on after the call, and whether they make sweeping marks; what they do after a
+-- `begin`; what a value says of the world in which it closed marks last, and what it did in that stop.
 pub record Ways (V : Type 0) : Type 1 where
   pub on : Bool
   pub sweeps : Bool
@@ -29,8 +27,7 @@ is_pending_free_at _ _ = false
 abbrev pub is_pending_free : Flight → Bool
 is_pending_free f = is_pending_free_at f.op f.stage
 
--- A turn is free for a cycle: it is not for an undecided Free, no place of its New is under way, and the run of a large
--- Free that it decided is unmapped and wiped.
+-- The turn is for no undecided Free, no place of its New is under way, and the run that it freed is unmapped and wiped.
 pub record IsFreeForCycle (p : PassState) : Type 0 where
   pub decided : is_pending_free (call_of p) ≡ false
   pub unplaced : has_place (now_of p).seats.holding.placing ≡ false
@@ -51,12 +48,6 @@ pub record IsTurnAmong (n : ℕ) (w : WordsState) (p : PassState) (pages : ℕ) 
   pub is_turn : IsTurnAt n w p
   pub count : pages ≡ w.config.pages
 
--- What an engine does in `begin`: it looks, marks, and holds gates that it opens again.
-pub record BeginsMarking (p q : PassState) : Type 0 where
-  pub does : Does begins_marking p q
-  pub keeps : LeavesTurn unchanged p q
-  pub gates : KeepsGates p q
-
 -- Before all else that it does it wants the close.
 pub record WantsFirst (p q : PassState) : Type 0 where
   pub wanted : PassState
@@ -66,7 +57,7 @@ pub record WantsFirst (p q : PassState) : Type 0 where
 
 -- What it does in `close_marks`: it wants the close, first and once, and then it may close, with all marks closed.
 pub record ClosesMarks (p q : PassState) : Type 0 where
-  pub does : Does closes_marks p q
+  pub does : Does is_tracing p q
   pub wants : WantsFirst p q
   pub one_want : count_done is_want does ≡ 1
   pub keeps : LeavesTurn but_phase p q

@@ -64,15 +64,12 @@ pub record FinishesCycle (p q : PassState) : Type 0 where
   pub exact : TalliesAreExact p.table.config p.seen → TalliesAreExact q.table.config q.seen
   pub tidy : TalliesAreTidy p.table.config p.seen → TalliesAreTidy q.table.config q.seen
 
--- the allocation was released in between
-abbrev pub is_newly_released : PlacedAllocation → PlacedAllocation → Bool
-is_newly_released before behind = not before.released && behind.released
-
 -- the allocations that are released in the second list, which is as long, and weren't in the first
 abbrev pub newly_released : List PlacedAllocation → List PlacedAllocation → List PlacedAllocation
 newly_released [] _ = []
 newly_released _ [] = []
-newly_released (a ∷ xs) (b ∷ ys) = if is_newly_released a b then b ∷ newly_released xs ys else newly_released xs ys
+newly_released (a ∷ xs) (b ∷ ys) =
+    if not a.released && b.released then b ∷ newly_released xs ys else newly_released xs ys
 
 -- While a cycle marks, its snapshot is what is freed and unreleased, but not since its `begin`.
 abbrev pub is_in_snapshot_of_cycle : PlacedAllocation → Bool

@@ -34,14 +34,7 @@ abbrev pub sum_below : ℕ → (ℕ → ℕ) → ℕ
 sum_below zero f = 0
 sum_below (suc n) f = sum_below n f + f n
 
--- the cells of a page that are in the snapshot and marked, as bits
-abbrev pub left_marked : Words → ℕ → ℕ
-left_marked w p = bit_and (slice_index w.snapshot p) (slice_index w.marks p)
-
--- how many cells of a page are left unmarked, the words of these, how many of them are held, and how many cells are
--- marked
-
--- the cells of a page that are in the snapshot and not marked
+-- how many cells of a page are in the snapshot and not marked
 abbrev pub cells_unmarked : Words → ℕ → ℕ
 cells_unmarked w p = count_ones (left_unmarked w p)
 
@@ -53,11 +46,9 @@ words_unmarked w p = cells_unmarked w p * words_under (header_in w p)
 abbrev pub held_unmarked : Words → ℕ → ℕ
 held_unmarked w p = if is_unmapped_header (header_in w p) then 0 else words_unmarked w p
 
--- the cells that are in the snapshot and marked
+-- how many cells of a page are in the snapshot and marked
 abbrev pub cells_marked : Words → ℕ → ℕ
-cells_marked w p = count_ones (left_marked w p)
-
--- on one page, and on the first pages, of this many
+cells_marked w p = count_ones (bit_and (slice_index w.snapshot p) (slice_index w.marks p))
 
 -- what a page's release comes to
 abbrev pub released_on : Words → ℕ → Released
@@ -97,7 +88,7 @@ but_pages s = record s { pages = []; freed = []; snapshot = []; fresh_words = 0 
 abbrev pub IsUnmapped : PassState → ℕ → Type 0
 IsUnmapped p n = IsWordOfMapped p.table.config (world_of p).allocations n → ⊥
 
--- and lies in the heap
+-- The word lies in the heap, and no mapped allocation has it.
 pub record IsUnmappedWord (p : PassState) (n : ℕ) : Type 0 where
   pub within : n < 64 * p.table.config.pages
   pub unmapped : IsUnmapped p n
@@ -143,8 +134,7 @@ pub record FreesPage (page : ℕ) (p q : PassState) : Type 0 where
   pub frees : Frees p q
   pub others : (r : ℕ) → r ≢ page → SamePage p q r
 
--- The words of these cells of the page, by its header word, are those of no mapped allocation, and those of an unmapped
--- run are 0: its Free has wiped them.
+-- The words of these cells, by the page's header word, are of no mapped allocation, and those of an unmapped run are 0.
 pub record AreFreeCells (p : PassState) (page header cells : ℕ) : Type 0 where
   pub unmapped : (k i : ℕ) → has_bit cells k ≡ true → i < words_under (header_of header)
       → IsUnmappedWord p (64 * page + k * words_under (header_of header) + i)
@@ -155,8 +145,7 @@ pub record AreFreeCells (p : PassState) (page header cells : ℕ) : Type 0 where
 abbrev pub HasFreeCells : PassState → ℕ → Type 0
 HasFreeCells p page = AreFreeCells p page (header_at (now_of p).words page) (left_unmarked (now_of p).words page)
 
--- A turn on these words, which have this many pages, may give back the released cells of this one, whose header word is
--- this.
+-- A turn on these words, of so many pages, may give back the released cells of this one, which has this header word.
 pub record MayGiveBackOn (w : WordsState) (p : PassState) (pages page header : ℕ) : Type 0 where
   pub turn : IsTurnAmong 4 w p pages
   pub within : page < w.config.pages
@@ -174,8 +163,7 @@ pub record GivesBack (page : ℕ) (p q : PassState) : Type 0 where
   pub header : header_at (now_of q).words page ≡ header_at (now_of p).words page
   pub none_left : left_unmarked (now_of q).words page ≡ 0
 
--- On such a turn this was done on the page, and on the pages before it: no released cell is left on it, or at the head
--- of its run.
+-- On such a turn this was done on the page and those before it: none is left on it, or at the head of its run.
 pub record HasGivenBackOn (w : WordsState) (p : PassState) (pages page header : ℕ) : Type 0 where
   pub turn : IsTurnAmong 4 w p pages
   pub within : page < w.config.pages

@@ -10,7 +10,7 @@ use Rattle.mk_core.specs.{Cycles.{is_unmarked, sweeps}, Frames.OnlyGrow, Moments
 use Rattle.mk_core.specs.{MarkingConditions.marks_by_hand, declared.events.Word.Word}
 use Rattle.mk_words.specs.{States.{PassState, TurnState, now_of}, TurnSteps.IsStopped}
 use Rattle.mk_cycle.specs.{Stops.{HolderIsLoaded, IsWanted, hand_of, still_words}, Tracing.{Counted, Traces}}
-use Rattle.mk_cycle.specs.{Tracing.{is_marking, is_waiting, is_want}, declared.noted.Noted.Noted}
+use Rattle.mk_cycle.specs.{Tracing.{is_marking, is_waiting}, TurnKeeps.is_want, declared.noted.Noted.Noted}
 use Rattle.mk_cycle.specs.declared.worklist.Worklist.{Worklist}
 
 -- the cell is black
@@ -60,8 +60,7 @@ pub record LooksOn (t u : TurnState) : Type 0 where
   pub on : MarksOn t u
   pub words : still_words u.pass ≡ still_words t.pass
 
--- The close is wanted, by this many steps between, and the holder looks until no marker is in, while the gates of all
--- others are held. All else is as it was.
+-- The close is wanted, by so many steps, and the holder looks until no marker is in, while the other gates are held.
 pub record WaitsForMarkers (t u : TurnState) (wishes : ℕ) : Type 0 where
   pub table : u.pass.table ≡ t.pass.table
   pub ready : HolderIsLoaded u.pass
@@ -81,8 +80,6 @@ pub record HandPointsInto (p : PassState) (cell : Cell) : Type 0 where
   pub value : ℕ
   pub in_hand : IsInHand p value
   pub points : pointed_cell p.table.config.pages (still_words p).pages value ≡ Some cell
-
--- The words with one of them changed: a page's mark or black word gets bits, or its black or dirty word is cleared.
 
 -- the words, with these bits marked
 abbrev pub with_marks : ℕ → ℕ → Words → Words
@@ -124,26 +121,14 @@ gray_bits w p = without (slice_index w.marks p) (slice_index w.blacks p)
 abbrev pub HasNoGray : Words → ℕ → Type 0
 HasNoGray w p = without (bit_and (slice_index w.marks p) (cell_bits w p)) (slice_index w.blacks p) ≡ 0
 
--- Of a page with this many cells, each that is marked is black.
-abbrev pub AllAreBlack : ℕ → ℕ → ℕ → Type 0
-AllAreBlack count marks blacks = (k : ℕ) → k < count → has_bit marks k ≡ true → has_bit blacks k ≡ true
-
--- What a caller's registers were points well now, and so does what a global was.
-
--- All registers of the caller point well.
+-- What the caller's registers were points well now.
 abbrev pub RegistersAreWell : Config → PassState → PassState → ℕ → Type 0
 RegistersAreWell c p q k =
     (r : ℕ) → r < 8 → points_well c.pages (still_words q) (register_word (still_words p) k r) ≡ true
 
--- The global points well.
+-- What the global was points well now.
 abbrev pub GlobalIsWell : Config → PassState → PassState → ℕ → Type 0
 GlobalIsWell c p q g = points_well c.pages (still_words q) (slice_index (still_words p).globals g) ≡ true
-
--- What a word of a cell was points well now.
-abbrev pub WordIsWell : ℕ → PassState → PassState → Cell → ℕ → Type 0
-WordIsWell pages p q cell i =
-    points_well pages (still_words q)
-    (slice_index (still_words p).heap (first_word (still_words p) cell + i)) ≡ true
 
 -- Each register and each global points well.
 pub record RootsPointWell (pages : ℕ) (w : Words) : Type 0 where
@@ -247,4 +232,5 @@ pub record MarksAndNotes (pages : ℕ) (t : TurnState) (had : Notes) (u : TurnSt
 pub record Scans (pages : ℕ) (t : TurnState) (had : Notes) (u : TurnState) (has : Notes) (cell : Cell)
     (from end : ℕ) : Type 0 where
   pub marks : MarksAndNotes pages t had u has
-  pub well : (i : ℕ) → from ≤ i → i < end → WordIsWell pages t.pass u.pass cell i
+  pub well : (i : ℕ) → from ≤ i → i < end → points_well pages (still_words u.pass)
+      (slice_index (still_words t.pass).heap (first_word (still_words t.pass) cell + i)) ≡ true

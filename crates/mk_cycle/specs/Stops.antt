@@ -9,8 +9,6 @@ use Rattle.mk_words.specs.States.{PassState, WordsState, now_of, call_of, TurnSt
 use Rattle.mk_words.specs.{TurnSteps.{IsStopped, Acts}, Steps.Does, Sweeping.SweepsNothing}
 use Rattle.mk_cycle.specs.{TurnKeeps.{holds_gates, LeavesTurn, unchanged}, FinishCycle.MakesRelease}
 
--- A caller's New or Free has loaded what it loads, so that any step of a holder may come.
-
 -- a stage at which a Free's register was loaded
 abbrev pub is_loaded_at : Stage → Bool
 is_loaded_at Stage.Turn = true
@@ -74,8 +72,6 @@ pub data HoldsSuch (such : ℕ → Bool) (t : TurnState) : TurnState → Type 0 
   then_tries : {u v : TurnState} (j : ℕ) → such j ≡ true → HoldsSuch such t u → Acts u.pass (Step.Hold j) v.pass
       → HoldsSuch such t v
 
--- this gate, and those of all other callers
-
 -- only this caller's gate
 abbrev pub only_gate : ℕ → ℕ → Bool
 only_gate caller j = j == caller
@@ -84,10 +80,10 @@ only_gate caller j = j == caller
 abbrev pub all_others : Seat → ℕ → Bool
 all_others s j = not (is_number_of s j)
 
--- The holder's call has loaded what it loads, so it may hold gates. This one is another caller's.
-pub record MayHoldGate (w : WordsState) (p : PassState) (caller : ℕ) : Type 0 where
+-- On these words the pass stands so, and this gate is another caller's.
+pub record IsForGate (at : PassState → Type 0) (w : WordsState) (p : PassState) (caller : ℕ) : Type 0 where
   pub one_table : p.table ≡ w
-  pub ready : HolderIsLoaded p
+  pub ready : at p
   pub within : caller < w.config.callers
   pub another : is_number_of p.seat caller ≡ false
 
@@ -107,19 +103,14 @@ IsToldOf tells p =
     (others : List Event) → AreOfOthers p.seats others → IsHistory p.table.config (p.seen ++ others)
     → tells p.table.config (left p.table.config (p.seen ++ others))
 
--- It is said of the world in which the pass closed the marks of a cycle, from what the one had seen to what the other
--- has seen.
+-- It is said of the world in which the pass closed the marks of a cycle, between the two passes.
 pub record IsToldAtClose (tells : Config → World → Type 0) (p q : PassState) : Type 0 where
   pub before : List Event
   pub behind : List Event
   pub is : q.seen ≡ p.seen ++ before ++ event_of p Step.Close ∷ behind
   pub told : tells p.table.config (left p.table.config (p.seen ++ before))
 
--- What an engine does in the stop, up to the `close`: it is said of the pass that held the gates, and of the one that
--- may close.
-
--- From what the one pass had seen to what the other has seen gates were held, then the engine did this, and then came
--- the `close` and the `release`.
+-- Gates were held, then the engine did this until it may close, and then came the `close` and the `release`.
 pub record IsClosedBy (closes : PassState → PassState → Type 0) (p q : PassState) : Type 0 where
   pub held : PassState
   pub released : PassState

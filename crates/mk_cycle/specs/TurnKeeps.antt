@@ -1,9 +1,13 @@
 -- The kinds of step that the parts of a cycle are made of, and what the turn's holder finds unchanged over each part.
-use Rattle.std.specs.Prelude.{Bool, true, false, ◌≡◌, ℕ, ◌<◌, [], Option}
-use Rattle.mk_core.specs.declared.{events.Step.Step, seats.{Placing.Placing, OwnCycle.OwnCycle}}
-use Rattle.mk_core.specs.{declared.seats.RunPages.RunPages, Frames.{Steady, steady_of, CountsAreLeft}}
-use Rattle.mk_core.specs.{Moments.{Moment, is_held}, NewPlaces.is_run_gone, declared.events.Word.Word}
-use Rattle.mk_words.specs.States.{PassState, world_of, now_of, call_of}
+use Rattle.std.specs.Prelude.{Bool, true, false, ◌≡◌, ℕ, ◌<◌, [], None}
+use Rattle.mk_core.specs.{Frames.{Steady, steady_of, CountsAreLeft}, Moments.{Moment, is_held}, NewPlaces.is_run_gone}
+use Rattle.mk_core.specs.{declared.events.Step.Step, declared.events.Word.Word, declared.seats.Holding.Holding}
+use Rattle.mk_words.specs.{States.{PassState, world_of, now_of, call_of}, Steps.Does}
+
+-- it is a look
+abbrev pub is_look : Step → Bool
+is_look (Step.Look x) = true
+is_look _ = false
 
 -- it is a `want`
 abbrev pub is_want : Step → Bool
@@ -17,16 +21,6 @@ begins_marking (Step.Hold j) = true
 begins_marking (Step.Open j) = true
 begins_marking (Step.Mark p v) = true
 begins_marking _ = false
-
--- what it does up to a `close`
-abbrev pub closes_marks : Step → Bool
-closes_marks (Step.Look x) = true
-closes_marks Step.Want = true
-closes_marks (Step.Mark p v) = true
-closes_marks (Step.Undirty p) = true
-closes_marks (Step.Black p v) = true
-closes_marks (Step.Unblack p) = true
-closes_marks _ = false
 
 -- before a `begin`: the marks of the cycle before are cleared, the snapshot is taken, and nothing is fresh
 abbrev pub clears : Step → Bool
@@ -62,22 +56,14 @@ sets_tallies (Step.Tally n v) = true
 sets_tallies _ = false
 
 -- what was done in the turn, but for the last look: the place of a New, the run that a Free freed, and the own cycle
-pub record Done : Type 0 where
-  pub placing : Placing
-  pub freed : Option RunPages
-  pub cycle : OwnCycle
-
--- what the turn's holder has done in its call
-abbrev pub done_of : Moment → Done
-done_of m =
-    record { placing = m.seats.holding.placing; freed = m.seats.holding.freed; cycle = m.seats.holding.cycle }
+abbrev pub done_of : Moment → Holding
+done_of m = record m.seats.holding { hand = None }
 
 -- The run that the call freed, if it freed one, is unmapped and wiped.
 abbrev pub IsGone : PassState → Type 0
 IsGone p = is_run_gone (now_of p).words (now_of p).seats.holding.freed ≡ true
 
--- The holder is at the same point of its call, and has done as much in its turn. No cycle has ended and no call was
--- answered Full.
+-- The holder is at the same point of its call, and has done as much in its turn.
 pub record KeepsCall (p q : PassState) : Type 0 where
   pub pass : q ≡ record p { seen = q.seen }
   pub call : call_of q ≡ call_of p
@@ -94,16 +80,20 @@ pub record LeavesTurn (view : Steady → Steady) (p q : PassState) : Type 0 wher
 abbrev pub KeepsGates : PassState → PassState → Type 0
 KeepsGates p q = (j : ℕ) → j < p.table.config.callers → is_held (now_of q).words j ≡ is_held (now_of p).words j
 
--- views
-
--- nothing changes
+-- the view that shows all
 abbrev pub unchanged : Steady → Steady
 unchanged s = s
 
--- only the phase changes, to 0
+-- the view that leaves the phase out
 abbrev pub but_phase : Steady → Steady
 but_phase s = record s { phase = 0 }
 
--- without what is made ready for a `begin`: the snapshot, and the counts of what is fresh
+-- the view without what is made ready for a `begin`: the snapshot, and the counts of what is fresh
 abbrev pub but_cleaned : Steady → Steady
 but_cleaned s = record s { snapshot = []; fresh = 0; fresh_words = 0 }
+
+-- The holder did only such steps, and left all else as it was.
+pub record OnlyDoes (kinds : Step → Bool) (p q : PassState) : Type 0 where
+  pub does : Does kinds p q
+  pub keeps : LeavesTurn unchanged p q
+  pub gates : KeepsGates p q

@@ -1,7 +1,7 @@
 //! The beginning of a cycle.
-ghost use Rattle.std.specs.Prelude.{◌≡◌, false};
+ghost use Rattle.std.specs.Prelude.{◌≡◌, false, true};
 ghost use Rattle.mk_words.specs.Sweeping.{SweepsNothing};
-ghost use Rattle.mk_cycle.specs.BeginCycle.{BeginsCycle, EachIsBegunYet, IsBegunLast};
+ghost use Rattle.mk_cycle.specs.BeginCycle.{BeginsCycle, EachIsBegun, IsBegunLast};
 ghost use Rattle.mk_cycle.specs.EngineLaw.{IsFreeForCycle, IsAtPhase};
 
 use crate::cleaning::clean_pages;
@@ -25,7 +25,7 @@ pub fn begin_cycle<E: Engine, R: Threads + Wait + Sync>(
     ensures made_for { E.made_for engine.new ≡ E.made_for engine.old }
     ensures law { BeginsCycle turn.old.pass turn.new.pass }
     ensures reached { E.ways.sweeps ≡ false → SweepsNothing turn.old.pass turn.new.pass }
-    ensures begun { EachIsBegunYet E.ways.begins turn.old.pass turn.new.pass }
+    ensures begun { EachIsBegun true E.ways.begins turn.old.pass turn.new.pass }
     ensures last { IsBegunLast E.ways.begins turn.old.pass turn.new.pass }
 {
     clean_pages(turn, words);

@@ -1,7 +1,7 @@
 //! What comes before a cycle's `begin`: the marks of the cycle before are cleared, and the snapshot is taken. Free
 //! pages that may be marked are looked at, and then the pages in use, once each. A word that has the right value
 //! already isn't stored to.
-ghost use Rattle.std.specs.Prelude.{◌≡◌, ◌≢◌, ◌<◌, ℕ, true, false};
+ghost use Rattle.std.specs.Prelude.{◌≡◌, ◌≢◌, ◌<◌, ◌≤◌, ℕ, true, false};
 ghost use Rattle.mk_core.specs.{Conditions.is_word, Words.{header_at, named_word}};
 ghost use Rattle.mk_words.specs.{PageMaps.HasNoMarks, States.now_of};
 ghost use Rattle.mk_cycle.specs.BeginCycle.{Cleans, IsUnmarked, IsUnscanned, HasTakenSnapshot, IsReadyPage, WasUndirty};
@@ -153,7 +153,21 @@ fn clean_free_pages(turn: &mut Turn, words: &Words)
     }
 }
 
-/// Clears what is left of the cycle before on pages in use, and takes their snapshots. Nothing is on the others.
+/// Clears what is left of the cycle before on the pages from one on and below another, and takes their snapshots.
+#[inline(always)]
+fn clean_range(turn: &mut Turn, words: &Words, pages: u64, from: u64, end: u64)
+    requires turn { IsTurnAmong 0 words.now turn.old.pass pages }
+    requires within { end ≤ words.now.config.pages }
+    ensures cleans { Cleans turn.old.pass turn.new.pass }
+    ensures ready { (page : ℕ) → from ≤ page → page < end → IsReadyPage page turn.old.pass turn.new.pass }
+{
+    for page in from..end {
+        clean_page(turn, words, pages, page);
+    }
+}
+
+/// Clears what is left of the cycle before on pages in use, and takes their snapshots. Nothing is on the others. First
+/// fit leaves few free pages between others, so it goes from one range of pages in use to the next.
 #[inline(always)]
 fn clean_pages_in_use(turn: &mut Turn, words: &Words)
     requires turn { IsTurnAt 0 words.now turn.old.pass }
@@ -166,8 +180,9 @@ fn clean_pages_in_use(turn: &mut Turn, words: &Words)
     let pages = words.pages();
     let mut from = 0;
     while let Some(page) = turn.next_in_use(from) {
-        clean_page(turn, words, pages, page);
-        from = page + 1;
+        let end = turn.next_free(page + 1).unwrap_or(pages);
+        clean_range(turn, words, pages, page, end);
+        from = end;
     }
 }
 

@@ -4,7 +4,7 @@ ghost use Rattle.mk_core.specs.{Cycles.MarksAreClosed, Words.phase_of};
 ghost use Rattle.mk_words.specs.{States.{now_of, world_of}, Steps.IsEnabledTo};
 ghost use Rattle.mk_cycle.specs.{EngineLaw.WantsFirst, Grays.{HasNoGray, MarksOn, RootsPointWell, TracesReached}};
 ghost use Rattle.mk_cycle.specs.Stops.{HolderIsLoaded, IsWanted, MayTrace, still_words};
-ghost use Rattle.mk_cycle.specs.Tracing.{Counted, is_tracing, is_want};
+ghost use Rattle.mk_cycle.specs.{Tracing.{Counted, is_tracing}, TurnKeeps.is_want};
 ghost use Rattle.mk_core.specs.declared.events.Step.TheVariants as step;
 
 use crate::dirty::clean_dirty;

@@ -14,6 +14,15 @@ use crate::turn_steps::look_among;
 use mk_core::{Word, without};
 use mk_words::{Turn, Words};
 
+/// How many bits of a word are 1. It isn't inlined, so that who mostly needn't count them doesn't.
+#[inline(never)]
+fn count_more(word: u64) -> u64
+    ensures exact { result ≡ count_ones word }
+    ensures few { result ≤ 64 }
+{
+    u64::from(word.count_ones())
+}
+
 /// How many bits of a word are 1. Most snapshots have one cell, the first, of which none is marked.
 #[inline(always)]
 fn count_bits(word: u64) -> u64
@@ -23,7 +32,7 @@ fn count_bits(word: u64) -> u64
     if word < 2 {
         return word;
     }
-    u64::from(word.count_ones())
+    count_more(word)
 }
 
 /// What the words of a page say: its released cells, their words, and its marked cells of the snapshot.

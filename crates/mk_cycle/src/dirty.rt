@@ -1,6 +1,6 @@
 //! Dirty pages: their black words are cleared, so that their cells are scanned again, and then their dirty words. A
 //! word that is 0 isn't stored to.
-ghost use Rattle.std.specs.Prelude.{◌≡◌, ◌≢◌, ℕ, ◌<◌, true, false, slice_index};
+ghost use Rattle.std.specs.Prelude.{◌≡◌, ◌≢◌, ℕ, ◌<◌, ◌≤◌, true, false, slice_index};
 ghost use Rattle.mk_cycle.specs.Grays.{BlacksFewer, HasDirtyPart, IsCleaner, IsUnmarked, DirtyIsUnscanned, MarksOn};
 ghost use Rattle.mk_cycle.specs.{Grays.without_blacks, Stops.{MayTrace, still_words}};
 
@@ -59,8 +59,27 @@ fn clean_if_dirty(table: Table, stop: &mut Stopped, page: u64)
     }
 }
 
-/// Clears all dirty words. The cells of dirty pages, and the runs with such a page, are scanned again. It goes from
-/// page in use to page in use: no free page is dirty. Returns true only if no cell is marked.
+/// Clears the dirty words of the pages from one on and below another. Returns the marks of all of them, each of whose
+/// bits is 1 if it is so on one of the pages.
+#[inline(always)]
+fn clean_range(table: Table, stop: &mut Stopped, from: u64, end: u64) -> u64
+    requires may { MayTrace table.words.now stop.old.pass }
+    requires within { end ≤ table.pages }
+    ensures on { MarksOn stop.old stop.new }
+    ensures fewer { IsCleaner (still_words stop.old.pass) (still_words stop.new.pass) }
+    ensures clean { (p : ℕ) → from ≤ p → p < end → slice_index (still_words stop.new.pass).dirty p ≡ 0 }
+    ensures unmarked { result ≡ 0 → (p : ℕ) → from ≤ p → p < end → IsUnmarked (still_words stop.new.pass) p }
+{
+    let mut marks = 0;
+    for page in from..end {
+        clean_if_dirty(table, stop, page);
+        marks |= look_at(table, stop, Word::Mark(page));
+    }
+    marks
+}
+
+/// Clears all dirty words. The cells of dirty pages, and the runs with such a page, are scanned again. It goes from one
+/// range of pages in use to the next: no free page is dirty. Returns true only if no cell is marked.
 pub(crate) fn clean_dirty(table: Table, stop: &mut Stopped) -> bool
     requires may { MayTrace table.words.now stop.old.pass }
     ensures on { MarksOn stop.old stop.new }
@@ -70,9 +89,9 @@ pub(crate) fn clean_dirty(table: Table, stop: &mut Stopped) -> bool
     let mut marks = 0;
     let mut from = 0;
     while let Some(page) = stop.next_in_use(from) {
-        clean_if_dirty(table, stop, page);
-        marks |= look_at(table, stop, Word::Mark(page));
-        from = page + 1;
+        let end = stop.next_free(page + 1).unwrap_or(table.pages);
+        marks |= clean_range(table, stop, page, end);
+        from = end;
     }
     marks == 0
 }

@@ -1,8 +1,8 @@
 //! Engines: how the marks of a cycle are made.
 ghost use Rattle.std.specs.Prelude.{◌≡◌, ℕ, false, IfOk};
 ghost use Rattle.mk_words.specs.Sweeping.{SweepsNothing};
-ghost use Rattle.mk_cycle.specs.{BeginCycle.IsBegun, EngineLaw.{IsFreeForCycle, IsAtPhase, BeginsMarking, ClosesMarks}};
-ghost use Rattle.mk_cycle.specs.{Stops.IsToldOf, EngineLaw.Ways};
+ghost use Rattle.mk_cycle.specs.{BeginCycle.IsBegun, EngineLaw.{IsFreeForCycle, IsAtPhase, ClosesMarks, Ways}};
+ghost use Rattle.mk_cycle.specs.{TurnKeeps.{OnlyDoes, begins_marking}, Stops.IsToldOf};
 
 use mk_never::NoMemory;
 use mk_words::{Stopped, Turn, Words};
@@ -34,7 +34,7 @@ pub trait Engine: Drop {
         requires marking { IsAtPhase turn.old.pass 1 }
         requires free { IsFreeForCycle turn.old.pass }
         ensures made_for { made_for self.new ≡ made_for self.old }
-        ensures law { BeginsMarking turn.old.pass turn.new.pass }
+        ensures law { OnlyDoes begins_marking turn.old.pass turn.new.pass }
         ensures reached { ways.sweeps ≡ false → SweepsNothing turn.old.pass turn.new.pass }
         ensures begun { IsBegun ways.begins turn.old.pass turn.new.pass };
 

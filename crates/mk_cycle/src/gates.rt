@@ -1,9 +1,9 @@
 //! The gates of other callers. Each is held once its caller is in no call: one that is in a call is waited for.
 ghost use Rattle.std.specs.Prelude.{◌≡◌, ◌<◌, true, false, not};
-ghost use Rattle.mk_core.specs.Moments.{is_held, is_number_of, others_are_held};
+ghost use Rattle.mk_core.specs.Moments.{is_held, others_are_held};
 ghost use Rattle.mk_words.specs.States.{now_of};
-ghost use Rattle.mk_cycle.specs.Stops.{HoldsGates, HoldsSuch, IsHeldOrOwn, MayHoldGate, all_others, only_gate};
-ghost use Rattle.mk_cycle.specs.Stops.{HolderIsLoaded};
+ghost use Rattle.mk_cycle.specs.Stops.{HoldsGates, HoldsSuch, IsHeldOrOwn, all_others, only_gate, HolderIsLoaded};
+ghost use Rattle.mk_cycle.specs.Stops.{IsForGate};
 
 use crossbeam_utils::Backoff;
 use mk_core::{Gate, Word};
@@ -13,7 +13,7 @@ use std::sync::Wait;
 /// Holds a gate that isn't held, once its caller is in no call. A call is short, so who waits for its end yields and
 /// doesn't sleep.
 fn wait_and_hold<R: Wait>(rt: &R, words: &Words, turn: &mut Turn, caller: u64)
-    requires may { MayHoldGate words.now turn.old.pass caller }
+    requires may { IsForGate HolderIsLoaded words.now turn.old.pass caller }
     requires not_held { is_held (now_of turn.old.pass).words caller ≡ false }
     ensures steps { HoldsSuch (only_gate caller) turn.old turn.new }
     ensures held { is_held (now_of turn.new.pass).words caller ≡ true }
@@ -30,7 +30,7 @@ fn wait_and_hold<R: Wait>(rt: &R, words: &Words, turn: &mut Turn, caller: u64)
 
 /// Holds the gate of another caller. Returns whether it wasn't held before.
 pub(crate) fn hold_gate<R: Wait>(rt: &R, words: &Words, turn: &mut Turn, caller: u64) -> bool
-    requires { MayHoldGate words.now turn.old.pass caller }
+    requires { IsForGate HolderIsLoaded words.now turn.old.pass caller }
     ensures steps { HoldsSuch (only_gate caller) turn.old turn.new }
     ensures held { is_held (now_of turn.new.pass).words caller ≡ true }
     ensures was { is_held (now_of turn.old.pass).words caller ≡ not result }

@@ -1,8 +1,9 @@
 //! The engine that marks beside the callers, and then in the stop what is left.
 ghost use Rattle.std.specs.Prelude.{◌≡◌, true, false, ⊤};
-ghost use Rattle.mk_cycle.specs.{BeginCycle.IsBegun, EngineLaw.{IsFreeForCycle, IsAtPhase, BeginsMarking, ClosesMarks}};
+ghost use Rattle.mk_cycle.specs.{BeginCycle.IsBegun, EngineLaw.{IsFreeForCycle, IsAtPhase, ClosesMarks}};
+ghost use Rattle.mk_cycle.specs.{TurnKeeps.{OnlyDoes, begins_marking}, Grays.TracesReached};
+ghost use Rattle.mk_cycle.specs.{Tracing.{Traces, is_tracing}, Beside.MarksRoots};
 ghost use Rattle.mk_words.specs.Sweeping.{SweepsNothing};
-ghost use Rattle.mk_cycle.specs.{Grays.TracesReached, Tracing.{Traces, is_tracing}, Beside.MarksRoots};
 
 use crate::engine::Engine;
 use crate::roots_beside::mark_roots;
@@ -47,7 +48,7 @@ impl Engine for MostlyEngine {
         requires marking { IsAtPhase turn.old.pass 1 }
         requires free { IsFreeForCycle turn.old.pass }
         ensures made_for { self.new.pages ≡ self.old.pages }
-        ensures law { BeginsMarking turn.old.pass turn.new.pass }
+        ensures law { OnlyDoes begins_marking turn.old.pass turn.new.pass }
         ensures reached { SweepsNothing turn.old.pass turn.new.pass }
         ensures begun { IsBegun MarksRoots turn.old.pass turn.new.pass }
     {

@@ -1,10 +1,9 @@
 //! Marks from the roots beside the callers: their registers, and the globals. What a root points into is marked before
 //! the next one is looked at.
-ghost use Rattle.std.specs.Prelude.{◌≡◌, ◌<◌, ℕ, true, false};
+ghost use Rattle.std.specs.Prelude.{◌≡◌, ◌<◌, ℕ, true};
 ghost use Rattle.mk_core.specs.Conditions.{is_word};
-ghost use Rattle.mk_cycle.specs.{BeginCycle.IsBegun, Stops.IsHeldOrOwn, TurnKeeps.KeepsGates};
-ghost use Rattle.mk_cycle.specs.{Stops.is_root, Beside.{GoesBeside, IsBeside, IsOpenToLook, LooksAt, MaySetGate}};
-ghost use Rattle.mk_cycle.specs.Beside.{MarksRoots};
+ghost use Rattle.mk_cycle.specs.{BeginCycle.IsBegun, Stops.{IsHeldOrOwn, is_root, IsForGate}, TurnKeeps.KeepsGates};
+ghost use Rattle.mk_cycle.specs.Beside.{GoesBeside, IsBeside, IsOpenToLook, LooksAt, MarksRoots};
 ghost use Rattle.mk_core.specs.declared.events.Word.TheVariants as word;
 
 use crate::roots::{GLOBALS, REGISTERS};
@@ -47,7 +46,7 @@ fn mark_registers_of(words: &Words, turn: &mut Turn, caller: u64)
 /// Marks what another caller's registers point into. Its gate is held meanwhile, and held after it only if it was
 /// before.
 fn mark_registers_held<R: Wait>(rt: &R, words: &Words, turn: &mut Turn, caller: u64)
-    requires may { MaySetGate words.now turn.old.pass caller }
+    requires may { IsForGate IsBeside words.now turn.old.pass caller }
     ensures on { GoesBeside turn.old turn.new }
     ensures gates { KeepsGates turn.old.pass turn.new.pass }
     ensures looked { (r : ℕ) → r < 8 → LooksAt (word.Reg caller r) turn.old.pass turn.new.pass }

@@ -111,6 +111,27 @@ fn scan_from(
     }
 }
 
+/// Looks at the words of a group of a gray cell, from this one on, which are on this page of the cell, and marks what
+/// they point into. Few groups have a word that points into the heap.
+#[inline(never)]
+fn scan_words(
+    table: Table,
+    stop: &mut Stopped,
+    work: &mut Worklist,
+    gray: Noted,
+    part: u64,
+    first: u64,
+)
+    requires may { MayTrace table.words.now stop.old.pass }
+    requires due { IsDue table.pages (still_words stop.old.pass) gray }
+    requires within { first + 8 ≤ gray.words }
+    requires part { (i : ℕ) → i < 8 → part ≡ (first + i) / 64 }
+    ensures { Scans table.entry.pages stop.old (listed work.old) stop.new (listed work.new) gray.cell first
+        (first + 8) }
+{
+    scan_from(table, stop, work, gray, part, first, GROUP);
+}
+
 /// Looks at the words of a group of a gray cell, which are on this page of the cell, and marks what they point into.
 #[inline(always)]
 fn scan_group(
@@ -132,7 +153,7 @@ fn scan_group(
     if are_before_heap(table, stop, gray, part, first) {
         return;
     }
-    scan_from(table, stop, work, gray, part, first, GROUP);
+    scan_words(table, stop, work, gray, part, first);
 }
 
 /// Looks at each word of the groups of a gray cell that are on one page of it, and marks what it points into.
@@ -149,6 +170,65 @@ fn scan_part(table: Table, stop: &mut Stopped, work: &mut Worklist, gray: Noted,
     for group in first..end {
         scan_group(table, stop, work, gray, part, group);
     }
+}
+
+/// Looks at each word of two groups of a gray cell, which are on this page of the cell, and marks what it points into.
+#[inline(always)]
+fn scan_two_groups(
+    table: Table,
+    stop: &mut Stopped,
+    work: &mut Worklist,
+    gray: Noted,
+    part: u64,
+    group: u64,
+)
+    requires may { MayTrace table.words.now stop.old.pass }
+    requires due { IsDue table.pages (still_words stop.old.pass) gray }
+    requires groups { 8 * group + 16 ≤ gray.words }
+    requires first { part ≡ group / 8 }
+    requires last { part ≡ (group + 1) / 8 }
+    ensures { Scans table.entry.pages stop.old (listed work.old) stop.new (listed work.new) gray.cell (8 * group)
+        (8 * group + 16) }
+{
+    scan_group(table, stop, work, gray, part, group);
+    scan_group(table, stop, work, gray, part, group + 1);
+}
+
+/// Looks at each word of four groups of a gray cell, which are on this page of the cell, and marks what it points into.
+#[inline(always)]
+fn scan_four_groups(
+    table: Table,
+    stop: &mut Stopped,
+    work: &mut Worklist,
+    gray: Noted,
+    part: u64,
+    group: u64,
+)
+    requires may { MayTrace table.words.now stop.old.pass }
+    requires due { IsDue table.pages (still_words stop.old.pass) gray }
+    requires groups { 8 * group + 32 ≤ gray.words }
+    requires first { part ≡ group / 8 }
+    requires last { part ≡ (group + 3) / 8 }
+    ensures { Scans table.entry.pages stop.old (listed work.old) stop.new (listed work.new) gray.cell (8 * group)
+        (8 * group + 32) }
+{
+    scan_two_groups(table, stop, work, gray, part, group);
+    scan_two_groups(table, stop, work, gray, part, group + 2);
+}
+
+/// Looks at each word of a page of a gray cell, and marks what it points into. There is no loop over the groups, so no
+/// count of them is kept, and each word's place on the page is known.
+#[inline(always)]
+fn scan_page(table: Table, stop: &mut Stopped, work: &mut Worklist, gray: Noted, part: u64)
+    requires may { MayTrace table.words.now stop.old.pass }
+    requires due { IsDue table.pages (still_words stop.old.pass) gray }
+    requires page { 64 * part + 64 ≤ gray.words }
+    ensures { Scans table.entry.pages stop.old (listed work.old) stop.new (listed work.new) gray.cell (64 * part)
+        (64 * part + 64) }
+{
+    let group = PAGE_GROUPS * part;
+    scan_four_groups(table, stop, work, gray, part, group);
+    scan_four_groups(table, stop, work, gray, part, group + 4);
 }
 
 /// Looks at each word of a gray cell of at least eight words that is on one page, and marks what it points into.
@@ -176,7 +256,7 @@ fn scan_groups(table: Table, stop: &mut Stopped, work: &mut Worklist, gray: Note
 {
     let last = gray.words / PAGE_WORDS;
     for part in 0..last {
-        scan_part(table, stop, work, gray, part);
+        scan_page(table, stop, work, gray, part);
     }
     scan_part(table, stop, work, gray, last);
     let first = GROUP * (gray.words / GROUP);

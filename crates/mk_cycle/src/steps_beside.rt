@@ -2,9 +2,8 @@
 ghost use Rattle.std.specs.Prelude.{◌≡◌, true, false, not};
 ghost use Rattle.mk_core.specs.{Cells.is_marked, Moments.is_held, Conditions.is_word, Words.named_word};
 ghost use Rattle.mk_words.specs.States.{now_of};
-ghost use Rattle.mk_cycle.specs.TurnKeeps.{KeepsGates};
-ghost use Rattle.mk_cycle.specs.{Grays.{IsInHand, HandPointsInto}, Stops.{hand_of, is_root}};
-ghost use Rattle.mk_cycle.specs.Beside.{FindsInRoot, GoesBeside, IsBeside, IsOpenToLook, MaySetGate, SetsGate};
+ghost use Rattle.mk_cycle.specs.{TurnKeeps.KeepsGates, Grays.{IsInHand, HandPointsInto}, Stops.{hand_of, is_root}};
+ghost use Rattle.mk_cycle.specs.{Stops.IsForGate, Beside.{FindsInRoot, GoesBeside, IsBeside, IsOpenToLook, SetsGate}};
 ghost use Rattle.mk_cycle.specs.Beside.{gives_no_hand};
 
 use crate::gates::hold_gate;
@@ -57,7 +56,7 @@ pub(crate) fn mark_cell(words: &Words, turn: &mut Turn, cell: Cell)
 
 /// Holds the gate of another caller. Returns whether it wasn't held before.
 pub(crate) fn hold_beside<R: Wait>(rt: &R, words: &Words, turn: &mut Turn, caller: u64) -> bool
-    requires may { MaySetGate words.now turn.old.pass caller }
+    requires may { IsForGate IsBeside words.now turn.old.pass caller }
     ensures sets { SetsGate caller true turn.old turn.new }
     ensures was { is_held (now_of turn.old.pass).words caller ≡ not result }
 {
@@ -66,7 +65,7 @@ pub(crate) fn hold_beside<R: Wait>(rt: &R, words: &Words, turn: &mut Turn, calle
 
 /// Opens the gate of another caller, which is held.
 pub(crate) fn open_gate(words: &Words, turn: &mut Turn, caller: u64)
-    requires may { MaySetGate words.now turn.old.pass caller }
+    requires may { IsForGate IsBeside words.now turn.old.pass caller }
     requires held { is_held (now_of turn.old.pass).words caller ≡ true }
     ensures { SetsGate caller false turn.old turn.new }
 {

@@ -1,10 +1,9 @@
 //! The engine that makes all marks in the stop.
 ghost use Rattle.std.specs.Prelude.{◌≡◌, false, ⊤};
-ghost use Rattle.mk_cycle.specs.BeginCycle.{DoesNothing, IsBegun};
-ghost use Rattle.mk_cycle.specs.EngineLaw.{IsFreeForCycle, IsAtPhase, BeginsMarking};
-ghost use Rattle.mk_cycle.specs.EngineLaw.{ClosesMarks};
+ghost use Rattle.mk_cycle.specs.{BeginCycle.{DoesNothing, IsBegun}, EngineLaw.{IsFreeForCycle, IsAtPhase, ClosesMarks}};
+ghost use Rattle.mk_cycle.specs.{TurnKeeps.{OnlyDoes, begins_marking}, Grays.TracesReached};
+ghost use Rattle.mk_cycle.specs.Tracing.{Traces, is_tracing};
 ghost use Rattle.mk_words.specs.Sweeping.{SweepsNothing};
-ghost use Rattle.mk_cycle.specs.{Grays.TracesReached, Tracing.{Traces, is_tracing}};
 
 use crate::engine::Engine;
 use crate::stopping::{MOST_PAGES, close_by_tracing};
@@ -44,7 +43,7 @@ impl Engine for StopEngine {
 
     fn begin<R: Threads + Wait + Sync>(&mut self, _rt: &R, _words: &Words, _turn: &mut Turn)
         ensures made_for { self.new.pages ≡ self.old.pages }
-        ensures law { BeginsMarking _turn.old.pass _turn.new.pass }
+        ensures law { OnlyDoes begins_marking _turn.old.pass _turn.new.pass }
         ensures reached { SweepsNothing _turn.old.pass _turn.new.pass }
         ensures begun { IsBegun DoesNothing _turn.old.pass _turn.new.pass }
         ensures nothing { _turn.new ≡ _turn.old }

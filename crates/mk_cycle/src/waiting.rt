@@ -3,8 +3,7 @@ ghost use Rattle.std.specs.Prelude.{◌≡◌, ◌<◌};
 ghost use Rattle.mk_core.specs.Words.{phase_of};
 ghost use Rattle.mk_words.specs.{States.now_of, TurnSteps.IsStopped};
 ghost use Rattle.mk_cycle.specs.{EngineLaw.WantsFirst, Grays.{TracesReached, WaitsForMarkers}};
-ghost use Rattle.mk_cycle.specs.Stops.{HolderIsLoaded, IsWanted};
-ghost use Rattle.mk_cycle.specs.Tracing.{Counted, is_waiting, is_want};
+ghost use Rattle.mk_cycle.specs.{Stops.{HolderIsLoaded, IsWanted}, Tracing.{Counted, is_waiting}, TurnKeeps.is_want};
 
 use crossbeam_utils::Backoff;
 use mk_core::Word;

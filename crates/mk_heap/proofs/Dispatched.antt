@@ -61,7 +61,7 @@ held_beside {p} {o} {q} held =
     record { more = d.more; is = ap (λ (x : PassState). x.seen) d.is; steps = d.of_kinds }
 
 -- So they keep to what an engine does.
-pub beside_keeps : {V : Type 0} {ways : Ways V} {p q : PassState} → StaysBeside p q → PassKeeps ways p q
+pub beside_keeps : {V : Type 0} {ways : Ways V} {p q : PassState} → StaysBeside p q → PassKeeps false ways p q
 beside_keeps {ways = ways} {p = p} h = record {
   reached = λ off. record {
     more = h.more;
@@ -230,7 +230,7 @@ module _ {p : PassState} {o : Op} {q : PassState} (h : IsPutOff p o q) where
   put_off_waits = off_by_test (is_under_turn o) refl
 
   pub put_off_keeps : {V : Type 0} {ways : Ways V} {r : PassState}
-      → PassKeeps ways q r → PassKeeps ways p r
+      → PassKeeps false ways q r → PassKeeps false ways p r
   put_off_keeps more = keeps_then put_off_waits.is (beside_keeps put_off_waits.beside) more
 
   module _ {on : Bool} {told : Answer} {r : PassState} (later : Answers on q o told r) where

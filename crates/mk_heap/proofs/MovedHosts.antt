@@ -4,14 +4,13 @@ use Rattle.mk_alloc.proofs.Below.Laws.Vocabulary.{Bool, Caller, Event, Host, IsH
 use Rattle.mk_alloc.proofs.Below.Laws.Vocabulary.{Seat, Step, Word, and_parts, ap, append_assoc, arith, false}
 use Rattle.mk_alloc.proofs.Below.Laws.Vocabulary.{host_has_turn, inl, inr, is_one_of, left, not, not-true, or_cases}
 use Rattle.mk_alloc.proofs.Below.Laws.Vocabulary.{refl, subst, sym, true, true≢false, [], ◌&&◌, ◌++◌, ◌||◌, ◌∙◌, ◌∷◌}
-use Rattle.mk_alloc.proofs.Below.{Laws.Vocabulary.{◌≡◌, ◌⊎◌}, Words.Waiting.{joined_lists, waits_more}}
-use Rattle.mk_alloc.proofs.Below.Words.Seats.{has_not, only_one, others_append, others_one, others_own, same_seat}
-use Rattle.mk_alloc.{proofs.{Below.Words.Seats.same_self, Below.Words.Made.own_before}, specs.Below.Words.Steps.{Makes}}
-use Rattle.mk_alloc.specs.Below.Cycles.TurnKeeps.{begins_marking, clears, closes_marks, holds_gates, is_giving_back}
-use Rattle.mk_alloc.specs.Below.Cycles.{TurnKeeps.sets_tallies, BeginCycle.BeginsCycle}
-use Rattle.mk_alloc.specs.Below.{Cycles.FinishCycle.FinishesCycle, Words.Steps.{AreOwnOrOfOthers, Does}}
-use Rattle.mk_alloc.specs.Below.Words.{TurnSteps.{TakesTurn, Waits, is_take, waits_for}, Steps.is_open}
-use Rattle.mk_alloc.specs.Below.Words.States.{Has, PassState, event_of, now_of}
+use Rattle.mk_alloc.proofs.Below.Laws.Vocabulary.{◌≡◌, ◌⊎◌}
+use Rattle.mk_alloc.proofs.Below.Words.{Waiting.{joined_lists, waits_more}, Seats.{has_not, only_one, others_append}}
+use Rattle.mk_alloc.proofs.Below.Words.{Seats.{others_one, others_own, same_seat, same_self}, Made.own_before}
+use Rattle.mk_alloc.specs.Below.Words.{Steps.{Makes, AreOwnOrOfOthers, Does, is_open}, TurnSteps.{TakesTurn, Waits}}
+use Rattle.mk_alloc.specs.Below.Words.{TurnSteps.{is_take, waits_for}, States.{Has, PassState, event_of, now_of}}
+use Rattle.mk_alloc.specs.Below.Cycles.TurnKeeps.{begins_marking, clears, holds_gates, is_giving_back, sets_tallies}
+use Rattle.mk_alloc.specs.Below.Cycles.{Tracing.is_tracing, BeginCycle.BeginsCycle, FinishCycle.FinishesCycle}
 use Rattle.mk_core.specs.History.{AreOfOthers, is_same_seat}
 use Rattle.mk_heap.{proofs.HostsKept.{still_rests}, specs.{Ending.TakesIdleTurn, Hosts.{HostState, IsHost, Rests}}}
 
@@ -90,7 +89,7 @@ finish_moves p q r v f =
     let release = m.releases in
     let held : MovesOn p m.held = moves_does holds_gates p q m.held v m.holds in
     let closing : MovesOn p release.closing =
-    moves_does closes_marks p m.held release.closing held release.marks.does in
+    moves_does is_tracing p m.held release.closing held release.marks.does in
     let closed : MovesOn p release.closed =
     moves_more p release.closing release.closed Step.Close closing release.close in
     let released : MovesOn p m.released = moves_more p release.closed m.released Step.Release closed release.release in

@@ -47,8 +47,7 @@ pub record MakesNoCall (p q : PassState) : Type 0 where
 abbrev pub StaysAdmitted : PassState → Op → Type 0
 StaysAdmitted p o = (q : PassState) → IsHistory q.table.config q.seen → MakesNoCall p q → Admits q o
 
--- Its caller made no call until its pass was this one, and then did the operation. What it is told of the answer is
--- this.
+-- Its caller made no call until its pass was this one, and then did the operation. It is told this of the answer.
 pub record IsCalledLater (p : PassState) (o : Op) (told : Answer) (q : PassState) : Type 0 where
   pub waited : PassState
   pub waits : MakesNoCall p waited

@@ -1,5 +1,5 @@
 -- What the host does with the turn and with cycles: it ends the one that is on, makes the last, says that all is over.
-use Rattle.std.specs.Prelude.{◌≡◌, ◌⊎◌, ℕ, ◌<◌, true, None, Bool, false, List, [], ◌∷◌, ◌++◌, count_by}
+use Rattle.std.specs.Prelude.{◌≡◌, ◌⊎◌, ℕ, ◌<◌, true, None, Bool, false, List, [], ◌∷◌, ◌++◌, count_by, if◌then◌else◌}
 use Rattle.mk_core.specs.declared.{events.Seat.TheVariants.{Caller, Host}, config.Config.Config}
 use Rattle.mk_core.specs.{Counts.{TalliesAreExact, TalliesAreTidy}, History.{World, AreOfOthers, Grows, left}}
 use Rattle.mk_core.specs.{Moments.none_is_held, declared.events.{Step.Step, Word.Word}}
@@ -48,8 +48,7 @@ pub record MakesCycle (p q : PassState) : Type 0 where
   pub finishes : FinishesCycle begun ended
   pub gives : Makes ended Step.Give q
 
--- It made a cycle so, and this is said of the world in which it closed the cycle's marks. No `close` stands after that
--- one.
+-- It made a cycle so, and this is said of the world in which it closed the cycle's marks.
 pub record MakesToldCycle (tells : Config → World → Type 0) (p q : PassState) : Type 0 where
   pub makes : MakesCycle p q
   pub at_close : IsToldAtClose tells makes.begun makes.ended
@@ -63,17 +62,9 @@ pub record IsIdleTurn (p : PassState) : Type 0 where
   pub exact : TalliesAreExact p.table.config p.seen
   pub tidy : TalliesAreTidy p.table.config p.seen
 
--- What the host does in the history of a run: nothing before the last step of every script, and then one cycle of its
--- own where it is asked for, and else none.
-
 -- how many cycles are begun in a list
 abbrev pub cycles_begun : List Event → ℕ
 cycles_begun es = count_by (λ (e : Event). is_begin e.step) es
-
--- how many cycles the host begins: one, where a last cycle is asked for
-abbrev pub cycles_asked : Bool → ℕ
-cycles_asked true = 1
-cycles_asked false = 0
 
 -- The history has two parts. In the first the host takes no step. In the second no caller does, so no step of a script
 -- stands after a `take` of the host, and whatever is done with cycles there is done by the host.
@@ -83,9 +74,7 @@ pub record HostComesLast (callers : ℕ) (with_cycle : Bool) (es : List Event) :
   pub is : es ≡ scripts ++ last
   pub without_host : AreOfOthers (Host ∷ []) scripts
   pub without_callers : (k : ℕ) → k < callers → AreOfOthers (Caller k ∷ []) last
-  pub cycles : cycles_begun last ≡ cycles_asked with_cycle
-
--- The host's last turns, when the scripts are joined. Private functions alone cite these words.
+  pub cycles : cycles_begun last ≡ (if with_cycle then 1 else 0)
 
 -- The host's seat is home and so are those of all callers, and it has not said that all is over.
 pub record HasAllHome (w : WordsState) (h : HostState) : Type 0 where
@@ -104,13 +93,13 @@ CallersAreStill p es = (k : ℕ) → Has p.seats (Caller k) → Grows (Caller k 
 pub record GoesOnAlone {V : Type 0} (ways : Ways V) (h g : HostState) : Type 0 where
   pub is : g ≡ with_seen h g.pass.seen
   pub still : CallersAreStill h.pass g.pass.seen
-  pub keeps : PassKeeps ways h.pass g.pass
+  pub keeps : PassKeeps false ways h.pass g.pass
 
 -- Since this was seen the host made its last turns, where asked with a last cycle: no other is begun there.
 pub record BeginsAsAsked (with_cycle : Bool) (seen es : List Event) : Type 0 where
   pub more : List Event
   pub is : es ≡ seen ++ more
-  pub cycles : cycles_begun more ≡ cycles_asked with_cycle
+  pub cycles : cycles_begun more ≡ (if with_cycle then 1 else 0)
 
 -- With all callers home the host made a cycle of which this is said, and said that all is over. Since then it has seen
 -- no step of the seats that were home, which still are.
@@ -146,11 +135,6 @@ pub record MakesLastCycle (s : Seat) (tells : Config → World → Type 0) (c : 
 -- The host makes the last cycle, after the last step of every script, and this is said of it at its `close`.
 abbrev pub EndsWithCycle : (Config → World → Type 0) → Config → List Event → Type 0
 EndsWithCycle tells c es = MakesLastCycle Host tells c es
-
--- it is a register
-abbrev pub is_register : Word → Bool
-is_register (Word.Reg k r) = true
-is_register _ = false
 
 -- It took the turn, looked at the word and found this number, and gave the turn back.
 pub record TellsWord (p : PassState) (x : Word) (n : ℕ) (q : PassState) : Type 0 where

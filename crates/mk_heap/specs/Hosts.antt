@@ -24,8 +24,6 @@ abbrev pub first_host : WordsState → HostState
 first_host w =
     record { pass = record { table = w; seat = Host; seats = all_seats w.config; seen = [] }; callers = 0; markers = 0 }
 
--- the pass of a seat, cut from the host's, and what stays
-
 -- the pass that the host splits off for a seat
 abbrev pub pass_for : HostState → Seat → PassState
 pass_for h s = record { table = h.pass.table; seat = s; seats = s ∷ []; seen = h.pass.seen }
@@ -34,12 +32,9 @@ pass_for h s = record { table = h.pass.table; seat = s; seats = s ∷ []; seen =
 abbrev pub pass_without : HostState → Seat → PassState
 pass_without h s = record h.pass { seats = without_seat s h.pass.seats }
 
--- a caller is made, or a marker
-
 -- the host with one caller more
 abbrev pub with_caller_made : HostState → HostState
-with_caller_made h =
-    record { pass = pass_without h (Caller h.callers); callers = h.callers + 1; markers = h.markers }
+with_caller_made h = record { pass = pass_without h (Caller h.callers); callers = h.callers + 1; markers = h.markers }
 
 -- A caller that was joined is out again.
 abbrev pub with_caller_out : HostState → ℕ → HostState
@@ -47,13 +42,11 @@ with_caller_out h k = record h { pass = pass_without h (Caller k) }
 
 -- the host with one marker more
 abbrev pub with_marker_made : HostState → HostState
-with_marker_made h =
-    record { pass = pass_without h (Marker h.markers); callers = h.callers; markers = h.markers + 1 }
+with_marker_made h = record { pass = pass_without h (Marker h.markers); callers = h.callers; markers = h.markers + 1 }
 
 -- It has the seats of another pass besides, and has seen these events.
 abbrev pub with_joined : HostState → PassState → List Event → HostState
-with_joined h p seen =
-    record h { pass = record h.pass { seats = h.pass.seats ++ p.seats; seen = seen } }
+with_joined h p seen = record h { pass = record h.pass { seats = h.pass.seats ++ p.seats; seen = seen } }
 
 -- The host takes this pass back. What it has seen then is a history, with all that either had seen. It makes no
 -- sweeping mark, and doesn't say that all is over.
@@ -79,8 +72,7 @@ pub record IsDone (p : PassState) : Type 0 where
   pub alone : p.seats ≡ p.seat ∷ []
   pub rests : Rests (now_of p) p.seat
 
--- It hasn't the turn. Who isn't made is home in its pass, and who is home rests. A marker that isn't made has taken no
--- step.
+-- It hasn't the turn. Who isn't made is home in its pass, and who is home rests. A marker not yet made took no step.
 pub record IsHost (h : HostState) : Type 0 where
   pub seat : h.pass.seat ≡ Host
   pub no_turn : host_has_turn h.pass.table.config (now_of h.pass) ≡ false
@@ -88,8 +80,6 @@ pub record IsHost (h : HostState) : Type 0 where
   pub callers : (k : ℕ) → h.callers ≤ k → k < h.pass.table.config.callers → Has h.pass.seats (Caller k)
   pub markers : (k : ℕ) → h.markers ≤ k → k < 8 → Has h.pass.seats (Marker k)
   pub unmade : (k : ℕ) → h.markers ≤ k → k < 8 → AreOfOthers (Marker k ∷ []) h.pass.seen
-
--- What a host is made of: its pass, which is home between its calls, and the two numbers.
 
 -- what stands for a table that doesn't exist
 abbrev pub no_table : WordsState
@@ -160,13 +150,11 @@ pub record RanBeside {T : Type 0} (did : HostState → HostState × T → Type 0
   pub does : did made (ended, ran.1)
   pub joins : JoinsMarkers j ended ran.0
 
--- the history of the heap, and what it was made for
-
 -- the history of the heap that was closed
 abbrev pub history_of : Report → List Event
 history_of r = final.history_of r.last
 
--- its configuration
+-- what that heap was made for
 abbrev pub config_of : Report → Config
 config_of r = final.config_of r.last
 

@@ -8,8 +8,6 @@ use Rattle.mk_alloc.specs.Below.Words.Sweeping.{SweepsNothingFrom}
 abbrev pub IsUnswept : Config → List Event → Type 0
 IsUnswept c es = NoneSweepsFrom c (first_world c) es
 
--- Seats that make no sweeping mark. Private functions alone cite these words.
-
 -- The seat's steps of the history make no sweeping mark.
 abbrev pub SeatSweepsNothing : Config → Seat → List Event → Type 0
 SeatSweepsNothing c s es = SweepsNothingFrom c s (first_world c) es

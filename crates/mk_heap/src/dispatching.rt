@@ -147,7 +147,7 @@ pub fn answer_put_off<E: Engine, R: Threads + Wait + Sync>(
     ensures home { caller.new.home ≡ true }
     ensures made_for { E.made_for engine.new ≡ E.made_for engine.old }
     ensures answers { Answers E.ways.on caller.old.pass op result caller.new.pass }
-    ensures keeps { PassKeeps E.ways caller.old.pass caller.new.pass }
+    ensures keeps { PassKeeps false E.ways caller.old.pass caller.new.pass }
 {
     match op {
         Op::New { d, ty, .. } => {
@@ -180,7 +180,7 @@ pub fn answer_to<E: Engine, R: Threads + Wait + Sync>(
     ensures home { caller.new.home ≡ true }
     ensures made_for { E.made_for engine.new ≡ E.made_for engine.old }
     ensures answers { Answers E.ways.on caller.old.pass op result caller.new.pass }
-    ensures keeps { PassKeeps E.ways caller.old.pass caller.new.pass }
+    ensures keeps { PassKeeps false E.ways caller.old.pass caller.new.pass }
 {
     match answer_at_once(caller, op) {
         Some(answer) => answer,

@@ -1,7 +1,7 @@
 //! The host's cycles, and the end of a heap.
 ghost use Rattle.std.specs.Prelude.{◌≡◌, None, false};
-ghost use Rattle.mk_alloc.specs.Below.Words.{States.{Has, HasCallers, has_over}, Steps.IsEnabledTo};
-ghost use Rattle.mk_alloc.specs.Below.Cycles.{BeginCycle.EachIsBegun, EngineLaw.IsAtPhase};
+ghost use Rattle.mk_alloc.specs.{Below.Words.States.{Has, HasCallers, has_over}, Below.Words.Steps.IsEnabledTo};
+ghost use Rattle.mk_alloc.specs.{Below.Cycles.BeginCycle.EachIsBegun, Below.Cycles.EngineLaw.IsAtPhase};
 ghost use Rattle.mk_alloc.specs.{Below.Words.Sweeping.SweepsNothing, TurnCycles.{EachIsFinished, EachIsSaid}};
 ghost use Rattle.mk_heap.specs.Ending.{CallersAreJoined, IsIdleTurn, MakesToldCycle, SaysOver, TakesIdleTurn};
 ghost use Rattle.mk_heap.specs.Hosts.{with_seen};
@@ -57,7 +57,7 @@ impl Host {
         ensures cycle { MakesToldCycle (E.ways.tells engine.new) self.old.pass self.new.pass }
         ensures overs { has_over self.new.pass.seen ≡ has_over self.old.pass.seen }
         ensures reached { E.ways.sweeps ≡ false → SweepsNothing self.old.pass self.new.pass }
-        ensures begun { EachIsBegun E.ways.begins self.old.pass self.new.pass }
+        ensures begun { EachIsBegun false E.ways.begins self.old.pass self.new.pass }
         ensures said { EachIsSaid E.ways.tells self.old.pass self.new.pass }
         ensures finished { EachIsFinished E.ways.closes self.old.pass self.new.pass }
     {

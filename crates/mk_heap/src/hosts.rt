@@ -5,8 +5,9 @@ ghost use Rattle.mk_alloc.specs.Below.{Words.States.{Has, has_over}, Callers.Sta
 ghost use Rattle.mk_alloc.specs.Below.Words.Sweeping.{SweepsNothing};
 ghost use Rattle.mk_marker.specs.Markers.{IsMarkers, IsOut};
 ghost use Rattle.mk_heap.specs.Hosts.{TakesBack, pass_for, with_caller_made, with_caller_out, with_marker_made};
-ghost use Rattle.mk_heap.specs.{Hosts.{with_seen, IsDone}, Ending.{is_register, TellsWord}};
+ghost use Rattle.mk_heap.specs.{Hosts.{with_seen, IsDone}, Ending.TellsWord};
 ghost use Rattle.mk_core.specs.declared.events.Seat.TheVariants as seat;
+ghost use Rattle.mk_alloc.specs.Below.Cycles.EngineLaw.{is_register};
 
 use crate::heaps::Heap;
 use mk_alloc::lower::callers::Caller;

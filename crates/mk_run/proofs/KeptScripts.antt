@@ -7,13 +7,14 @@ use Rattle.mk_run.proofs.Vocabulary.{CallerState, Grows, Has, IsAtHome, IsFirstP
 use Rattle.mk_run.proofs.Vocabulary.{PassState, WordsState, config_of, has_first, script_names, ⊎_elim}
 use Rattle.mk_core.specs.History.{AreOfOthers, AreEnabledFrom}
 use Rattle.mk_heap.proofs.Below.Cycles.Begun.{begun_append, others_begin_none}
-use Rattle.mk_heap.specs.Below.Cycles.{BeginCycle.{AreBegunFirst, CyclesAreBegun, IsBegunFirst}, EngineLaw.Ways}
-use Rattle.mk_heap.{proofs.UnsweptHistories.{markers_sweep, none_sweeps}, specs.Unswept.{IsUnswept}}
+use Rattle.mk_heap.specs.Below.Cycles.{BeginCycle.{AreBegun, CyclesAreBegun, IsBegunUpTo}, EngineLaw.Ways}
+use Rattle.mk_heap.specs.Below.Objects.TurnCycles.{AreFinishedAtOnce, AreSaidAtCloses, IsFinishedAtOnce, IsSaid}
+use Rattle.mk_heap.specs.Unswept.{IsUnswept}
 use Rattle.mk_heap.proofs.UnsweptSeats.{first_sweeps, others_on as others_sweep_on, seat_on as seat_sweeps_on}
+use Rattle.mk_heap.proofs.UnsweptHistories.{none_sweeps, markers_sweep}
 use Rattle.mk_run.proofs.JoinedScripts.{same_or_later}
 use Rattle.mk_laws.proofs.Vocabulary.{Step, inl, inr, left, ◌⊎◌}
 use Rattle.mk_heap.proofs.Below.Objects.{FinishedCycles.finished_append, SaidCloses.said_append}
-use Rattle.mk_heap.specs.Below.Objects.TurnCycles.{AreFinishedAtOnce, AreSaidAtCloses, IsFinishedAtOnce, IsSaid}
 use Rattle.mk_run.specs.Keeping.{RunKeeps, ScriptsKeep, SeatKeeps, by_seat}
 use Rattle.mk_run.specs.Keeping.{BeginsAreFinished, ClosesAreSaid}
 
@@ -39,11 +40,11 @@ module _ {V : Type 0} {ways : Ways V} where
 
   -- after more that its pass has seen, and after events of others
 
-  seat_on : (p q : PassState) → PassKeeps ways p q → SeatKeeps ways p.table.config p.seat p.seen
+  seat_on : (p q : PassState) → PassKeeps false ways p q → SeatKeeps ways p.table.config p.seat p.seen
       → SeatKeeps ways p.table.config p.seat q.seen
   seat_on p q more before = record {
     unswept = λ off. seat_sweeps_on p q (more.reached off) (before.unswept off);
-    begun = subst (λ (l : List Event). AreBegunFirst ways.begins p.table.config p.seat [] l) (sym more.begun.is)
+    begun = subst (λ (l : List Event). AreBegun false ways.begins p.table.config p.seat [] l) (sym more.begun.is)
         (begun_append ways.begins p.table.config p.seat [] p.seen more.begun.more before.begun more.begun.each);
     said = subst (λ (l : List Event). AreSaidAtCloses ways.tells p.table.config p.seat [] l) (sym more.said.is)
         (said_append ways.tells p.table.config p.seat [] p.seen more.said.more before.said more.said.each);
@@ -56,7 +57,7 @@ module _ {V : Type 0} {ways : Ways V} where
       → SeatKeeps ways c s es → SeatKeeps ways c s fs
   others_on c s seats es fs has g before = record {
     unswept = λ off. others_sweep_on c s seats es fs has g (before.unswept off);
-    begun = subst (λ (l : List Event). AreBegunFirst ways.begins c s [] l) (sym g.is)
+    begun = subst (λ (l : List Event). AreBegun false ways.begins c s [] l) (sym g.is)
         (begun_append ways.begins c s [] es g.more before.begun
         (λ b own. absurd (others_begin_none seats s g.more has g.of_others b.before b.event b.behind b.is own)));
     said = subst (λ (l : List Event). AreSaidAtCloses ways.tells c s [] l) (sym g.is)
@@ -69,12 +70,12 @@ module _ {V : Type 0} {ways : Ways V} where
 
   -- the run of one script, from its first pass
   pub script_keeps : {w : WordsState} {k : ℕ} {first : PassState} (s : CallerState) (q r : PassState)
-      → IsFirstPass w k first → IsAtHome s first → PassKeeps ways s.pass q → r ≡ q
+      → IsFirstPass w k first → IsAtHome s first → PassKeeps false ways s.pass q → r ≡ q
       → SeatKeeps ways w.config (Caller k) r.seen
   script_keeps s q r at is more same = grind (arith, first_keeps, seat_on)
 
   -- The host goes on.
-  pub host_on : (w : WordsState) {p q : PassState} → p.table ≡ w → p.seat ≡ Host → PassKeeps ways p q
+  pub host_on : (w : WordsState) {p q : PassState} → p.table ≡ w → p.seat ≡ Host → PassKeeps false ways p q
       → SeatKeeps ways w.config Host p.seen → SeatKeeps ways w.config Host q.seen
   host_on w table seat more before = grind (arith, seat_on)
 
@@ -143,8 +144,8 @@ module _ {V : Type 0} {W : Type 0} {ways : Ways V} {host_ways : Ways W} (program
   pub run_is_begun : CyclesAreBegun (by_seat ways.begins host_ways.begins) c es
   run_is_begun b = let at = open_to_its_seat b history in by b.event.seat at.0 at.1 refl
     where
-      caller : (j : ℕ) → b.event.seat ≡ Caller j → IsBegunFirst ways.begins c (Caller j) (through b) b.behind
-          → IsBegunFirst (by_seat ways.begins host_ways.begins) c (Caller j) (through b) b.behind
+      caller : (j : ℕ) → b.event.seat ≡ Caller j → IsBegunUpTo false ways.begins c (Caller j) (through b) b.behind
+          → IsBegunUpTo false (by_seat ways.begins host_ways.begins) c (Caller j) (through b) b.behind
       caller j of_seat one = record {
         first = one.first;
         rest = one.rest;
@@ -155,7 +156,7 @@ module _ {V : Type 0} {W : Type 0} {ways : Ways V} {host_ways : Ways W} (program
       }
 
       by : (s : Seat) → seat_exists c s ≡ true → is_open_to s (group_of b.event.step) ≡ true → b.event.seat ≡ s
-          → IsBegunFirst (by_seat ways.begins host_ways.begins) c s (through b) b.behind
+          → IsBegunUpTo false (by_seat ways.begins host_ways.begins) c s (through b) b.behind
       by (Caller j) exists may of_seat =
           caller j of_seat ((keeps.scripts.callers j (omega arith)
           (ltb-true j (length (script_names program)) exists)).begun b of_seat)

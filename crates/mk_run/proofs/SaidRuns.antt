@@ -4,8 +4,9 @@ use Rattle.mk_run.proofs.Vocabulary.{⊎_elim}
 use Rattle.mk_heap.proofs.Below.Words.Doing.{does_nothing}
 use Rattle.mk_heap.specs.Below.{Objects.TurnCycles.{IsFinishedAtOnce, IsSaid}, Words.States.PassState}
 use Rattle.mk_why.{proofs.Below.Sweeps.StillMarked.still_marked, specs.Below.Sweeps.Sweeps.SweptAreMarked}
-use Rattle.mk_why.specs.Stops.{IsClosedBefore, IsToldBefore, View, is_look}
+use Rattle.mk_why.specs.Stops.{IsClosedBefore, IsToldBefore, View}
 use Rattle.mk_run.specs.Keeping.{BeginsAreFinished, ClosesAreSaid, CyclesAreFinished, CyclesAreSaid, CyclesMarkTheSwept}
+use Rattle.mk_heap.specs.Below.Cycles.TurnKeeps.{is_look}
 
 said_now : {V : Type 0} {tells : V → Config → World → Type 0} {c : Config} {w : World} → IsSaid tells c w
     → IsSaid (λ (engine : V) d v. IsToldBefore (tells engine) d v) c w

@@ -6,16 +6,15 @@ use Rattle.mk_laws.proofs.Vocabulary.{subst, sym, through, true, true≢false, [
 use Rattle.mk_laws.{proofs.CyclePhases.{begin_is}, specs.Releases.{through_release}}
 use Rattle.mk_core.specs.{Cycles.{IsInSnapshot}, History.is_same_seat}
 use Rattle.mk_heap.specs.{Below.Objects.TurnCycles.IsFinishedAtOnce, Hosts.MarkersAreBelow}
-use Rattle.mk_heap.specs.Below.Cycles.BeginCycle.{CyclesHoldGatesFirst, are_own_of, leaves_begun}
-use Rattle.mk_heap.specs.Below.Cycles.{BeginCycle.only_holds, Stops.IsClosedBy}
-use Rattle.mk_heap.specs.Below.Cycles.TurnKeeps.{begins_marking, holds_gates}
+use Rattle.mk_heap.specs.Below.Cycles.BeginCycle.{CyclesHoldGatesFirst, are_own_of, leaves_begun, only_holds}
+use Rattle.mk_heap.specs.Below.Cycles.{Stops.IsClosedBy, TurnKeeps.{begins_marking, holds_gates, is_look}}
 use Rattle.mk_heap.specs.Below.Words.States.{PassState, event_of}
 use Rattle.mk_heap.proofs.Below.Objects.Vocabulary.{does_wider}
 use Rattle.mk_why.proofs.Below.Sweeps.{CycleParts.only_looks, BesideTurn.unmade_markers}
 use Rattle.mk_why.proofs.Below.Sweeps.SweepCycles.{cycle, is_released_by_it}
 use Rattle.mk_why.proofs.Below.Sweeps.SweepParts.{NoneOfMarkers, SweepParts, SweepsThenLooks, none_of_all, parts}
 use Rattle.mk_why.specs.Below.Sweeps.Sweeps.{IsSwept, SweptAreMarked, Sweeps}
-use Rattle.mk_why.specs.Stops.{IsClosedBefore, View, is_look}
+use Rattle.mk_why.specs.Stops.{IsClosedBefore, View}
 use Rattle.mk_run.proofs.SaidRuns.{said_is_swept}
 use Rattle.mk_run.specs.Keeping.{CyclesAreFinished, CyclesAreSaid, CyclesReleaseTheUnswept, CyclesSweep}
 

@@ -4,7 +4,7 @@ use Rattle.mk_core.specs.declared.{config.Config.Config, events.{Event.Event, Se
 use Rattle.mk_core.specs.{Allocations.placed_at, declared.events.Seat.TheVariants.{Caller, Host}, History.{World, left}}
 use Rattle.mk_core.specs.Cycles.{At, IsInSnapshot, Releasing, before_close, is_begin, is_close, through}
 use Rattle.mk_laws.specs.Releases.{through_release}
-use Rattle.mk_heap.specs.Below.Cycles.{BeginCycle.AreBegunFirst, EngineLaw.Ways}
+use Rattle.mk_heap.specs.{Below.Cycles.BeginCycle.AreBegun, Below.Cycles.EngineLaw.Ways}
 use Rattle.mk_heap.specs.Below.Objects.TurnCycles.{AreFinishedAtOnce, AreSaidAtCloses, IsFinishedAtOnce, IsSaid}
 use Rattle.mk_heap.specs.{Unswept.SeatSweepsNothing, Below.Words.States.PassState}
 use Rattle.mk_script.specs.declared.items.Item.{Item}
@@ -15,7 +15,7 @@ use Rattle.mk_why.specs.{Below.Sweeps.Sweeps.{IsSwept, SweptAreMarked}, Stops.{I
 pub record SeatKeeps {V : Type 0} (ways : Ways V) (c : Config) (s : Seat) (es : List Event)
     : Type 0 where
   pub unswept : ways.sweeps ≡ false → SeatSweepsNothing c s es
-  pub begun : AreBegunFirst ways.begins c s [] es
+  pub begun : AreBegun false ways.begins c s [] es
   pub said : AreSaidAtCloses ways.tells c s [] es
   pub finished : ways.on ≡ false → AreFinishedAtOnce ways.closes c s [] es
 

@@ -1,5 +1,5 @@
 //! The run of one script.
-ghost use Rattle.std.specs.Prelude.{◌≡◌, ◌<◌, ℕ, List, ◌+◌, [], ◌∷◌, count_by, IfOk, OnOk, true};
+ghost use Rattle.std.specs.Prelude.{◌≡◌, ◌<◌, ℕ, List, ◌+◌, [], ◌∷◌, count_by, IfOk, OnOk, true, false};
 ghost use Rattle.mk_core.specs.declared.events.Answer.{Answer};
 ghost use Rattle.mk_script.specs.declared.items.Item.{Item};
 ghost use Rattle.mk_heap.specs.Below.{Callers.States.caller_of_pass, Objects.Rooms.PassKeeps};
@@ -101,7 +101,7 @@ pub fn run_script<E: Engine, P: Pace, R: Threads + Wait + Sync>(
     ensures follows { FollowsScript E.ways.on program.now k caller.new.pass.table.config caller.new.pass.seen }
     ensures ends { IfOk result (λ text. EndsScript program.now k caller.new.pass.table.config caller.new.pass.seen) }
     ensures text { IfOk result (IsTextOf program.now k caller.new.pass.table.config caller.new.pass.seen) }
-    ensures keeps { PassKeeps E.ways caller.old.pass caller.new.pass }
+    ensures keeps { PassKeeps false E.ways caller.old.pass caller.new.pass }
 {
     // The program is well typed, so its scripts ask for nothing that isn't admitted.
     let _well_typed = program.program();

@@ -5,7 +5,7 @@ use Rattle.mk_cycle.specs.Below.Laws.Theorems.{is_freed_unmapped}
 pub use Rattle.mk_cycle.proofs.TracedMarks.{ready_of}
 
 unmapped_as : Words → Untouched → Bool
-unmapped_as w x = is_freed_unmapped (record w { pages = x.pages }) x.freed_run
+unmapped_as w x = is_freed_unmapped (record w { pages = x.steady.pages }) x.done.freed
 
 pub unmapped_kept : (p q : PassState) → untouched_of (world_of q) ≡ untouched_of (world_of p)
     → is_freed_unmapped (now_of p).words (now_of p).seats.holding.freed ≡ true

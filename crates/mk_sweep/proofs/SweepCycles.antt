@@ -303,7 +303,7 @@ module _ {p : PassState} {looks : ℕ} {es : List Event} (has : Has p.seats p.se
   swept_there x =
       let same = k.sweeps.traces.untouched in
       swept_alike (left c k.swept) (ap (λ (u : Untouched). u.registers) same) (ap (λ (u : Untouched). u.globals) same)
-      (ap (λ (u : Untouched). u.heap) same) (ap (λ (u : Untouched). u.allocations) same) x
+      (ap (λ (u : Untouched). u.heap) same) (ap (λ (u : Untouched). u.steady.allocations) same) x
 
   -- After the sweep nothing is marked.
 

@@ -38,7 +38,7 @@ module _ (c : Config) (v w : World) (same : untouched_of v ≡ untouched_of w) w
   cell_alike s = record {
     value = s.value;
     found = value_alike s.found;
-    points = sym (ap (λ (x : Untouched). pointed_cell c.pages x.pages s.value) same) ∙ s.points;
+    points = sym (ap (λ (x : Untouched). pointed_cell c.pages x.steady.pages s.value) same) ∙ s.points;
   }
 
   pub rule_alike : (m : Moment) (s : Step) → SweepsBy v c m s → SweepsBy w c m s

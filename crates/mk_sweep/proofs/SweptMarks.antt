@@ -7,14 +7,14 @@ use Rattle.mk_sweep.proofs.{Vocabulary.world_of, EachOnce.{as_many, looked_at_on
 use Rattle.mk_sweep.proofs.{SweepSteps.{rule_alike, settled_kept, word_alike}, CountedWords.{some_there, times}}
 use Rattle.mk_sweep.proofs.{Done.{looks_in_parts, looks_of_waiting}, StillMarked.others_leave_marked}
 use Rattle.mk_sweep.specs.Sweeps.{IsSweeping, scanned_words, SweptAreMarked}
+use Rattle.mk_cycle.proofs.Below.Laws.{InvariantHistories.allocations_stand, Settled.gone_is_unmapped}
 use Rattle.mk_cycle.proofs.Below.Laws.Vocabulary.{ℕ, ap, arith, length, ne_eqb, slice_index, subst, sym, true, ◌++◌}
-use Rattle.mk_cycle.proofs.Below.Laws.{Vocabulary.{◌<◌, ◌∙◌, ◌≡◌, ◌≤◌}, InvariantHistories.allocations_stand}
-use Rattle.mk_cycle.proofs.{Below.Laws.Settled.gone_is_unmapped, TracedMarks.{closing_kind, keeps_turn, same_count}}
-use Rattle.mk_cycle.proofs.Parts.{counted_by_kinds, counted_wider, traces_alike}
-use Rattle.mk_cycle.proofs.{Closes.{marks_closed_now, may_close_now}, NoGrays.no_gray}
-use Rattle.mk_cycle.{proofs.Wants.{wanted_once_then, wants_by}, specs.{EngineLaw.WantsFirst, TurnKeeps.closes_marks}}
-use Rattle.mk_cycle.specs.{Tracing.{Counted, is_marking, is_waiting, is_want}, Grays.TracesReached, Stops.IsWanted}
-use Rattle.mk_cycle.specs.{Below.Words.Steps.{Does, done_in}, Stops.IsToldOf, EngineLaw.{ClosesMarks, IsFreeForCycle}}
+use Rattle.mk_cycle.proofs.Below.Laws.Vocabulary.{◌<◌, ◌∙◌, ◌≡◌, ◌≤◌}
+use Rattle.mk_cycle.proofs.{Closes.{marks_closed_now, may_close_now}, Parts.{counted_by_kinds, traces_alike}}
+use Rattle.mk_cycle.proofs.{Wants.{wanted_once_then, wants_by}, NoGrays.no_gray, TracedMarks.keeps_turn}
+use Rattle.mk_cycle.specs.{EngineLaw.{WantsFirst, ClosesMarks, IsFreeForCycle}, Tracing.{is_tracing, Counted}}
+use Rattle.mk_cycle.specs.{Tracing.{is_marking, is_waiting}, TurnKeeps.is_want, Grays.TracesReached}
+use Rattle.mk_cycle.specs.{Stops.{IsWanted, IsToldOf}, Below.Words.Steps.Does}
 use Rattle.mk_core.proofs.PointedAllocations.{marked_where_its_cell_is, points_well_where_marked}
 use Rattle.mk_core.specs.Cycles.{is_marked_allocation}
 
@@ -60,7 +60,7 @@ module _ {p : PassState} {t u : TurnState} (s : SweepsInStop p t u) where
   all_words_are =
       as_many t.in_order.history s.sweeping.settled
       ∙ ap (λ (y : WordsState). scanned_words y.config (world_of t.pass).allocations) table
-      ∙ ap (λ (x : Untouched). scanned_words p.table.config x.allocations) s.waited.traces.untouched
+      ∙ ap (λ (x : Untouched). scanned_words p.table.config x.steady.allocations) s.waited.traces.untouched
 
   value_well : {v : ℕ} → IsSweptValue u.pass.table.config (world_of u.pass) v
       → points_well u.pass.table.config.pages (now_of u.pass).words v ≡ true
@@ -104,13 +104,12 @@ module _ {p : PassState} {t u : TurnState} (s : SweepsInStop p t u) where
       → ClosesMarks p u.pass
   closes black clean =
       let d : Does is_tracing p u.pass = whole.traces.does in
-      let wider = counted_wider is_tracing closes_marks (SweepsBy (world_of p)) is_want p u.pass 1 closing_kind whole in
       let close = may_close_now u s.on.sweeping.wanted (λ pg lt. no_gray (still_words u.pass) pg (black pg lt))
       clean (record { registers = s.closed.registers; globals = s.closed.globals }) in
       record {
-        does = wider.traces.does;
+        does = d;
         wants = wants_by s.wants s.on.traces.does;
-        one_want = same_count (done_in p wider.traces.does.more) ∙ wider.count;
+        one_want = whole.count;
         keeps = keeps_turn p u.pass (d.is ∙ ap (λ (x : PassState). record p { seen = x.seen }) (sym d.is))
             whole.traces.untouched whole.traces.counts;
         phase = s.on.sweeping.wanted.phase;

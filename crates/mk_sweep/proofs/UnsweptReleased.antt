@@ -70,7 +70,7 @@ unswept_is_released p q n s es r rest i history seen is one snapshot unreleased 
         (ap is_grant (release_is e.step r.release.at.of_kind)))
 
     allocations : (world_of q).allocations ≡ (world_of p).allocations
-    allocations = ap (λ (u : Untouched). u.allocations) s.traces.untouched
+    allocations = ap (λ (u : Untouched). u.steady.allocations) s.traces.untouched
 
     before : StandsUnmarked c a i (left c (before_release r))
     before =

@@ -11,12 +11,11 @@ use Rattle.mk_core.specs.{History.{World, Finding, IsHistory, world_behind, is_s
 use Rattle.mk_core.specs.{Words.{has_bit, Words, used_at}, declared.{config.Config.Config, events.Event.Event}}
 use Rattle.mk_core.specs.declared.events.{Seat.{Seat, TheVariants.Marker}, Step.Step}
 use Rattle.mk_core.specs.declared.{events.Word.Word, seats.Hand.Hand}
-use Rattle.mk_cycle.specs.Below.{Laws.Theorems.IsSettled, Words.States.{PassState, TurnState, world_of, now_of}}
-use Rattle.mk_cycle.specs.{Below.Words.{States.Has, Steps.{Does, done_in}}, Grays.{AllAreBlack, MarksMore}}
-use Rattle.mk_cycle.specs.{Stops.{IsWanted, hand_of, still_words, IsClosedBy}, Tracing.{Traces, is_marking, is_tracing}}
-use Rattle.mk_cycle.specs.{Below.Laws.Releases.allocation_behind, EngineLaw.IsAtPhase}
-use Rattle.mk_cycle.specs.{declared.finishing.Released.Released, BeginCycle.BeginsCycle}
-use Rattle.mk_cycle.specs.FinishCycle.{FinishesCycle, HasReleased}
+use Rattle.mk_cycle.specs.Below.Words.{States.{PassState, TurnState, world_of, now_of, Has}, Steps.{Does, done_in}}
+use Rattle.mk_cycle.specs.Below.Laws.{Theorems.IsSettled, Releases.allocation_behind}
+use Rattle.mk_cycle.specs.{BeginCycle.BeginsCycle, EngineLaw.IsAtPhase, FinishCycle.{FinishesCycle, HasReleased}}
+use Rattle.mk_cycle.specs.{Grays.MarksMore, Stops.{IsWanted, hand_of, still_words, IsClosedBy}}
+use Rattle.mk_cycle.specs.{Tracing.{Traces, is_marking, is_tracing}, declared.finishing.Released.Released}
 
 -- The heap word is one of a mapped allocation that isn't leaf.
 pub record IsScannedWord (c : Config) (xs : List PlacedAllocation) (n : ℕ) : Type 0 where
@@ -42,8 +41,7 @@ pub record IsSwept (c : Config) (w : World) (number : ℕ) : Type 0 where
 
 -- Each allocation that is swept is marked.
 abbrev pub SweptAreMarked : Config → World → Type 0
-SweptAreMarked c w =
-    (i : ℕ) → IsSwept c w i → is_marked_allocation c w.now.words (placed_at w.allocations i) ≡ true
+SweptAreMarked c w = (i : ℕ) → IsSwept c w i → is_marked_allocation c w.now.words (placed_at w.allocations i) ≡ true
 
 -- Such a value points into the cell, by lookup.
 pub record IsSweptCell (c : Config) (w : World) (cell : Cell) : Type 0 where
@@ -65,8 +63,6 @@ SweepsBy w c m (Step.Mark p v) = MarksSwept c w p v
 SweepsBy w c m _ = ⊤
 
 -- the heap word that a step looks at, if it looks at one
-
--- the heap word that a step looks at
 abbrev pub word_looked_at : Step → List ℕ
 word_looked_at (Step.Look (Word.Heap n)) = n ∷ []
 word_looked_at _ = []
@@ -105,21 +101,15 @@ pub record IsReachedCell (p : PassState) (cell : Cell) : Type 0 where
   pub in_hand : HasInHand p value
   pub points : pointed_cell p.table.config.pages (still_words p).pages value ≡ Some cell
 
--- the words of a cell, if it is used
-
 -- so many words from this one on, if the cell is used
 abbrev pub words_if : Bool → ℕ → ℕ → List ℕ
 words_if used first size = if used then range_with_len first size else []
 
--- those of a page's first cells, of this many words each
-
--- the words of a page's used cells
+-- the words of the used ones among a page's first cells, of this many words each
 abbrev pub words_of_cells : ℕ → ℕ → ℕ → ℕ → List ℕ
 words_of_cells page size used zero = []
 words_of_cells page size used (suc n) =
     words_of_cells page size used n ++ words_if (has_bit used n) (64 * page + n * size) size
-
--- and those of a page, if its cells are scanned; and of the first pages
 
 -- the words of a page that may hold pointers
 abbrev pub words_on : Words → ℕ → List ℕ
@@ -143,7 +133,9 @@ pub record BlacksMore (w v : Words) : Type 0 where
 
 -- Each marked cell of the page is black.
 abbrev pub PageIsBlack : Words → ℕ → Type 0
-PageIsBlack w p = AllAreBlack (cells_under (header_in w p)) (slice_index w.marks p) (slice_index w.blacks p)
+PageIsBlack w p =
+    (k : ℕ) → k < cells_under (header_in w p) → has_bit (slice_index w.marks p) k ≡ true
+    → has_bit (slice_index w.blacks p) k ≡ true
 
 -- The sweep goes on over these words: more is marked, and so is whatever they point into.
 pub record SweepsWords (pages : ℕ) (t u : TurnState) (words : List ℕ) : Type 0 where

@@ -1,8 +1,7 @@
 //! The engine that sweeps.
 ghost use Rattle.std.specs.Prelude.{◌≡◌, true, false, IfOk};
-ghost use Rattle.mk_cycle.specs.BeginCycle.{DoesNothing, IsBegun};
-ghost use Rattle.mk_cycle.specs.EngineLaw.{IsFreeForCycle, IsAtPhase, BeginsMarking, ClosesMarks};
-ghost use Rattle.mk_cycle.specs.Stops.{IsToldOf};
+ghost use Rattle.mk_cycle.specs.{BeginCycle.{DoesNothing, IsBegun}, EngineLaw.{IsFreeForCycle, IsAtPhase, ClosesMarks}};
+ghost use Rattle.mk_cycle.specs.{TurnKeeps.{OnlyDoes, begins_marking}, Stops.IsToldOf};
 ghost use Rattle.mk_sweep.specs.Sweeps.{Sweeps, SweptAreMarked};
 
 use crate::closing::close_by_sweeping;
@@ -55,7 +54,7 @@ impl Engine for SweepEngine {
 
     fn begin<R: Threads + Wait + Sync>(&mut self, _rt: &R, _words: &Words, _turn: &mut Turn)
         ensures made_for { self.new.pages ≡ self.old.pages }
-        ensures law { BeginsMarking _turn.old.pass _turn.new.pass }
+        ensures law { OnlyDoes begins_marking _turn.old.pass _turn.new.pass }
         ensures begun { IsBegun DoesNothing _turn.old.pass _turn.new.pass }
         ensures nothing { _turn.new ≡ _turn.old }
         ensures looks { self.new.looks ≡ self.old.looks }

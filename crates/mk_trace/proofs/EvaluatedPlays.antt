@@ -12,12 +12,13 @@ use Rattle.mk_core.specs.{Allocations.unreleased_storage, Words.all_below, Cells
 use Rattle.mk_core.specs.{Cycles.{NoneSweepsFrom, is_give}, History.{CallsAreAdmitted, calls_from, left_from}}
 use Rattle.mk_heap.proofs.Below.Objects.{ListParts.lacks_second, OwnGives.{none_more, one_more}}
 use Rattle.mk_heap.proofs.Below.{Objects.Bounds.quarantine_of_one_is_bounded, Words.Sweeping.other_steps_sweep}
-use Rattle.mk_heap.specs.Below.Objects.TurnCycles.{EndsExactly, TurnsOfAreExact, is_hold, is_want}
+use Rattle.mk_heap.specs.Below.Objects.TurnCycles.{EndsExactly, TurnsOfAreExact, is_hold}
 use Rattle.mk_heap.specs.{Below.Words.Sweeping.is_mark, Hosts.{Rests, no_table}}
 use Rattle.mk_heap.proofs.{Below.Words.Seats.has_all, HostsKept.first_is_host}
 use Rattle.mk_core.specs.Moments.{first_moment}
 use Rattle.mk_heap.{proofs.UnsweptHistories.{unswept_is_precise}, specs.Unswept.{IsUnswept}}
 use Rattle.mk_trace.specs.{Grammar.along, Peaks.{found_by_ends_from, greatest_from}, Playing.IsPlayed}
+use Rattle.mk_heap.specs.Below.Cycles.TurnKeeps.{is_want}
 
 unfoldable pub stored_and_made : Contents
 stored_and_made = record { pages = 1; resident = 1; slots = 2 ∷ []; events = W 0 1 5 ∷ A 0 ∷ [] }

@@ -3,11 +3,11 @@ ghost use Rattle.std.specs.Prelude.{◌≡◌, ◌<◌, true, false, option_map}
 ghost use Rattle.mk_never.specs.NeverHeap.{global_at};
 ghost use Rattle.mk_core.specs.{Cells.{is_freed, pointed_cell}, Counts.{ends, in_a_word}, History.{left, never_behind}};
 ghost use Rattle.mk_core.specs.Conditions.{is_word};
-ghost use Rattle.mk_heap.specs.Ending.{is_register};
 ghost use Rattle.mk_trace.specs.{Calls.{CallerIsHome, held_behind}, Peaks.IsBetweenCycles};
 ghost use Rattle.mk_trace.specs.Ledgers.{number_freed, unfreed, FreesSlot, freed_object_of};
 ghost use Rattle.mk_trace.specs.Calls.{HostOnlyLooks, word_behind};
 ghost use Rattle.mk_core.specs.declared.events.Word.TheVariants as table_word;
+ghost use Rattle.mk_heap.specs.Below.Cycles.EngineLaw.{is_register};
 
 use crate::ledger::FreedObject;
 use mk_core::{QuarantineWord, Word, has_bit, words_under};

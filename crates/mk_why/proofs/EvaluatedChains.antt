@@ -1,13 +1,13 @@
 -- Why objects are kept at the closes of two small cycles: by a register, by a chain of one link, and by no chain.
 use Rattle.mk_why.proofs.Vocabulary.{Config, IsWhy, Register, Root, World, word_of_root}
 use Rattle.mk_sweep.proofs.Below.Laws.Vocabulary.{Bool, List, None, Some, ℕ, arith, false, false≢true, leb-true}
-use Rattle.mk_sweep.proofs.Below.Laws.Vocabulary.{ltb-true, refl, small, subst, true, zero, [], ◌∷◌, ◌≡◌}
+use Rattle.mk_sweep.proofs.Below.Laws.Vocabulary.{ltb-true, refl, small, subst, true, zero, [], ◌∷◌, ◌≡◌, length, ◌≤◌}
 use Rattle.mk_core.proofs.{ListTests.{list_all-at, numbered_all}, Schedules.{by, c0, host, pointer_page}}
 use Rattle.mk_core.proofs.{SmallCycles.{begun_in_stop, marked_in_stop, three_objects}, MoreSchedules.exchanged}
 use Rattle.mk_core.proofs.TouchedTests.{is_into_members, points_into}
 use Rattle.mk_core.specs.{Words.all_below, Cells.pointed_cell, History.left_from}
 use Rattle.mk_sweep.proofs.EvaluatedSwept.{all_into, stopped, swept_in_stop, two_unreached, unreached}
-use Rattle.mk_why.specs.Chains.{IsChain, NoneIsShorter}
+use Rattle.mk_why.specs.Chains.{IsChain}
 
 -- Where what roots point into are members of a set, so is what each chain begins with.
 module _ (c : Config) (w : World) (S : ℕ → Bool) (registers : all_into c w S w.now.words.registers ≡ true)
@@ -40,7 +40,7 @@ unfolding left_from all_below pointed_cell begun_in_stop three_objects marked_in
 chain_to_second = grind (arith, ltb-true, leb-true)
 
 -- No root's word points into the second.
-none_is_shorter : NoneIsShorter small stopped 1 1
+none_is_shorter : (root : Root) (links : List ℕ) → IsChain small stopped root links 1 → 1 ≤ length links
 none_is_shorter root [] chain =
     let begins = begins_in small stopped is_first registers_into_first globals_into_first root [] 1 chain in
     absurd (false≢true (subst (λ (first : ℕ). is_first first ≡ true) chain.leads begins))

@@ -165,11 +165,9 @@ module _ (c : Config) (v : View) (r s : Tables) (cell : Cell) (size : ℕ) (of_k
             subst (IsKeptAt c v k) (sym cc) (record {
               number = kept.number;
               is = kept.is ∙ sym e;
-              storage = record {
-                kept = kept.kept;
-                address = ap (λ n. 65536 + 8 * n) (sym kept.is);
-                words = kept.words;
-              };
+              kept = kept.kept;
+              address = ap (λ n. 65536 + 8 * n) (sym kept.is);
+              words = kept.words;
             })
         | inr ne ↦ of_kept k x (sym (elsewhere k ne) ∙ is)
       ];

@@ -16,15 +16,12 @@ use Rattle.mk_sweep.proofs.Below.Cycles.{MaySteps.may_look, Steps.may_step, Want
 use Rattle.mk_sweep.proofs.Below.Words.Doing.{does_nothing, does_step, does_then, done_in_parts}
 use Rattle.mk_sweep.proofs.Below.Words.{PointedCells.looked_for, Sweeping.{does_sweep, sweeps_then}}
 use Rattle.mk_sweep.proofs.{Below.Words.{Seats.others_own, TurnSteps.still_stopped}, Kept.ready_of}
-use Rattle.mk_sweep.specs.Below.Cycles.TurnKeeps.{LeavesTurn, but_phase}
-use Rattle.mk_sweep.specs.Below.Cycles.EngineLaw.{ClosesMarks, IsFreeForCycle}
-use Rattle.mk_sweep.specs.Below.Cycles.{TurnKeeps.{closes_marks, is_want}, Stops.IsWanted}
-use Rattle.mk_sweep.specs.Below.Words.{Sweeping.{HaveNoMark, SweepsNothing}, Steps.{Does, are_of}}
-use Rattle.mk_sweep.specs.Below.Words.Steps.{count_done, done_in}
-use Rattle.mk_sweep.specs.Below.Words.{TurnSteps.{LooksForCell, MayLookAtHeaders}, States.event_of}
-use Rattle.mk_sweep.specs.Below.Words.{Steps.{IsAdmittedTo, IsEnabledTo}, TurnSteps.Acts}
+use Rattle.mk_sweep.specs.Below.Cycles.TurnKeeps.{LeavesTurn, but_phase, is_want, is_look}
+use Rattle.mk_sweep.specs.Below.Cycles.{EngineLaw.{ClosesMarks, IsFreeForCycle}, Tracing.is_tracing, Stops.IsWanted}
+use Rattle.mk_sweep.specs.Below.Words.{Sweeping.{HaveNoMark, SweepsNothing}, Steps.{Does, are_of, count_done, done_in}}
+use Rattle.mk_sweep.specs.Below.Words.{Steps.{IsAdmittedTo, IsEnabledTo}, TurnSteps.{LooksForCell, MayLookAtHeaders}}
+use Rattle.mk_sweep.specs.Below.Words.{TurnSteps.Acts, States.event_of}
 use Rattle.mk_core.specs.{Frames.written_of, History.Finding, Readings.NoneAttends}
-use Rattle.mk_why.specs.Stops.{is_look}
 
 -- Looks leave the view as it is, and so does what others do in the stop.
 
@@ -126,13 +123,13 @@ may_close_by t still pages roots =
 
 -- Looks are of the kinds of the law, and wish nothing.
 
-look_closes : (xs : List Finding) → are_of is_look xs ≡ true → are_of closes_marks xs ≡ true
+look_closes : (xs : List Finding) → are_of is_look xs ≡ true → are_of is_tracing xs ≡ true
 look_closes [] h = refl
 look_closes (x ∷ xs) h =
     let parts = and_parts (is_look x.event.step) (are_of is_look xs) h in
-    and_from (closes_marks x.event.step) (are_of closes_marks xs) (by x.event.step parts.0) (look_closes xs parts.1)
+    and_from (is_tracing x.event.step) (are_of is_tracing xs) (by x.event.step parts.0) (look_closes xs parts.1)
   where
-    by : (s : Step) → is_look s ≡ true → closes_marks s ≡ true
+    by : (s : Step) → is_look s ≡ true → is_tracing s ≡ true
     by x0 e = grind arith
 
 none_wished : (xs : List Finding) → are_of is_look xs ≡ true → count_by (λ (x : Finding). is_want x.event.step) xs ≡ 0
@@ -161,7 +158,7 @@ module _ {p : PassState} {t u : TurnState} (law : ClosesMarks p t.pass) (on : Lo
 
   pub law_kept : ClosesMarks p u.pass
   law_kept =
-      let does = does_then closes_marks p t.pass u.pass law.does (grind (arith, look_closes)) in
+      let does = does_then is_tracing p t.pass u.pass law.does (grind (arith, look_closes)) in
       let none : count_done is_want on.does ≡ 0 = none_wished (done_in t.pass on.does.more) on.does.of_kinds in
       let one = law.one_want in
       let both = counts_then is_want law.does on.does does in

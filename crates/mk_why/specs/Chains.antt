@@ -39,13 +39,11 @@ pub record IsChain (c : Config) (w : World) (root : Root) (links : List ℕ) (b 
   pub points : PointsIntoAllocation c w (word_of_root w.now.words root) first
   pub leads : LinksLead c w first links b
 
--- No chain to the allocation has fewer links than this many.
-abbrev pub NoneIsShorter : Config → World → ℕ → ℕ → Type 0
-NoneIsShorter c w b count = (root : Root) (links : List ℕ) → IsChain c w root links b → count ≤ length links
-
 -- Why the allocation is kept: a shortest chain, or that there is none.
 abbrev pub IsWhy : Config → World → ℕ → Option Root → List ℕ → Type 0
-IsWhy c w b (Some root) links = IsChain c w root links b × NoneIsShorter c w b (length links)
+IsWhy c w b (Some root) links =
+    IsChain c w root links b
+    × ((other : Root) (others : List ℕ) → IsChain c w other others b → length links ≤ length others)
 IsWhy c w b None links = (links ≡ []) × ((root : Root) (others : List ℕ) → IsChain c w root others b → ⊥)
 
 -- The allocation is of the cycle's snapshot, and its cell is marked.

@@ -113,8 +113,7 @@ pub record IsQueued (r : Tables) (base : ℕ) : Type 0 where
 abbrev pub links_of : Tables → ℕ → ℕ
 links_of r i = links_in (entry_at r.found.items (slice_index r.queue.items i))
 
--- The queue has each allocation that was found, in the order of their links. None has more than this many,
--- or more than its place.
+-- The queue has what was found, in the order of links. None has more than this many, or more than its place.
 pub record IsSearch (c : Config) (v : View) (r : Tables) (limit : ℕ) : Type 0 where
   pub size : length r.found.items ≡ 64 * c.pages
   pub ways : AreWays c v r.found.items
@@ -176,17 +175,12 @@ pub record WhyState (E : Type 0) : Type 0 where
 abbrev pub HasKeptNothing : {E : Type 0} → WhyState E → Type 0
 HasKeptNothing why = (base : ℕ) → entry_at why.kept base ≡ None
 
--- Chains, followed back through the tables, and the entries that are made of them. Only private functions cite these
--- words.
-
 -- one link back, and how the allocation was found that has it
-
--- one step back along a chain
 abbrev pub back_to : ℕ → ℕ → Option Found → Option (ℕ × Found)
 back_to link links None = None
 back_to link links (Some before) = if nat_lt before.links links then Some (link, before) else None
 
--- one step back, the way that an allocation was found
+-- the same, by the way that it was found
 abbrev pub back_by : List (Option Found) → Way → ℕ → Option (ℕ × Found)
 back_by found (Start root) links = None
 back_by found (Link link from) links = back_to link links (entry_at found from)
@@ -206,8 +200,6 @@ pub record IsLed (c : Config) (v : View) (b count : ℕ) (root : Option Root) (l
   pub is : root ≡ Some start
   pub chain : IsChain c (world_in v) start links b
   pub as_many : length links ≡ count
-
--- what is known of an allocation by its entry in the table, and told of it
 
 -- It was found this way, if it was found.
 abbrev pub IsWayOf : Config → View → List (Option Found) → ℕ → Option Found → Type 0
@@ -242,19 +234,13 @@ pub record AreEntriesBelow (c : Config) (v : View) (base : ℕ) (entries : List 
   pub each : (b : ℕ) → is_kept c (world_in v) b ≡ true → base_at v b < base
       → (entry : Kept) × Contains entries entry × IsEntryOf c (world_in v) entry b
 
--- The kept allocations of a view, in a table. `Why` cites `IsTold`; only private functions cite the other words.
-
--- The allocation is kept, and this is its storage.
-pub record IsStorageOf (c : Config) (v : View) (b : ℕ) (s : Storage) : Type 0 where
-  pub kept : is_kept c (world_in v) b ≡ true
-  pub address : s.address ≡ address_of (base_at v b)
-  pub words : s.words ≡ storage_words c (placed_at v.allocations b)
-
 -- The object with this first word is kept, and has this storage.
 pub record IsKeptAt (c : Config) (v : View) (base : ℕ) (s : Storage) : Type 0 where
   pub number : ℕ
   pub is : base_at v number ≡ base
-  pub storage : IsStorageOf c v number s
+  pub kept : is_kept c (world_in v) number ≡ true
+  pub address : s.address ≡ address_of (base_at v number)
+  pub words : s.words ≡ storage_words c (placed_at v.allocations number)
 
 -- The table has nothing but kept allocations.
 abbrev pub AreOfKept : Config → View → List (Option Storage) → Type 0

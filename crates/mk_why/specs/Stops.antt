@@ -1,11 +1,11 @@
 -- What stays still in the stop, after the inner engine's marks. `Why` cites `view_of`, `IsToldBefore` and
 -- `IsClosedBefore`; only private functions cite the other words.
-use Rattle.std.specs.Prelude.{ℕ, ◌*◌, ◌==◌, min, if◌then◌else◌, ◌≡◌, Bool, true, false, List, []}
+use Rattle.std.specs.Prelude.{ℕ, ◌*◌, ◌==◌, min, if◌then◌else◌, ◌≡◌, List, []}
 use Rattle.mk_core.specs.{Allocations.{PlacedAllocation, placed_at}, History.World, Moments.nothing_done}
-use Rattle.mk_core.specs.{Readings.NoneAttends, Words.Words, declared.{config.Config.Config, events.Step.Step}}
-use Rattle.mk_sweep.specs.Below.Words.{States.{PassState, TurnState, now_of, world_of}, TurnSteps.IsStopped}
-use Rattle.mk_sweep.specs.Below.{Words.Steps.Does, Cycles.EngineLaw.{IsAtPhase, IsFreeForCycle}}
-use Rattle.mk_sweep.specs.Below.Cycles.TurnKeeps.{LeavesTurn, but_phase}
+use Rattle.mk_core.specs.{Readings.NoneAttends, Words.Words, declared.config.Config.Config}
+use Rattle.mk_sweep.specs.Below.Words.{States.{PassState, TurnState, now_of, world_of}, TurnSteps.IsStopped, Steps.Does}
+use Rattle.mk_sweep.specs.Below.Cycles.{EngineLaw.{IsAtPhase, IsFreeForCycle}, TurnKeeps.{LeavesTurn, but_phase}}
+use Rattle.mk_sweep.specs.Below.Cycles.TurnKeeps.{is_look}
 
 -- The number of pages of the inner engine if tables of this many words fit it, otherwise 0.
 abbrev pub pages_for : ℕ → ℕ → ℕ
@@ -46,11 +46,6 @@ pub record IsStill (p : PassState) : Type 0 where
   pub gates : IsStopped p
   pub wanted : IsAtPhase p 2
   pub none : NoneAttends (now_of p)
-
--- it is a look
-abbrev pub is_look : Step → Bool
-is_look (Step.Look x) = true
-is_look _ = false
 
 -- The holder of the turn has looked, and all is still.
 pub record LooksWhileStill (t u : TurnState) : Type 0 where

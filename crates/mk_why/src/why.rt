@@ -1,8 +1,9 @@
 //! The engine that reports why.
 ghost use Rattle.std.specs.Prelude.{◌≡◌, [], IfOk, false, length};
 ghost use Rattle.mk_core.specs.{declared.config.Config.Config, History.World};
-ghost use Rattle.mk_sweep.specs.Below.Cycles.{BeginCycle.IsBegun, EngineLaw.{BeginsMarking, IsAtPhase}};
-ghost use Rattle.mk_sweep.specs.Below.{Cycles.EngineLaw.IsFreeForCycle, Words.Sweeping.SweepsNothing};
+ghost use Rattle.mk_sweep.specs.Below.Cycles.{BeginCycle.IsBegun, TurnKeeps.{OnlyDoes, begins_marking}};
+ghost use Rattle.mk_sweep.specs.Below.Cycles.EngineLaw.{IsAtPhase, IsFreeForCycle};
+ghost use Rattle.mk_sweep.specs.Below.Words.Sweeping.{SweepsNothing};
 ghost use Rattle.mk_why.specs.{Chains.AreKept, Searching.{IsTold, HasKeptNothing}, Stops.pages_for};
 ghost use Rattle.mk_why.specs.Stops.{IsClosedBefore, IsToldBefore, view_of};
 
@@ -81,7 +82,7 @@ impl<E: Engine> Engine for Why<E> {
         ensures made_for { ⟦<Why<E> as Engine>⟧.made_for self.new ≡ ⟦<Why<E> as Engine>⟧.made_for self.old }
         ensures found { self.new.found ≡ self.old.found }
         ensures kept { self.new.kept ≡ self.old.kept }
-        ensures law { BeginsMarking turn.old.pass turn.new.pass }
+        ensures law { OnlyDoes begins_marking turn.old.pass turn.new.pass }
         ensures reached { E.ways.sweeps ≡ false → SweepsNothing turn.old.pass turn.new.pass }
         ensures begun { IsBegun E.ways.begins turn.old.pass turn.new.pass }
     {

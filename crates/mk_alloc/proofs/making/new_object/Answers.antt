@@ -71,7 +71,7 @@ later g c = record {
 }
 
 later_keeps : (g : _) (c : After-give-2 g)
-    → PassKeeps g.E.Engine.ways
+    → PassKeeps false g.E.Engine.ways
     c.args.caller.now.pass c.give-2.result
 later_keeps g c =
     let tried = c.try_place.ensures in

@@ -1,4 +1,4 @@
-use Rattle.mk_alloc.proofs.SeekingTurns.{misfits_finished, room_finished, seeks_finished, tried_then}
+use Rattle.mk_alloc.proofs.SeekingTurns.{idle_still, room_finished, seeks_finished, tried_then}
 use Rattle.mk_alloc.proofs.{UnsweptTurns.{finish_keeps, keeps_then, unbegun_keeps}, OneCycles.finish_then_none}
 use Rattle.mk_alloc.proofs.FinishedCycles.{closed_longer}
 use Rattle.mk_cycle.proofs.HeldFirst.{finish_holds, first_then}
@@ -15,8 +15,9 @@ returns-clause-tried g c =
     let law = c.finish_cycle-turn.ensures.law in
     let history = c.finish_cycle-turn.result.0.in_order.history in
     tried_then (seeks_finished needs.seeks needs.nowhere law history) c.try_place-placed.ensures.tried
-    (λ none misfits. misfits_finished needs.seeks needs.nowhere law history misfits
-    (c.try_place-placed.ensures.looks none))
+
+pub returns-clause-idle : goal.returns-clause-idle
+returns-clause-idle g c none = idle_still c.finish_cycle-turn.ensures.law (c.try_place-placed.ensures.looks none)
 
 pub returns-clause-ends : goal.returns-clause-ends
 returns-clause-ends g c =

@@ -1,8 +1,7 @@
-use Rattle.mk_alloc.proofs.{Vocabulary.{Done, Misfits, ap, cycle_ended, ◌∙◌}, OneCycles.begin_then_ends}
-use Rattle.mk_alloc.proofs.{SeekingTurns.{idly_then, misfits_begun, still_needs, tried_then}, UnsweptTurns.left_keeps}
-use Rattle.mk_alloc.proofs.{FinishedCycles.{begun_and_finished, never_by_none}, OneCycles.ends_none}
-use Rattle.mk_alloc.proofs.{SaidCloses.begin_says_none, rooms.place_behind_cycle.Goals.After-begin_cycle}
-use Rattle.mk_alloc.proofs.rooms.place_behind_cycle.Goals as goal
+use Rattle.mk_alloc.proofs.{Vocabulary.{Misfits, ap, cycle_ended, ◌∙◌, Holding}, OneCycles.{begin_then_ends, ends_none}}
+use Rattle.mk_alloc.proofs.{SeekingTurns.{misfits_begun, still_needs, tried_then}, UnsweptTurns.left_keeps}
+use Rattle.mk_alloc.proofs.{FinishedCycles.{begun_and_finished, never_by_none}, SaidCloses.begin_says_none}
+use Rattle.mk_alloc.proofs.{rooms.place_behind_cycle.Goals.After-begin_cycle, rooms.place_behind_cycle.Goals as goal}
 
 -- the cycle that begins
 begun : (g : _) (c : After-begin_cycle g) → Misfits c.args.turn.pass c.begin_cycle.new.turn.pass
@@ -17,12 +16,11 @@ finish_and_place-requires-clause-needs g c κs within =
 
 pub returns-clause-tried : goal.returns-clause-tried
 returns-clause-tried g c =
-    let seeks = (begun g (goal.at.returns-clause-tried g c).After-begin_cycle).seeks in
-    tried_then seeks c.finish_and_place.ensures.tried (λ none misfits. record {
-      idly = idly_then seeks misfits;
-      ended = c.finish_and_place.ensures.cycle none
-          ∙ ap (λ (x : Done). cycle_ended x.cycle) c.begin_cycle.ensures.law.done;
-    })
+    tried_then (begun g (goal.at.returns-clause-tried g c).After-begin_cycle).seeks c.finish_and_place.ensures.tried
+
+pub returns-clause-ended : goal.returns-clause-ended
+returns-clause-ended g c none =
+    c.finish_and_place.ensures.cycle none ∙ ap (λ (x : Holding). cycle_ended x.cycle) c.begin_cycle.ensures.law.done
 
 pub returns-clause-one : goal.returns-clause-one
 returns-clause-one g c =

@@ -1,9 +1,8 @@
-use Rattle.mk_alloc.proofs.Vocabulary.{Misfits, SeesNone, arith, is_begin, refl, sym, ◌∙◌}
 use Rattle.mk_alloc.proofs.OneCycles.{ends_none, looks_begins_none, none_then_none}
-use Rattle.mk_alloc.proofs.SeekingTurns.{idly_then, misfits_seen, phase_seen, seen_at, still_needs, tried_then}
-use Rattle.mk_alloc.proofs.UnsweptTurns.{kinds_keep, kinds_then}
+use Rattle.mk_alloc.proofs.SeekingTurns.{misfits_seen, phase_seen, seen_at, still_needs, tried_then}
+use Rattle.mk_alloc.proofs.{UnsweptTurns.{kinds_keep, kinds_then}, Vocabulary.{Misfits, SeesNone, arith, is_begin}}
+use Rattle.mk_alloc.proofs.{Vocabulary.{refl, sym, ◌∙◌}, rooms.place_behind_older.Goals as goal}
 use Rattle.mk_alloc.proofs.rooms.place_behind_older.Goals.{After-is_cycle_on-is_on}
-use Rattle.mk_alloc.proofs.rooms.place_behind_older.Goals as goal
 
 -- the look at the phase
 seen : (g : _) (c : After-is_cycle_on-is_on g) → Misfits c.args.turn.pass c.is_cycle_on-is_on.new.turn.pass
@@ -20,12 +19,13 @@ begins_none g c =
 pub returns-then-not-is_on-clause-tried : goal.returns-then-not-is_on-clause-tried
 returns-then-not-is_on-clause-tried g c = record {
   placed = λ placed. cc;
-  misfits = λ none. record {
-    misfits = seen g (goal.at.returns-then-not-is_on-clause-tried g c).After-is_cycle_on-is_on;
-    idle = seen_at c.is_cycle_on-is_on.ensures.looks (phase_seen c.args.turn.pass c.requires.needs.seeks.quiet.phase
-        (sym c.is_cycle_on-is_on.ensures.on ∙ c.if-not-is_on.true));
-  };
+  misfits = λ none. seen g (goal.at.returns-then-not-is_on-clause-tried g c).After-is_cycle_on-is_on;
 }
+
+pub returns-then-not-is_on-clause-idle : goal.returns-then-not-is_on-clause-idle
+returns-then-not-is_on-clause-idle g c none =
+    seen_at c.is_cycle_on-is_on.ensures.looks (phase_seen c.args.turn.pass c.requires.needs.seeks.quiet.phase
+    (sym c.is_cycle_on-is_on.ensures.on ∙ c.if-not-is_on.true))
 
 pub returns-then-not-is_on-clause-begins : goal.returns-then-not-is_on-clause-begins
 returns-then-not-is_on-clause-begins g c =
@@ -42,8 +42,8 @@ finish_and_place-requires-clause-needs g c κs within =
 
 pub returns-clause-tried : goal.returns-clause-tried
 returns-clause-tried g c =
-    let looked = (seen g (goal.at.returns-clause-tried g c).After-is_cycle_on-is_on).seeks in
-    tried_then looked c.finish_and_place.ensures.tried (λ none misfits. idly_then looked misfits)
+    tried_then (seen g (goal.at.returns-clause-tried g c).After-is_cycle_on-is_on).seeks
+    c.finish_and_place.ensures.tried
 
 pub returns-clause-begins : goal.returns-clause-begins
 returns-clause-begins g c =

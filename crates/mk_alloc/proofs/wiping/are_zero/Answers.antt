@@ -15,12 +15,11 @@ pub look_on_page-all-requires-clause-enabled : goal.look_on_page-all-requires-cl
 look_on_page-all-requires-clause-enabled c = grind (arith, look_may)
 
 pub look_on_page-all-requires-clause-page : goal.look_on_page-all-requires-clause-page
-look_on_page-all-requires-clause-page c = omega (arith, c.requires.on_page, c.loop-i-test.true)
+look_on_page-all-requires-clause-page c = omega (arith, c.requires.first, c.requires.last, c.loop-i-test.true)
 
 pub loop-i-preserved : goal.loop-i-preserved
 loop-i-preserved c =
     let p : PassState = c.args.turn.now.pass in
-    let group = c.requires.within in
     let i = c.loop-i.invariant in
     let word : ℕ = 8 * c.args.group + c.loop-i.i in
     let next : word + 1 ≡ 8 * c.args.group + (c.loop-i.i + 1) = omega arith in
@@ -28,7 +27,7 @@ loop-i-preserved c =
     let found : ℕ = c.look_on_page-all.result in
     let seen : (n : ℕ) → WipesTo p c.args.run n c.loop-i.turn.pass → WipesTo p c.args.run n q =
     λ n reached. looks_then c.args.turn.now.in_order c.requires.from.may word reached
-    (omega (arith, group, c.loop-i-test.true)) c.look_on_page-all.ensures.acts in
+    (omega (arith, c.requires.within, c.requires.last, c.loop-i-test.true)) c.look_on_page-all.ensures.acts in
     record {
       still = seen (8 * c.args.group) i.still;
       zero = λ none.

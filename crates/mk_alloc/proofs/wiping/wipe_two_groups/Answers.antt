@@ -5,15 +5,17 @@ use Rattle.mk_alloc.proofs.WipedRuns.{wipes_from, wipes_named, wipes_then}
 pub wipe_group-requires : goal.wipe_group-requires
 wipe_group-requires c = record {
   from = c.requires.from;
-  within = omega (arith, c.requires.within, c.requires.last);
-  on_page = omega (arith, c.requires.first, c.requires.last);
+  within = c.requires.within;
+  first = c.requires.first;
+  last = omega (arith, c.requires.last);
 }
 
 pub wipe_group-requires-2 : goal.wipe_group-requires-2
 wipe_group-requires-2 c = record {
   from = wipes_from (wipes_named c.wipe_group.ensures (omega arith)) c.requires.from;
-  within = omega (arith, c.requires.within, c.requires.last);
-  on_page = omega (arith, c.requires.first, c.requires.last);
+  within = c.requires.within;
+  first = omega (arith, c.requires.first);
+  last = omega (arith, c.requires.last);
 }
 
 pub returns : goal.returns

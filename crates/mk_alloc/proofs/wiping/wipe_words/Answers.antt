@@ -14,12 +14,12 @@ pub look_on_page-found-requires-clause-enabled : goal.look_on_page-found-require
 look_on_page-found-requires-clause-enabled c = grind (arith, look_may)
 
 pub look_on_page-found-requires-clause-page : goal.look_on_page-found-requires-clause-page
-look_on_page-found-requires-clause-page c = omega (arith, c.requires.on_page, c.loop-i-test.true)
+look_on_page-found-requires-clause-page c = omega (arith, c.requires.first, c.requires.last, c.loop-i-test.true)
 
 pub wipe-requires-clause-enabled : goal.wipe-requires-clause-enabled
 wipe-requires-clause-enabled c =
     let n : ℕ = 8 * c.args.group + c.loop-i.i in
-    let near : n < 64 * c.args.run.count = omega (arith, c.requires.within, c.loop-i-test.true) in
+    let near : n < 64 * c.args.run.count = omega (arith, c.requires.within, c.requires.last, c.loop-i-test.true) in
     wipe_may c.args.turn.now.in_order c.requires.from.may (looks_then c.args.turn.now.in_order c.requires.from.may
     n c.loop-i.invariant.wiped near c.look_on_page-found.ensures.acts) near
 
@@ -29,7 +29,7 @@ loop-i-preserved c =
     let i = c.loop-i.invariant in
     let n : ℕ = 8 * c.args.group + c.loop-i.i in
     let next : n + 1 ≡ 8 * c.args.group + (c.loop-i.i + 1) = omega arith in
-    let near : n < 64 * c.args.run.count = omega (arith, c.requires.within, c.loop-i-test.true) in
+    let near : n < 64 * c.args.run.count = omega (arith, c.requires.within, c.requires.last, c.loop-i-test.true) in
     let turn = c.args.turn.now.in_order in
     let may = c.requires.from.may in
     let seen = looks_then turn may n i.wiped near c.look_on_page-found.ensures.acts in

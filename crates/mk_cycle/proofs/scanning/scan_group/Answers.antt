@@ -18,13 +18,13 @@ returns-then-are_before_heap c =
           (look.before c.if-are_before_heap.true (k - first) (omega arith)));
     }
 
-pub scan_from-requires-clause-due : goal.scan_from-requires-clause-due
-scan_from-requires-clause-due c = due_same c.requires.due c.are_before_heap.ensures.looks.words
+pub scan_words-requires-clause-due : goal.scan_words-requires-clause-due
+scan_words-requires-clause-due c = due_same c.requires.due c.are_before_heap.ensures.looks.words
 
-pub scan_from-requires-clause-part : goal.scan_from-requires-clause-part
-scan_from-requires-clause-part c i lt = let part = c.requires.part in omega arith
+pub scan_words-requires-clause-part : goal.scan_words-requires-clause-part
+scan_words-requires-clause-part c i lt = let part = c.requires.part in omega arith
 
 pub returns : goal.returns
 returns c =
     scans_then {i = 8 * c.args.group} (none_scanned (omega arith) (looks_alone c.are_before_heap.ensures.looks))
-    c.scan_from.ensures
+    c.scan_words.ensures

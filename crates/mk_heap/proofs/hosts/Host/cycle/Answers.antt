@@ -1,8 +1,8 @@
 use Rattle.mk_alloc.proofs.Below.Laws.Vocabulary.{arith, refl, subst, sym, ◌∙◌}
 use Rattle.mk_alloc.proofs.Below.Words.Sweeping.{other_step_sweeps, sweeps_then}
 use Rattle.mk_alloc.proofs.SaidCloses.{begin_says_none, finish_says, said_then}
-use Rattle.mk_alloc.specs.Below.Cycles.{BeginCycle.EachIsBegun, EngineLaw.IsAtPhase}
-use Rattle.mk_alloc.specs.Below.Words.{Sweeping.SweepsNothing, States.PassState}
+use Rattle.mk_alloc.specs.{Below.Cycles.BeginCycle.EachIsBegun, Below.Cycles.EngineLaw.IsAtPhase}
+use Rattle.mk_alloc.specs.{Below.Words.Sweeping.SweepsNothing, Below.Words.States.PassState}
 use Rattle.mk_alloc.specs.TurnCycles.{EachIsFinished, EachIsSaid}
 use Rattle.mk_heap.proofs.{HomeCallers.{hosts_seat, none_by_phase, step_overs}, MovedHosts.{MovesOn, begin_moves}}
 use Rattle.mk_heap.proofs.MovedHosts.{finish_moves, idle_moves, moved_is_host, moves_more, taken_own}
@@ -11,6 +11,7 @@ use Rattle.mk_heap.proofs.{BegunHosts.{cycle_begun, idle_then_sweeps}, HostsKept
 use Rattle.mk_heap.proofs.{hosts.Host.cycle.Goals.After-finish_cycle-turn, FinishedHosts.cycle_finished}
 use Rattle.mk_heap.{proofs.SaidHosts.{idle_then_says, step_says_none}, specs.{Ending.TakesIdleTurn, Hosts.HostState}}
 use Rattle.mk_heap.proofs.hosts.Host.cycle.Goals as goal
+use Rattle.std.specs.Prelude.{false}
 
 pub give-back-requires-clause-enabled : goal.give-back-requires-clause-enabled
 give-back-requires-clause-enabled g c =
@@ -78,7 +79,8 @@ pub returns-clause-begun : goal.returns-clause-begun
 returns-clause-begun g c =
     let view = home_view c.take_home-home.ensures c.self.view_is in
     let q : PassState = c.give-back.result in
-    subst (λ (h : HostState). EachIsBegun g.E.Engine.ways.begins h.pass q) view (cycle_begun g.E.Engine.ways.begins
+    subst (λ (h : HostState). EachIsBegun false g.E.Engine.ways.begins h.pass q) view
+    (cycle_begun g.E.Engine.ways.begins
     c.take_idle_turn-turn.ensures.takes c.begin_cycle.ensures.law c.begin_cycle.ensures.begun
     c.finish_cycle-turn.ensures.law c.give-back.ensures.acts.makes)
 
