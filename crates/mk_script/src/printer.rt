@@ -44,7 +44,8 @@ impl Printer {
         }
     }
 
-    /// Appends the first so many of these bytes.
+    /// Appends the first so many of these bytes. All are put, since a copy of a constant length is the fastest, and the
+    /// next piece is written over those that don't count.
     #[inline(always)]
     pub fn piece(&mut self, bytes: &[u8], count: usize) -> Result<(), NoMemory>
         requires { (count ≤ length bytes.now) × (length bytes.now ≤ 31) }
