@@ -1,7 +1,7 @@
 -- The bytes that a source has left, and those that a sink has taken. `None` stands for one that
 -- does not tell them: of it these words claim nothing.
 use Rattle.std.specs.Prelude.{◌≡◌, ℕ, Bool, true, ◌+◌, ◌<◌, ◌≤◌, List, [], ◌++◌, length, take, drop, Some, IfSome}
-use Rattle.std.specs.{Prelude.{false, None, if◌then◌else◌}, declared.option.Option.Option}
+use Rattle.std.specs.{Prelude.{None, if◌then◌else◌}, declared.option.Option.Option}
 
 -- how many bytes an input may have: one MiB
 abbrev pub longest_input : ℕ
@@ -49,13 +49,9 @@ pub record Stream : Type 0 where
   pub tells : Bool
   pub faults : ℕ
 
--- a stream before its first call that tells nothing
-abbrev pub new_stream : Option (List ℕ) → Stream
-new_stream known = record { known = known; tells = false; faults = 0 }
-
--- a stream before its first call that tells what its reader or writer does
-abbrev pub telling_stream : Option (List ℕ) → Stream
-telling_stream known = record { known = known; tells = true; faults = 0 }
+-- a stream before its first call, which tells what its reader or writer does, or nothing
+abbrev pub new_stream : Bool → Option (List ℕ) → Stream
+new_stream tells known = record { known = known; tells = tells; faults = 0 }
 
 -- the bytes that a stream tells
 abbrev pub told : Stream → Option (List ℕ)

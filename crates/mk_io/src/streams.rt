@@ -1,8 +1,9 @@
 // Sources and sinks over the readers and writers of std, as a program's standard input and output.
-ghost use Rattle.std.specs.Prelude.{◌≡◌, ◌<◌, ◌≤◌, length, take, false, IfOk, OnErr, IsSome, is_err, if◌then◌else◌};
+ghost use Rattle.std.specs.Prelude.{◌≡◌, ◌<◌, ◌≤◌, length, take, true, false, IfOk, OnErr, IsSome, is_err};
+ghost use Rattle.std.specs.Prelude.{if◌then◌else◌};
 ghost use Rattle.std.specs.Io.KnownBytes.{ReadConsumes, WriteAppends};
 ghost use Rattle.mk_io.specs.{Bytes.{Appends, IsAtEnd, Takes}, Memory.{Rose, saturating_next}};
-ghost use Rattle.mk_io.specs.Bytes.{new_stream, telling_stream, told};
+ghost use Rattle.mk_io.specs.Bytes.{new_stream, told};
 
 use crate::Failed;
 use crate::sinks::Sink;
@@ -36,7 +37,7 @@ impl<T: Read> Model for StdinSource<T> {
 impl<T: Read> StdinSource<T> {
     /// A source that tells nothing, over any reader.
     pub fn new(reader: T) -> StdinSource<T>
-        ensures { result ≡ new_stream (T.remaining reader) }
+        ensures { result ≡ new_stream false (T.remaining reader) }
     {
         StdinSource {
             reader,
@@ -48,7 +49,7 @@ impl<T: Read> StdinSource<T> {
     /// A source that tells what its reader tells: as a slice of bytes or a `Cursor`, all that is left.
     pub fn telling(reader: T) -> StdinSource<T>
         requires { IsSome (T.remaining reader) }
-        ensures { result ≡ telling_stream (T.remaining reader) }
+        ensures { result ≡ new_stream true (T.remaining reader) }
     {
         StdinSource {
             reader,
@@ -116,7 +117,7 @@ impl<T: Write> Model for StdoutSink<T> {
 impl<T: Write> StdoutSink<T> {
     /// A sink that tells nothing, over any writer.
     pub fn new(writer: T) -> StdoutSink<T>
-        ensures { result ≡ new_stream (T.contents writer) }
+        ensures { result ≡ new_stream false (T.contents writer) }
     {
         StdoutSink {
             writer,
@@ -128,7 +129,7 @@ impl<T: Write> StdoutSink<T> {
     /// A sink that tells what its writer tells: as a `Vec` of bytes or a `Cursor`, all that it took.
     pub fn telling(writer: T) -> StdoutSink<T>
         requires { IsSome (T.contents writer) }
-        ensures { result ≡ telling_stream (T.contents writer) }
+        ensures { result ≡ new_stream true (T.contents writer) }
     {
         StdoutSink {
             writer,
