@@ -80,7 +80,11 @@ module _ {program script : List Item} (few : HasFew (scope_of program script)) {
   pub admitted : (fed : Fed) (item : Item) → Says program script item
       → IfSome (op_of (scope_of program script) fed item) (λ o. (a : Answer) → Admits (flagged o a))
   admitted fed (New pointer ty) s =
-      flagged_new Admits _ _ (λ full. admits (pointers pointer _ s.declared, grind (arith, type_place)) tt tt)
+      flagged_new Admits _ _ (λ full. admits (
+        pointers pointer _ s.declared,
+        subst (λ (ts : List (List Kind)). number_of_name ty (type_names program) < length ts)
+            (sym fits.types) (type_place (type_names program) ty program s.words s.is).0,
+      ) tt tt)
   admitted fed (Free pointer) s =
       λ a. admits (pointers pointer s.at s.declared) tt
       (bases program (register_of script n caller pointer) s.at s.base (fits.declared pointer s.at s.declared))

@@ -1,6 +1,7 @@
 -- The configuration of a well typed program of some text is within its limits.
 use Rattle.std.proofs.lemmas.List.Elements.{All-cons, All-nil}
-use Rattle.mk_check.proofs.Vocabulary.{All, ArePassed, Around, At, Config, Item, List, None, Option, Some, TypeWord}
+use Rattle.mk_check.proofs.Vocabulary.{All, ArePassed, Around, At, Config, Item, List, None, Option, Some, TypeKind}
+use Rattle.mk_check.proofs.Vocabulary.{TypeWord}
 use Rattle.mk_check.proofs.Vocabulary.{Which, ℕ, ap, arith, false≢true, fault_from, globals_among, globals_of, is_some}
 use Rattle.mk_check.proofs.Vocabulary.{kind_of, kinds_among, length, length-map, map, number_of_name, pages_of, refl}
 use Rattle.mk_check.proofs.Vocabulary.{resident_of, script_names, slice_get, slice_get_within, this_script, true}
@@ -10,7 +11,7 @@ use Rattle.mk_check.proofs.GrammarLemmas.{at_most-None, heap_within, length-glob
 use Rattle.mk_check.proofs.{GrammarLemmas.length-type_names, NumberLemmas.{length-globals_among, length-kinds_among}}
 use Rattle.mk_check.{proofs.{DeclaredPlaces.type_place, FormLemmas.line_item-word}, specs.Declarations.{config_of}}
 use Rattle.mk_core.specs.Moments.{IsAmong, IsTypeAmong, IsWithinLimits}
-use Rattle.mk_check.specs.Typing.{IsWellTyped, inside_fault, offsets_fault, pointers_fault, type_fault}
+use Rattle.mk_check.{proofs.Among.{offsets_fault, pointers_fault}, specs.Typing.{IsWellTyped, inside_fault, type_fault}}
 use Rattle.mk_script.{proofs.PassedLines.{IsWhole}, specs.declared.items.TypeWord.TheVariants.{Number, Pointer}}
 use Rattle.mk_script.specs.{Lines.at_most, declared.items.Item.TheVariants.{Global, TypeLine}}
 
@@ -18,7 +19,9 @@ module _ (program : List Item) (script : List Item) where
   -- the place of a type that is declared
   pub type_fault-within : (name : List ℕ) → type_fault (record { program = program; script = script }) name ≡ None
       → number_of_name name (type_names program) < length (types_of program)
-  type_fault-within name h = grind (arith, has_value, unless-None, type_place)
+  type_fault-within name h =
+      let words = has_value (type_words name program) (unless-None _ TypeKind.NoType h) in
+      (type_place (type_names program) name program words.value words.is).0
 
   word_within : (at : At) (found : Option (List TypeWord)) → type_words at.name program ≡ found → is_some
       (word_among found at.offset) ≡ true → IsAmong (types_of program) (kind_of (type_names program) (Pointer at))

@@ -2,9 +2,34 @@
 use Rattle.std.proofs.{lemmas.List.{length-reverse, reverse-append, reverse-reverse, set_at}, Common.set}
 use Rattle.std.proofs.lemmas.Grind.{reverse_onto}
 use Rattle.mk_check.proofs.Vocabulary.{Bool, Item, List, Part, PartCount, ℕ, ap, arith, branch, cases_lt, counts_of}
-use Rattle.mk_check.proofs.Vocabulary.{get_or, get_or_at, if◌then◌else◌, length, length-append, refl, reverse, suc}
-use Rattle.mk_check.proofs.Vocabulary.{with_item, zero, [], ◌*◌, ◌++◌, ◌+◌, ◌-◌, ◌<◌, ◌∙◌, ◌∷◌, ◌≡◌}
-use Rattle.mk_check.specs.Blocks.{counts_with, saturated_count, with_count, with_innermost, length_of}
+use Rattle.mk_check.proofs.Vocabulary.{get_or, get_or_at, if◌then◌else◌, length, length-append, max, refl, reverse}
+use Rattle.mk_check.proofs.Vocabulary.{suc, sym, with_item, zero, [], ◌*◌, ◌++◌, ◌+◌, ◌-◌, ◌<◌, ◌∙◌, ◌∷◌, ◌≡◌}
+use Rattle.mk_check.specs.Blocks.{innermost_count, length_of, no_count, outer_counts, saturated_count, with_innermost}
+use Rattle.mk_script.specs.{Scopes.is_instruction, declared.items.Item.TheVariants.{Else, End, If, Repeat}}
+
+-- as many instructions before the innermost part
+abbrev pub with_count : ℕ → List PartCount → List PartCount
+with_count n counts = with_innermost (λ count. record count { lines = saturated_count (count.lines + n) }) counts
+
+-- the innermost part was a second branch
+abbrev pub with_second : List PartCount → List PartCount
+with_second counts = with_innermost (λ count. record { lines = 0; second = count.lines }) counts
+
+-- what an `if` of these branches counts, and a `repeat` of this body
+abbrev pub if_count : PartCount → ℕ
+if_count branches = saturated_count (1 + max branches.lines branches.second)
+
+-- the instructions that a `repeat` executes
+abbrev pub repeat_count : ℕ → PartCount → ℕ
+repeat_count rounds body = saturated_count (1 + rounds * (1 + body.lines))
+
+-- the counts with an item before them
+abbrev pub counts_with : Item → List PartCount → List PartCount
+counts_with (Repeat rounds) counts = with_count (repeat_count rounds (innermost_count counts)) (outer_counts counts)
+counts_with (If number) counts = with_count (if_count (innermost_count counts)) (outer_counts counts)
+counts_with Else counts = with_second counts
+counts_with End counts = no_count ∷ counts
+counts_with item counts = if is_instruction item then with_count 1 counts else counts
 
 saturated_count-rounds : (rounds body : ℕ)
     → saturated_count (1 + rounds * (1 + body)) ≡ saturated_count (1 + rounds * (1 + saturated_count body))
@@ -30,6 +55,11 @@ pub counts-with_item : (line : ℕ) (item : Item) (parts : List Part)
     → counts_of (with_item line item parts) ≡ counts_with item (counts_of parts)
 unfolding with_lines
 counts-with_item line item parts = grind (arith, with_lines, saturated_count-repeat, counts-with_line)
+
+-- So what is kept follows an item that is read.
+pub read_item : (line : ℕ) (item : Item) (parts : List Part) {old new : List PartCount} → old ≡ counts_of parts
+    → new ≡ counts_with item old → new ≡ counts_of (with_item line item parts)
+read_item line item parts of is = is ∙ ap (counts_with item) of ∙ sym (counts-with_item line item parts)
 
 -- The innermost part is the last in memory.
 

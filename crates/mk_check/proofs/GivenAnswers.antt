@@ -16,7 +16,7 @@ use Rattle.mk_core.specs.{Accesses.found, Calls.at_rest, Enabled.IsEnabled, Hist
 use Rattle.mk_core.specs.{Moments.{Moment, flight_of}, declared.events.{Event.Event, Seat.Seat}}
 use Rattle.mk_core.specs.declared.{events.Step.Step, seats.{Flight.Flight, Progress.Progress}}
 use Rattle.mk_check.specs.Feed.{EndedCallsAreAnswered, answer_waiting, answers_among, answers_given, ended_calls}
-use Rattle.mk_check.specs.Feed.{ends_call, ends_call_of}
+use Rattle.mk_check.{proofs.Among.ends_call_of, specs.Feed.ends_call}
 
 abbrev pub as_list : Option Answer → List Answer
 as_list a = cons_option a []

@@ -1,3 +1,4 @@
+pub mod Among
 pub mod ConfigLemmas
 pub mod CountLemmas
 pub mod FaultLemmas

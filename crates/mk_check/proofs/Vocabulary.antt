@@ -20,9 +20,10 @@ pub use Rattle.mk_check.specs.{Feeding.TakesLine, Blocks.{Blocks, Choice, Done, 
 pub use Rattle.mk_check.specs.Blocks.{before_next_script, blocks_from, branch, is_end_of_block, outermost_blocks}
 pub use Rattle.mk_check.specs.Blocks.{parts_from, script_from, script_of, with_item, with_line}
 pub use Rattle.mk_check.specs.Building.{AddsLine, Built, parts_in, with_element, with_node_and_part, with_part}
-pub use Rattle.mk_check.specs.{Blocks.counts_of, Declarations.{globals_among, globals_of, kind_of, kinds_among}}
+pub use Rattle.mk_check.specs.{Blocks.counts_of, Declarations.{globals_of, kind_of}}
+pub use Rattle.mk_check.proofs.Among.{fed_before_answers, globals_among, kinds_among}
 pub use Rattle.mk_check.specs.{Declarations.{number_of_name, pages_of, resident_of, types_of}, Feed.{Fed, Scope}}
-pub use Rattle.mk_check.specs.Feed.{fed_before_answers, fed_before_lines, feed, note, op_of, refusal_line, refusal_text}
+pub use Rattle.mk_check.specs.Feed.{fed_before_lines, feed, note, op_of, refusal_line, refusal_text}
 pub use Rattle.mk_check.specs.Feed.{run, scope_of, take_answer, take_answers, with_answer}
 pub use Rattle.mk_check.specs.Feeding.{FeedStandsFor, FeedState, IsAtStop, IsFeed, IsWaiting, TakesAnswer, first_op}
 pub use Rattle.mk_check.specs.Feeding.{next_op, script_scope, work_left}

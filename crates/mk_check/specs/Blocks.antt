@@ -23,9 +23,7 @@ followed_by (Choice number first second rest) more = Choice number first second 
 -- no line is left of the block
 abbrev pub is_end_of_block : Blocks → Bool
 is_end_of_block Done = true
-is_end_of_block (Line line item rest) = false
-is_end_of_block (Rounds rounds body rest) = false
-is_end_of_block (Choice number first second rest) = false
+is_end_of_block _ = false
 
 -- A part of a script, read from its end: the blocks so far, and the second branch, where its `else` was read.
 pub record Part : Type 0 where
@@ -161,9 +159,7 @@ ScriptsAreTheirLines program = IsOfSomeText program → (k : ℕ)
     → AreWritten (script_of program k).line (blocks_from (script_of program k).line (script_of program k).items)
     (script_of program k).items
 
--- What is counted of the open parts of a script that is read from its end, the innermost first. A count that passes
--- 2^64 - 1 stays there.
--- Private functions alone cite these words.
+-- What is counted of the open parts of a script that is read from its end. Private functions alone cite these words.
 
 -- the count, at most 2^64 - 1
 abbrev pub saturated_count : ℕ → ℕ
@@ -177,7 +173,7 @@ count_of part =
       second = saturated_count (length_of (branch part.second));
     }
 
--- what is counted of each open block
+-- what is counted of each open part
 abbrev pub counts_of : List Part → List PartCount
 counts_of parts = map count_of parts
 
@@ -199,27 +195,3 @@ outer_counts (count ∷ counts) = counts
 abbrev pub with_innermost : (PartCount → PartCount) → List PartCount → List PartCount
 with_innermost f [] = []
 with_innermost f (count ∷ counts) = f count ∷ counts
-
--- as many instructions before the innermost part
-abbrev pub with_count : ℕ → List PartCount → List PartCount
-with_count n counts = with_innermost (λ count. record count { lines = saturated_count (count.lines + n) }) counts
-
--- the innermost part was a second branch
-abbrev pub with_second : List PartCount → List PartCount
-with_second counts = with_innermost (λ count. record { lines = 0; second = count.lines }) counts
-
--- what an `if` of these branches counts, and a `repeat` of this body
-abbrev pub if_count : PartCount → ℕ
-if_count branches = saturated_count (1 + max branches.lines branches.second)
-
--- the instructions that a `repeat` executes
-abbrev pub repeat_count : ℕ → PartCount → ℕ
-repeat_count rounds body = saturated_count (1 + rounds * (1 + body.lines))
-
--- the counts with an item before them
-abbrev pub counts_with : Item → List PartCount → List PartCount
-counts_with (Repeat rounds) counts = with_count (repeat_count rounds (innermost_count counts)) (outer_counts counts)
-counts_with (If number) counts = with_count (if_count (innermost_count counts)) (outer_counts counts)
-counts_with Else counts = with_second counts
-counts_with End counts = no_count ∷ counts
-counts_with item counts = if is_instruction item then with_count 1 counts else counts

@@ -27,22 +27,15 @@ abbrev pub declared_type : Item → Option (List ℕ × List ℕ)
 declared_type (Global name ty) = Some (name, ty)
 declared_type item = None
 
--- the types of these lines, where types have these names
-abbrev pub kinds_among : List (List ℕ) → List Item → List (List Kind)
-kinds_among types items =
-    map (λ (t : List ℕ × List TypeWord). map (kind_of types) t.1) (filter_map declared_words items)
-
 -- the types that are declared, in order
 abbrev pub types_of : List Item → List (List Kind)
-types_of items = kinds_among (type_names items) items
-
--- the types of the globals of these lines
-abbrev pub globals_among : List (List ℕ) → List Item → List ℕ
-globals_among types items = map (λ (g : List ℕ × List ℕ). number_of_name g.1 types) (filter_map declared_type items)
+types_of items =
+    map (λ (t : List ℕ × List TypeWord). map (kind_of (type_names items)) t.1) (filter_map declared_words items)
 
 -- the type of each global, in order
 abbrev pub globals_of : List Item → List ℕ
-globals_of items = globals_among (type_names items) items
+globals_of items =
+    map (λ (g : List ℕ × List ℕ). number_of_name g.1 (type_names items)) (filter_map declared_type items)
 
 -- the pages of its heap, and how many of them may be resident
 abbrev pub pages_of : List Item → ℕ
@@ -68,8 +61,7 @@ config_of program markers =
       globals = globals_of program;
     }
 
--- Names that are found by a key.
--- Private functions alone cite these words.
+-- Names that are found by a key. Private functions alone cite these words.
 
 -- the key of a name: its last byte, and the one before it, as two digits of a number
 abbrev pub key_of : List ℕ → ℕ

@@ -40,10 +40,8 @@ number_in scope fed name = slice_index fed.numbers (number_of_name name scope.nu
 
 -- the script, with this number there
 abbrev pub fed_with_number : Scope → Fed → List ℕ → ℕ → Fed
-fed_with_number scope fed name value = record fed {
-  numbers =
-      slice_set fed.numbers (number_of_name name scope.numbers) value;
-}
+fed_with_number scope fed name value =
+    record fed { numbers = slice_set fed.numbers (number_of_name name scope.numbers) value }
 
 -- the operation that an instruction asks for, if it is one on the heap, a register or a global
 abbrev pub op_of : Scope → Fed → Item → Option Op
@@ -119,10 +117,7 @@ abbrev pub is_refusal : Answer → Bool
 is_refusal Answer.Done = false
 is_refusal (Answer.Num n) = false
 is_refusal (Answer.Word w) = false
-is_refusal Answer.Full = true
-is_refusal Answer.Fault = true
-is_refusal Answer.Null = true
-is_refusal Answer.Double = true
+is_refusal _ = true
 
 -- what is printed of a refused instruction
 abbrev pub refusal_line : ℕ → List ℕ → List ℕ
@@ -180,20 +175,12 @@ scope_of program script = record {
 -- which a name that isn't declared has
 abbrev pub fed_before_lines : Scope → ScriptText → Fed
 fed_before_lines scope script =
-    record {
-      left = Done;
-      numbers = replicate 9 0;
-      ops = [];
-      text = codes "script " ++ (script.name ++ newline);
-    }
+    record { left = Done; numbers = replicate 9 0; ops = []; text = codes "script " ++ (script.name ++ newline) }
 
--- a script that has run to its first operation
-abbrev pub fed_before_answers : Scope → ScriptText → Fed
-fed_before_answers scope script = run scope (blocks_from script.line script.items) (fed_before_lines scope script)
-
--- the script, fed with these answers
+-- the script, which runs to its first operation and is fed with these answers
 abbrev pub feed_script : Scope → ScriptText → List Answer → Fed
-feed_script scope script answers = take_answers scope (fed_before_answers scope script) answers
+feed_script scope script answers =
+    take_answers scope (run scope (blocks_from script.line script.items) (fed_before_lines scope script)) answers
 
 -- Script k of a program, fed with answers: it stops before the first operation that has no answer left.
 abbrev pub feed : List Item → ℕ → List Answer → Fed
@@ -202,9 +189,6 @@ feed program k answers = feed_script (scope_of program (script_of program k).ite
 -- the script has ended
 abbrev pub has_ended : Fed → Bool
 has_ended fed = is_end_of_block fed.left
-
--- Names that a script may use.
--- Private functions alone cite these words.
 
 -- what references point to
 abbrev pub referred_names : List (Bor (List ℕ)) → List (List ℕ)
@@ -222,13 +206,9 @@ ends_call Step.Leave = true
 ends_call Step.Give = true
 ends_call _ = false
 
--- the event ends a call of this script
-abbrev pub ends_call_of : ℕ → Event → Bool
-ends_call_of k e = is_same_seat (Caller k) e.seat && ends_call e.step
-
 -- how many calls of caller k have ended
 abbrev pub ended_calls : ℕ → List Event → ℕ
-ended_calls k es = count_by (ends_call_of k) es
+ended_calls k es = count_by (λ (e : Event). is_same_seat (Caller k) e.seat && ends_call e.step) es
 
 -- the answers of caller k's calls among these, in their order
 abbrev pub answers_among : ℕ → List Decided → List Answer

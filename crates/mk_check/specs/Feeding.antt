@@ -3,7 +3,7 @@ use Rattle.std.specs.Prelude.{◌≡◌, ℕ, false, ◌++◌, List, [], ◌∷�
 use Rattle.mk_never.specs.declared.operations.Op.{Op}
 use Rattle.mk_core.specs.declared.events.Answer.{Answer}
 use Rattle.mk_script.specs.declared.items.Item.{Item}
-use Rattle.mk_check.specs.{declared.feeding.tree.Node.Node, Blocks.{Blocks, Done, Line, Rounds, Choice, script_of}}
+use Rattle.mk_check.specs.{declared.feeding.tree.Node.Node, Blocks.{Blocks, Line, script_of}}
 use Rattle.mk_check.specs.Feed.{Scope, Fed, op_of, scope_of, feed, has_ended, is_refusal}
 use Rattle.mk_check.specs.{Steps.{numbered, element_of, after_answer, is_silent}, Trees.{Place, left_in, node_at}}
 use Rattle.mk_check.specs.Trees.{PlaceFits, PlaceIsWithin, StopsAt, work_of, asks_at, HasStopped, LeavesBlock, kept_in}
@@ -27,10 +27,8 @@ work_left s = work_of (left_in s.nodes s.place)
 
 -- the operation that blocks begin with
 abbrev pub first_op : Scope → Fed → Blocks → Option Op
-first_op scope fed Done = None
 first_op scope fed (Line line item rest) = op_of scope fed item
-first_op scope fed (Rounds rounds body rest) = None
-first_op scope fed (Choice number first second rest) = None
+first_op scope fed _ = None
 
 -- the names that script k may use
 abbrev pub script_scope : List Item → ℕ → Scope

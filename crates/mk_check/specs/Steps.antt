@@ -1,9 +1,9 @@
 -- A script with numbers for its names, and what it does. It is the script of the definitions in Feed, with less to
 -- look up.
 -- Private functions cite these words, and public clauses only by what a `Feed` stands for.
-use Rattle.std.specs.Prelude.{ℕ, zero, suc, ◌+◌, ◌-◌, ◌%◌, ◌^◌, Bool, true, false, List, ◌++◌, slice_index, slice_set}
-use Rattle.std.specs.Prelude.{◌==◌, ◌&&◌, ◌||◌, if◌then◌else◌, not, Option, Some, None, is_some, unwrap_or}
-use Rattle.std.specs.{Option.option_or, Fmt.decimal}
+use Rattle.std.specs.Prelude.{ℕ, zero, suc, ◌+◌, ◌-◌, ◌%◌, ◌^◌, Bool, true, false, List, [], ◌++◌, slice_index}
+use Rattle.std.specs.Prelude.{slice_set, ◌==◌, ◌&&◌, ◌||◌, if◌then◌else◌, not, Option, Some, None, is_some}
+use Rattle.std.specs.Fmt.{decimal}
 use Rattle.mk_never.specs.declared.operations.Op.{Op}
 use Rattle.mk_core.specs.declared.events.Answer.{Answer}
 use Rattle.mk_script.specs.declared.items.Item.{Item}
@@ -36,74 +36,50 @@ then_steps (Choice number first second rest) more = Choice number first second (
 -- no line is left
 abbrev pub none_left : Steps → Bool
 none_left Done = true
-none_left (Line line instruction rest) = false
-none_left (Rounds rounds body rest) = false
-none_left (Choice number first second rest) = false
+none_left _ = false
 
 -- the register of a number's name
 abbrev pub number_place : Scope → List ℕ → ℕ
 number_place scope name = number_of_name name scope.numbers
 
--- an instruction on an object that keeps no number
-abbrev pub on_object : Scope → Item → Option Instruction
-on_object scope (item.New pointer ty) = Some (New (pointer_place scope pointer) (number_of_name ty scope.types))
-on_object scope (item.Free pointer) = Some (Free (pointer_place scope pointer))
-on_object scope (item.Getp loaded pointer index) =
-    Some (GetPtr (pointer_place scope loaded) (pointer_place scope pointer) index)
-on_object scope (item.Setp pointer index stored) =
-    Some (SetPtr (pointer_place scope pointer) index (pointer_place scope stored))
-on_object scope other = None
-
--- an instruction that copies a pointer
-abbrev pub on_registers : Scope → Item → Option Instruction
-on_registers scope (item.Lea moved pointer index) =
-    Some (Lea (pointer_place scope moved) (pointer_place scope pointer) index)
-on_registers scope (item.Move copied pointer) = Some (Move (pointer_place scope copied) (pointer_place scope pointer))
-on_registers scope (item.Clear pointer) = Some (Clear (pointer_place scope pointer))
-on_registers scope (item.Loadg loaded global) =
-    Some (GetGlobal (pointer_place scope loaded) (number_of_name global scope.globals))
-on_registers scope (item.Storeg stored global) =
-    Some (SetGlobal (number_of_name global scope.globals) (pointer_place scope stored))
-on_registers scope other = None
-
--- an instruction that keeps a number of an object
-abbrev pub load : Scope → Item → Option Instruction
-load scope (item.Getn number pointer index) =
-    Some (GetNum (pointer_place scope pointer) (number_place scope number) index)
-load scope (item.Casp number pointer index expected stored) =
-    Some
-    (CasPtr (pointer_place scope pointer) (pointer_place scope expected) (pointer_place scope stored)
-    (number_place scope number) index)
-load scope other = None
-
--- an instruction that keeps or shows what it tests of pointers
-abbrev pub pointer_test : Scope → Item → Option Instruction
-pointer_test scope (item.Same number first second) =
-    Some (Same (pointer_place scope first) (pointer_place scope second) (number_place scope number))
-pointer_test scope (item.Isnull number pointer) =
-    Some (IsNull (pointer_place scope pointer) (number_place scope number))
-pointer_test scope (item.Show pointer) = Some (Show (pointer_place scope pointer))
-pointer_test scope other = None
-
--- an instruction that reads number registers
-abbrev pub arithmetic : Scope → Item → Option Instruction
-arithmetic scope (item.Const number value) = Some (Const (number_place scope number) value)
-arithmetic scope (item.Add number left right) =
-    Some (Add (number_place scope number) (number_place scope left) (number_place scope right))
-arithmetic scope (item.Sub number left right) =
-    Some (Sub (number_place scope number) (number_place scope left) (number_place scope right))
-arithmetic scope (item.Print number) = Some (Print (number_place scope number))
-arithmetic scope (item.Setn pointer index number) =
-    Some (SetNum (pointer_place scope pointer) (number_place scope number) index)
-arithmetic scope other = None
-
 -- a line that is neither the head nor the end of a block
 abbrev pub instruction_of : Scope → Item → Instruction
-instruction_of scope item =
-    unwrap_or
-    (option_or
-    (option_or (option_or (option_or (on_object scope item) (on_registers scope item)) (load scope item))
-    (pointer_test scope item)) (arithmetic scope item)) Nothing
+instruction_of scope (item.New pointer ty) = New (pointer_place scope pointer) (number_of_name ty scope.types)
+instruction_of scope (item.Free pointer) = Free (pointer_place scope pointer)
+instruction_of scope (item.Getn number pointer index) =
+    GetNum (pointer_place scope pointer) (number_place scope number) index
+instruction_of scope (item.Setn pointer index number) =
+    SetNum (pointer_place scope pointer) (number_place scope number) index
+instruction_of scope (item.Getp loaded pointer index) =
+    GetPtr (pointer_place scope loaded) (pointer_place scope pointer) index
+instruction_of scope (item.Setp pointer index stored) =
+    SetPtr (pointer_place scope pointer) index (pointer_place scope stored)
+instruction_of scope (item.Casp number pointer index expected stored) =
+    CasPtr (pointer_place scope pointer) (pointer_place scope expected) (pointer_place scope stored)
+    (number_place scope number) index
+instruction_of scope (item.Lea moved pointer index) =
+    Lea (pointer_place scope moved) (pointer_place scope pointer) index
+instruction_of scope (item.Move copied pointer) = Move (pointer_place scope copied) (pointer_place scope pointer)
+instruction_of scope (item.Clear pointer) = Clear (pointer_place scope pointer)
+instruction_of scope (item.Loadg loaded global) =
+    GetGlobal (pointer_place scope loaded) (number_of_name global scope.globals)
+instruction_of scope (item.Storeg stored global) =
+    SetGlobal (number_of_name global scope.globals) (pointer_place scope stored)
+instruction_of scope (item.Same number first second) =
+    Same (pointer_place scope first) (pointer_place scope second) (number_place scope number)
+instruction_of scope (item.Isnull number pointer) = IsNull (pointer_place scope pointer) (number_place scope number)
+instruction_of scope (item.Show pointer) = Show (pointer_place scope pointer)
+instruction_of scope (item.Const number value) = Const (number_place scope number) value
+instruction_of scope (item.Add number left right) =
+    Add (number_place scope number) (number_place scope left) (number_place scope right)
+instruction_of scope (item.Sub number left right) =
+    Sub (number_place scope number) (number_place scope left) (number_place scope right)
+instruction_of scope (item.Print number) = Print (number_place scope number)
+instruction_of scope _ = Nothing
+
+-- the same for lines of some sort
+abbrev pub instruction_of_sort : (Item → Bool) → Scope → Item → Instruction
+instruction_of_sort is_of_sort scope item = if is_of_sort item then instruction_of scope item else Nothing
 
 -- what a line adds to the script's tree
 abbrev pub element_of : Scope → Item → Element
@@ -193,12 +169,7 @@ stop_of (Choice number first second rest) kept =
 
 -- whether an instruction asks for an operation, which doesn't depend on the number registers
 abbrev pub is_asking : Instruction → Bool
-is_asking Nothing = false
-is_asking (Const number value) = false
-is_asking (Add number left right) = false
-is_asking (Sub number left right) = false
-is_asking (Print number) = false
-is_asking instruction = true
+is_asking instruction = is_some (op_asked [] instruction)
 
 -- whether it prints when it runs
 abbrev pub is_print : Instruction → Bool

@@ -120,8 +120,7 @@ pub record PlaceFits (nodes : List Node) (p : Place) : Type 0 where
 abbrev pub StopsAt : Node → Place → Type 0
 StopsAt Node.Done p = p.frames ≡ []
 StopsAt (Node.Line line instruction next) p = is_some (op_asked p.numbers instruction) ≡ true
-StopsAt (Node.Rounds rounds body next) p = ⊥
-StopsAt (Node.Choice number first second next) p = ⊥
+StopsAt _ p = ⊥
 
 -- a `repeat` begins, or goes on, with this many rounds left
 abbrev pub place_in_rounds : Place → ℕ → ℕ → ℕ → Place
@@ -164,11 +163,8 @@ innermost frames = slice_get frames (length frames - 1)
 
 -- the node where a script goes on that is at this one: after the end of a block it has left that
 abbrev pub node_to_go_on : Node → ℕ → Option Frame → ℕ
-node_to_go_on Node.Done at None = at
 node_to_go_on Node.Done at (Some f) = node_after f
-node_to_go_on (Node.Line line instruction next) at block = at
-node_to_go_on (Node.Rounds rounds body next) at block = at
-node_to_go_on (Node.Choice number first second next) at block = at
+node_to_go_on _ at block = at
 
 -- the node with which a block goes on
 abbrev pub resumed_node : List Node → Place → ℕ
@@ -206,8 +202,7 @@ pub record HasStopped (nodes : List Node) (old new : Place) : Type 0 where
   pub run : stopped_in nodes new ≡ stop_of (left_in nodes old) (kept_in old)
   pub fits : PlaceFits nodes old → PlaceFits nodes new
 
--- A script's tree with what comes after each node.
--- Private functions alone cite these words.
+-- A script's tree with what comes after each node. Private functions alone cite these words.
 
 -- the nodes of these spots
 abbrev pub nodes_of : List Spot → List Node
@@ -215,17 +210,13 @@ nodes_of spots = map (λ (s : Spot). s.node) spots
 
 -- the node is a line that asks for an operation
 abbrev pub asks_at : Node → Bool
-asks_at Node.Done = false
 asks_at (Node.Line line instruction next) = is_asking instruction
-asks_at (Node.Rounds rounds body next) = false
-asks_at (Node.Choice number first second next) = false
+asks_at _ = false
 
 -- the instruction of a line; of another node, one that asks for nothing
 abbrev pub instruction_of_node : Node → Instruction
-instruction_of_node Node.Done = Nothing
 instruction_of_node (Node.Line line instruction next) = instruction
-instruction_of_node (Node.Rounds rounds body next) = Nothing
-instruction_of_node (Node.Choice number first second next) = Nothing
+instruction_of_node _ = Nothing
 
 -- what comes where this node is the next one
 abbrev pub sequel_to : Node → Sequel
@@ -251,10 +242,8 @@ sequels_before next n instruction =
 
 -- what comes after a node
 abbrev pub sequels_of : List Node → Node → Sequels
-sequels_of nodes Node.Done = no_sequels
 sequels_of nodes (Node.Line line instruction next) = sequels_before next (node_at nodes next) instruction
-sequels_of nodes (Node.Rounds rounds body next) = no_sequels
-sequels_of nodes (Node.Choice number first second next) = no_sequels
+sequels_of nodes _ = no_sequels
 
 -- what is known of the end of a block
 abbrev pub end_spot : Spot

@@ -116,17 +116,11 @@ abbrev pub is_base : Option At → Bool
 is_base (Some at) = at.offset == 0
 is_base None = false
 
--- the pointer words of a type: all names first, and then all offsets
-abbrev pub pointers_fault : Around → List TypeWord → Option TypeKind
-pointers_fault a [] = None
-pointers_fault a (Number ∷ words) = pointers_fault a words
-pointers_fault a (Pointer at ∷ words) = type_fault a at.name or pointers_fault a words
-
--- a word of the type points to a word that isn't there
-abbrev pub offsets_fault : Around → List TypeWord → Option TypeKind
-offsets_fault a [] = None
-offsets_fault a (Number ∷ words) = offsets_fault a words
-offsets_fault a (Pointer at ∷ words) = inside_fault a (Some at) or offsets_fault a words
+-- the first fault of a type's pointer words, each judged so by where it points
+abbrev pub words_fault : (At → Option TypeKind) → List TypeWord → Option TypeKind
+words_fault fault [] = None
+words_fault fault (Number ∷ words) = words_fault fault words
+words_fault fault (Pointer at ∷ words) = fault at or words_fault fault words
 
 -- a script's length
 abbrev pub length_fault : ℕ → Option TypeKind
@@ -153,7 +147,8 @@ pointer_word_fault a pointer index register =
 -- What is wrong with a line that stands after these of its script, and before those after it: the names from left to
 -- right, then offsets, then kinds, then an interior pointer that is freed.
 abbrev pub typing_fault : Around → ℕ → List Item → Item → Option TypeKind
-typing_fault a line behind (TypeLine name words) = pointers_fault a words or offsets_fault a words
+typing_fault a line behind (TypeLine name words) =
+    words_fault (λ at. type_fault a at.name) words or words_fault (λ at. inside_fault a (Some at)) words
 typing_fault a line behind (Global name ty) = type_fault a ty
 typing_fault a line behind (Script name) =
     length_fault (script_length (record { name = name; line = line + 1; items = before_next_script behind }))
@@ -233,8 +228,7 @@ NamesFirstFault program (TypeStop.IllTyped line k) =
     first_typing_fault program ≡ Some (record { line = line; kind = k })
 NamesFirstFault program TypeStop.NoMemory = ⊤
 
--- Rules for the lines of each sort.
--- Private functions alone cite these words.
+-- Rules for the lines of each sort, and what look-ups by name know. Private functions alone cite these words.
 
 -- the word that is named
 abbrev pub at_of : Place → At
@@ -243,9 +237,6 @@ at_of place = record { name = place.name.now; offset = place.offset }
 -- what is wrong with a line of some sort
 abbrev pub fault_of_sort : (Item → Bool) → Around → Item → Option TypeKind
 fault_of_sort is_of_sort a item = if is_of_sort item then typing_fault a 0 [] item else None
-
--- What look-ups by name know of a program.
--- Private functions alone cite these words.
 
 -- A program, and how many of its lines were read.
 pub record Reading : Type 0 where

@@ -30,8 +30,9 @@ impl Model for OpenParts {
 }
 
 impl OpenParts {
-    ghost use Rattle.mk_check.specs.Blocks.{no_count, innermost_count, outer_counts, with_count, with_second};
-    ghost use Rattle.mk_check.specs.Blocks.{counts_with};
+    ghost use Rattle.std.specs.Prelude.{ℕ, List, ◌+◌};
+    ghost use Rattle.mk_check.specs.Blocks.{Part, counts_of, innermost_count, no_count, outer_counts, saturated_count};
+    ghost use Rattle.mk_check.specs.Blocks.{with_innermost, with_item};
 
     fn new(alloc: Global) -> OpenParts
         ensures { result ≡ [] }
@@ -66,7 +67,8 @@ impl OpenParts {
 
     /// Counts instructions before the innermost part.
     fn add(&mut self, instructions: u64)
-        ensures { self.new ≡ with_count instructions self.old }
+        ensures { self.new ≡ with_innermost
+            (λ count. record count { lines = saturated_count (count.lines + instructions) }) self.old }
     {
         if let Some(innermost) = self.outermost_first.last_mut() {
             innermost.lines = innermost.lines.saturating_add(instructions);
@@ -75,7 +77,7 @@ impl OpenParts {
 
     /// Makes the innermost part the second branch of the part before it.
     fn turn(&mut self)
-        ensures { self.new ≡ with_second self.old }
+        ensures { self.new ≡ with_innermost (λ count. record { lines = 0; second = count.lines }) self.old }
     {
         if let Some(innermost) = self.outermost_first.last_mut() {
             innermost.second = innermost.lines;
@@ -84,8 +86,10 @@ impl OpenParts {
     }
 
     /// Reads the item before those that were read.
+    #[tactic(auto, using(crate::proofs::CountLemmas::read_item))]
     fn read(&mut self, item: &Item) -> Result<(), NoMemory>
-        ensures { OnOk result (self.new ≡ counts_with item.now self.old) }
+        ensures { OnOk result ((line : ℕ) (parts : List Part) → self.old ≡ counts_of parts
+            → self.new ≡ counts_of (with_item line item.now parts)) }
     {
         match item {
             Item::Repeat { rounds } => {

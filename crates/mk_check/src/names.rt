@@ -33,8 +33,8 @@ impl<'d, 'a> Model for Names<'d, 'a> {
 }
 
 impl<'d, 'a> Names<'d, 'a> {
-    ghost use Rattle.mk_check.specs.{Feed.{HasFew, pointer_place}, Steps.{on_object, on_registers, load}};
-    ghost use Rattle.mk_check.specs.Steps.{pointer_test, arithmetic, element_of};
+    ghost use Rattle.mk_script.specs.Scopes.{is_number_access, is_pointer_access, is_pointer_line, is_number_line};
+    ghost use Rattle.mk_check.specs.{Feed.{HasFew, pointer_place}, Steps.{element_of, instruction_of_sort}};
 
     /// The names that are declared for a script of a program with these declarations.
     pub fn of(
@@ -78,195 +78,180 @@ impl<'d, 'a> Names<'d, 'a> {
         NumberRegister::at(self.registers.numbers.number_of(name))
     }
 
-    /// An instruction on an object that keeps no number.
-    fn on_object(&self, item: &Item) -> Option<Instruction>
+    fn number_access(&self, item: &Item) -> Instruction
         requires { HasFew self.now }
-        ensures { result ≡ on_object self.now item.now }
-    {
-        match item {
-            Item::New { pointer, ty } => Some(Instruction::New {
-                d: self.pointer(pointer),
-                ty: self.ty(ty),
-            }),
-            Item::Free { pointer } => Some(Instruction::Free {
-                p: self.pointer(pointer),
-            }),
-            Item::Getp {
-                loaded,
-                pointer,
-                index,
-            } => Some(Instruction::GetPtr {
-                d: self.pointer(loaded),
-                q: self.pointer(pointer),
-                i: *index,
-            }),
-            Item::Setp {
-                pointer,
-                index,
-                stored,
-            } => Some(Instruction::SetPtr {
-                q: self.pointer(pointer),
-                i: *index,
-                p: self.pointer(stored),
-            }),
-            _ => None,
-        }
-    }
-
-    /// An instruction that copies a pointer.
-    fn on_registers(&self, item: &Item) -> Option<Instruction>
-        requires { HasFew self.now }
-        ensures { result ≡ on_registers self.now item.now }
-    {
-        match item {
-            Item::Lea {
-                moved,
-                pointer,
-                index,
-            } => Some(Instruction::Lea {
-                d: self.pointer(moved),
-                q: self.pointer(pointer),
-                i: *index,
-            }),
-            Item::Move { copied, pointer } => Some(Instruction::Move {
-                d: self.pointer(copied),
-                q: self.pointer(pointer),
-            }),
-            Item::Clear { pointer } => Some(Instruction::Clear {
-                d: self.pointer(pointer),
-            }),
-            Item::Loadg { loaded, global } => Some(Instruction::GetGlobal {
-                d: self.pointer(loaded),
-                g: self.global(global),
-            }),
-            Item::Storeg { stored, global } => Some(Instruction::SetGlobal {
-                g: self.global(global),
-                p: self.pointer(stored),
-            }),
-            _ => None,
-        }
-    }
-
-    /// An instruction that keeps a number of an object.
-    fn load(&self, item: &Item) -> Option<Instruction>
-        requires { HasFew self.now }
-        ensures { result ≡ load self.now item.now }
+        ensures { result ≡ instruction_of_sort is_number_access self.now item.now }
     {
         match item {
             Item::Getn {
                 number,
                 pointer,
                 index,
-            } => Some(Instruction::GetNum {
+            } => Instruction::GetNum {
                 q: self.pointer(pointer),
                 number: self.number(number),
                 i: *index,
-            }),
+            },
+            Item::Setn {
+                pointer,
+                index,
+                number,
+            } => Instruction::SetNum {
+                q: self.pointer(pointer),
+                number: self.number(number),
+                i: *index,
+            },
+            _ => Instruction::Nothing,
+        }
+    }
+
+    fn pointer_access(&self, item: &Item) -> Instruction
+        requires { HasFew self.now }
+        ensures { result ≡ instruction_of_sort is_pointer_access self.now item.now }
+    {
+        match item {
+            Item::Getp {
+                loaded,
+                pointer,
+                index,
+            } => Instruction::GetPtr {
+                d: self.pointer(loaded),
+                q: self.pointer(pointer),
+                i: *index,
+            },
+            Item::Setp {
+                pointer,
+                index,
+                stored,
+            } => Instruction::SetPtr {
+                q: self.pointer(pointer),
+                i: *index,
+                p: self.pointer(stored),
+            },
             Item::Casp {
                 number,
                 pointer,
                 index,
                 expected,
                 stored,
-            } => Some(Instruction::CasPtr {
+            } => Instruction::CasPtr {
                 q: self.pointer(pointer),
                 p: self.pointer(expected),
                 r: self.pointer(stored),
                 number: self.number(number),
                 i: *index,
-            }),
-            _ => None,
+            },
+            _ => Instruction::Nothing,
         }
     }
 
-    /// An instruction that keeps what it tests of pointers.
-    fn pointer_test(&self, item: &Item) -> Option<Instruction>
+    fn pointer_line(&self, item: &Item) -> Instruction
         requires { HasFew self.now }
-        ensures { result ≡ pointer_test self.now item.now }
+        ensures { result ≡ instruction_of_sort is_pointer_line self.now item.now }
+    {
+        match item {
+            Item::New { pointer, ty } => Instruction::New {
+                d: self.pointer(pointer),
+                ty: self.ty(ty),
+            },
+            Item::Free { pointer } => Instruction::Free {
+                p: self.pointer(pointer),
+            },
+            Item::Lea {
+                moved,
+                pointer,
+                index,
+            } => Instruction::Lea {
+                d: self.pointer(moved),
+                q: self.pointer(pointer),
+                i: *index,
+            },
+            Item::Move { copied, pointer } => Instruction::Move {
+                d: self.pointer(copied),
+                q: self.pointer(pointer),
+            },
+            Item::Clear { pointer } => Instruction::Clear {
+                d: self.pointer(pointer),
+            },
+            Item::Loadg { loaded, global } => Instruction::GetGlobal {
+                d: self.pointer(loaded),
+                g: self.global(global),
+            },
+            Item::Storeg { stored, global } => Instruction::SetGlobal {
+                g: self.global(global),
+                p: self.pointer(stored),
+            },
+            _ => Instruction::Nothing,
+        }
+    }
+
+    fn number_line(&self, item: &Item) -> Instruction
+        requires { HasFew self.now }
+        ensures { result ≡ instruction_of_sort is_number_line self.now item.now }
     {
         match item {
             Item::Same {
                 number,
                 first,
                 second,
-            } => Some(Instruction::Same {
+            } => Instruction::Same {
                 p: self.pointer(first),
                 q: self.pointer(second),
                 number: self.number(number),
-            }),
-            Item::Isnull { number, pointer } => Some(Instruction::IsNull {
+            },
+            Item::Isnull { number, pointer } => Instruction::IsNull {
                 p: self.pointer(pointer),
                 number: self.number(number),
-            }),
-            Item::Show { pointer } => Some(Instruction::Show {
+            },
+            Item::Show { pointer } => Instruction::Show {
                 p: self.pointer(pointer),
-            }),
-            _ => None,
-        }
-    }
-
-    /// An instruction that reads number registers.
-    fn arithmetic(&self, item: &Item) -> Option<Instruction>
-        requires { HasFew self.now }
-        ensures { result ≡ arithmetic self.now item.now }
-    {
-        match item {
-            Item::Const { number, value } => Some(Instruction::Const {
+            },
+            Item::Const { number, value } => Instruction::Const {
                 number: self.number(number),
                 value: *value,
-            }),
+            },
             Item::Add {
                 number,
                 left,
                 right,
-            } => Some(Instruction::Add {
+            } => Instruction::Add {
                 number: self.number(number),
                 left: self.number(left),
                 right: self.number(right),
-            }),
+            },
             Item::Sub {
                 number,
                 left,
                 right,
-            } => Some(Instruction::Sub {
+            } => Instruction::Sub {
                 number: self.number(number),
                 left: self.number(left),
                 right: self.number(right),
-            }),
-            Item::Print { number } => Some(Instruction::Print {
+            },
+            Item::Print { number } => Instruction::Print {
                 number: self.number(number),
-            }),
-            Item::Setn {
-                pointer,
-                index,
-                number,
-            } => Some(Instruction::SetNum {
-                q: self.pointer(pointer),
-                number: self.number(number),
-                i: *index,
-            }),
-            _ => None,
+            },
+            _ => Instruction::Nothing,
         }
     }
 
+    /// The instruction of a line, by its sort.
     fn instruction(&self, item: &Item) -> Instruction
         requires { HasFew self.now }
         ensures { result ≡ instruction_of self.now item.now }
     {
-        let found = match item {
-            Item::New { .. } | Item::Free { .. } | Item::Getp { .. } | Item::Setp { .. } => {
-                self.on_object(item)
-            }
-            Item::Lea { .. }
+        match item {
+            Item::Getn { .. } | Item::Setn { .. } => self.number_access(item),
+            Item::Getp { .. } | Item::Setp { .. } | Item::Casp { .. } => self.pointer_access(item),
+            Item::New { .. }
+            | Item::Free { .. }
+            | Item::Lea { .. }
             | Item::Move { .. }
             | Item::Clear { .. }
             | Item::Loadg { .. }
-            | Item::Storeg { .. } => self.on_registers(item),
-            Item::Getn { .. } | Item::Casp { .. } => self.load(item),
-            Item::Same { .. } | Item::Isnull { .. } | Item::Show { .. } => self.pointer_test(item),
-            _ => self.arithmetic(item),
-        };
-        found.unwrap_or(Instruction::Nothing)
+            | Item::Storeg { .. } => self.pointer_line(item),
+            _ => self.number_line(item),
+        }
     }
 
     /// What a line adds to a script's tree.

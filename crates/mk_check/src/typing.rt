@@ -143,7 +143,7 @@ impl<'d, 'a> Lookups<'d, 'a> {
     }
 
     fn pointers_fault(&self, words: &[TypeWord]) -> Option<TypeKind>
-        ensures { result ≡ rule.pointers_fault (around self.now) words.now }
+        ensures { result ≡ rule.words_fault (λ at. rule.type_fault (around self.now) at.name) words.now }
     {
         for word in words {
             let TypeWord::Pointer(at) = word else {
@@ -157,7 +157,7 @@ impl<'d, 'a> Lookups<'d, 'a> {
     }
 
     fn offsets_fault(&self, words: &[TypeWord]) -> Option<TypeKind>
-        ensures { result ≡ rule.offsets_fault (around self.now) words.now }
+        ensures { result ≡ rule.words_fault (λ at. rule.inside_fault (around self.now) (Some at)) words.now }
     {
         for word in words {
             let TypeWord::Pointer(at) = word else {

@@ -4,7 +4,8 @@ use Rattle.mk_outputs.proofs.Vocabulary.{Bool, Item, List, Option, ℕ, ap, arit
 use Rattle.mk_outputs.proofs.Vocabulary.{subst, suc, sym, true, zero, [], ◌*◌, ◌+◌, ◌∙◌, ◌∷◌, ◌≡◌}
 use Rattle.mk_never.specs.declared.operations.Op.{Op}
 use Rattle.mk_core.specs.declared.events.Answer.{Answer}
-use Rattle.mk_check.specs.Feed.{Fed, Scope, fed_before_answers, fed_before_lines, feed_script, has_ended, note, op_of}
+use Rattle.mk_check.specs.Feed.{Fed, Scope, fed_before_lines, feed_script, has_ended, note, op_of}
+use Rattle.mk_check.proofs.Among.{fed_before_answers}
 use Rattle.mk_check.specs.Feed.{run, run_line, run_rounds, take_answer, take_answers, with_answer}
 use Rattle.mk_check.specs.Blocks.{Blocks, Choice, Done, Line, Rounds, ScriptText, followed_by, is_end_of_block}
 

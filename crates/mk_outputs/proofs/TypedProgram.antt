@@ -6,7 +6,7 @@ use Rattle.mk_outputs.proofs.{Vocabulary.{◌≡◌, ◌≤◌}, ReadScripts.dra
 use Rattle.mk_outputs.proofs.{TypedBody.body_is_typed, TypedLines.{go_on, typed_then}}
 use Rattle.mk_outputs.specs.Generated.{generated_program}
 use Rattle.mk_check.specs.{Blocks.before_next_script, Typing.Around, Typing.IsWellTyped, Typing.fault_from}
-use Rattle.mk_check.specs.{Typing.length_fault, Typing.offsets_fault, Typing.pointers_fault, Typing.typing_fault}
+use Rattle.mk_check.{proofs.Among.{offsets_fault, pointers_fault}, specs.Typing.{length_fault, typing_fault}}
 
 none_before_scripts : (turns numbers x : ℕ) (names : List (List ℕ))
     → before_next_script (scripts turns numbers x names) ≡ []

@@ -1,4 +1,4 @@
-use Rattle.mk_check.{proofs.Vocabulary.{around, drop, ◌≡◌}, specs.Typing.{offsets_fault}}
+use Rattle.mk_check.proofs.{Among.offsets_fault, Vocabulary.{around, drop, ◌≡◌}}
 use Rattle.mk_check.proofs.lookups.Lookups.offsets_fault.Given as goal
 
 abbrev pub invariant-loop-word : goal.invariant-loop-word
