@@ -27,8 +27,8 @@ use Rattle.mk_words.proofs.Below.Laws.Vocabulary.{Step}
 use Rattle.mk_words.proofs.Below.Laws.Vocabulary.{ℕ}
 use Rattle.mk_caller.proofs.Chains.{access_finds_null, access_finds_some, access_is_small, called, either_to, go}
 use Rattle.mk_caller.proofs.{Chains.{null_steps, of_same, on_to, refused_puts, to, value_kept}, Onward.store_goes_on}
-use Rattle.mk_caller.specs.Moves.{IsAtFlight, MayBeginCall, behind_q, is_access, refused_register, refused_steps}
-use Rattle.mk_caller.specs.{Moves.stores_register, Called.Called, States.{never_of, value_of}}
+use Rattle.mk_caller.specs.Moves.{IsAtFlight, MayBeginCall, behind_q, is_access, refused_steps}
+use Rattle.mk_caller.specs.{Moves.stores_register, Called.{Called, destination}, States.{never_of, value_of}}
 use Rattle.mk_words.specs.States.{PassState, call_of}
 
 pub marks_and_leaves : {p q r : PassState} → IsAtFlight p (call_of p).op (Step.Dirty ∷ []) None
@@ -48,13 +48,13 @@ stores_and_leaves {p} v is a b =
 
 -- a refusal that makes a register null
 pub refuses : {p q r : PassState} (d : ℕ) → (call_of p).stage ≡ stage_refused (call_of p).op
-    → Some d ≡ refused_register (call_of p).op
+    → is_access (call_of p).op ≡ true → Some d ≡ destination (call_of p).op
     → IsAtFlight p (call_of p).op (Step.Reg ∷ []) (progress_reg (call_of p) (call_of p).stage 0).answer
     (progress_reg (call_of p) (call_of p).stage 0).flight q
     → IsAtFlight q (call_of q).op (Step.Leave ∷ []) None at_rest r
     → IsAtFlight p (call_of p).op (refused_steps (call_of p).op) None at_rest r
-refuses {p} {r} d at is a b =
-    let put : stage_refused (call_of p).op ≡ Stage.Put = (refused_puts (call_of p).op d is).0 in
+refuses {p} {r} d at access is a b =
+    let put : stage_refused (call_of p).op ≡ Stage.Put = (refused_puts (call_of p).op d access is).0 in
     let here : (call_of p).stage ≡ Stage.Put = at ∙ put in
     rw put (rw here at (stores_and_leaves 0 (rw here refl) a b))
 

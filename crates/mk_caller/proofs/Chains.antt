@@ -1,15 +1,39 @@
 -- A call step by step, from its beginning to its end.
-use Rattle.mk_words.proofs.Below.Laws.Vocabulary.{Answer, Event, Flight, KeepsRegisters, List, NeverState, None, Op}
-use Rattle.mk_words.proofs.Below.Laws.Vocabulary.{Option, Progress, Some, Stage, Step, Unmapped, ℕ, ap, append_assoc}
-use Rattle.mk_words.proofs.Below.Laws.Vocabulary.{arith, at_rest, begun, d_of, if◌then◌else◌, ne_eqb, onward}
-use Rattle.mk_words.proofs.Below.Laws.Vocabulary.{progress_reg, q_of, refl, refused, stage_refused, subst, true, []}
-use Rattle.mk_words.proofs.Below.Laws.Vocabulary.{◌++◌, ◌<◌, ◌==◌, ◌∙◌, ◌∷◌, ◌≡◌, ◌≢◌}
+use Rattle.mk_words.proofs.Below.Laws.Vocabulary.{Answer, Bool, Event, Flight, KeepsRegisters, List, NeverState, None}
+use Rattle.mk_words.proofs.Below.Laws.Vocabulary.{Op, Option, Progress, Some, Stage, Step, Unmapped, ℕ, ap}
+use Rattle.mk_words.proofs.Below.Laws.Vocabulary.{append_assoc, arith, at_rest, begun, d_of, if◌then◌else◌, ne_eqb}
+use Rattle.mk_words.proofs.Below.Laws.Vocabulary.{onward, progress_reg, q_of, refl, refused, stage_refused, subst}
+use Rattle.mk_words.proofs.Below.Laws.Vocabulary.{true, [], ◌++◌, ◌<◌, ◌==◌, ◌∙◌, ◌∷◌, ◌≡◌, ◌≢◌}
 use Rattle.mk_never.specs.{Admitted.OperandsAreInRange, declared.values.Target.Target}
 use Rattle.mk_caller.proofs.Joined.{joined, joined_on}
-use Rattle.mk_caller.specs.Moves.{CallGoesOn, IsAtFlight, MakesSteps, MayBeginCall, is_access, loads, passes}
-use Rattle.mk_caller.specs.{Moves.{refused_register, refused_steps}, States.{caller_of_pass, never_of, value_of}}
-use Rattle.mk_caller.specs.Called.{Called, steps_made, Probes, ProbesAWord}
+use Rattle.mk_caller.specs.Moves.{CallGoesOn, IsAtFlight, MakesSteps, MayBeginCall, is_access, refused_steps}
+use Rattle.mk_caller.specs.{States.{caller_of_pass, never_of, value_of}, Called.{Called, destination, steps_made}}
+use Rattle.mk_caller.specs.Called.{Probes, ProbesAWord}
+use Rattle.mk_core.specs.Calls.{one_if, progress_getg, progress_read}
 use Rattle.mk_words.specs.States.{PassState, call_of}
+
+-- How a call goes on: after it loaded a register, a global or a word, or passed on, wrote, exchanged, or ended.
+
+abbrev pub loads : ℕ → Flight → Progress
+loads value f = progress_reg f f.stage value
+
+abbrev pub loads_global : ℕ → Flight → Progress
+loads_global value f = progress_getg f value
+
+abbrev pub reads : ℕ → Flight → Progress
+reads value f = progress_read f f.op value
+
+abbrev pub passes : Flight → Progress
+passes f = onward f None
+
+abbrev pub writes : Flight → Progress
+writes f = onward f (Some Answer.Done)
+
+abbrev pub exchanges : Bool → Flight → Progress
+exchanges did f = onward f (Some (Answer.Num (one_if did)))
+
+abbrev pub call_ends : Flight → Progress
+call_ends f = record { flight = at_rest; answer = None }
 
 -- Further steps of a call that isn't decided; how they go on is said by the call before them.
 pub go : {p q r : PassState} {o : Op} {ss ts : List Step} {f : Flight} → IsAtFlight p o ss None f q → (X : Flight
@@ -92,10 +116,11 @@ pub access_is_small : (n : NeverState) (o : Op) → is_access o ≡ true → Ope
 access_is_small n (Op.GetNum q i) h r = r
 access_is_small n _ h r = grind arith
 
-pub refused_puts : (o : Op) (d : ℕ) → Some d ≡ refused_register o → (stage_refused o ≡ Stage.Put) × (d_of o ≡ d)
-refused_puts (Op.GetPtr d q i) e h = (refl, cc)
-refused_puts (Op.Lea d q i) e h = (refl, cc)
-refused_puts _ e h = cc
+pub refused_puts : (o : Op) (d : ℕ) → is_access o ≡ true → Some d ≡ destination o
+    → (stage_refused o ≡ Stage.Put) × (d_of o ≡ d)
+refused_puts (Op.GetPtr d q i) e a h = (refl, cc)
+refused_puts (Op.Lea d q i) e a h = (refl, cc)
+refused_puts _ e a h = cc
 
 some_for : (o : Op) (u : ℕ) → u ≢ 0 → (if u == 0 then refused (record (begun o) { q = u }) Answer.Null else onward
     (record (begun o) { q = u }) None) ≡ onward (record (begun o) { q = u }) None

@@ -5,11 +5,10 @@ use Rattle.mk_never.specs.{declared.operations.Op.Op, Laws.KeepsRegisters}
 use Rattle.mk_core.specs.{declared.events.{Answer.Answer, Event.Event}, Conditions.is_word_met}
 use Rattle.mk_core.specs.declared.events.{Seat.TheVariants.Caller, Step.Step}
 use Rattle.mk_core.specs.declared.seats.{Stage.Stage, Flight.Flight, Progress.Progress}
-use Rattle.mk_core.specs.Calls.{at_rest, begun, onward, refused, is_same_stage, is_under_turn, stage_refused, one_if}
-use Rattle.mk_core.specs.{Calls.{progress_reg, progress_read, progress_getg, entry_of}, History.never_behind}
+use Rattle.mk_core.specs.Calls.{at_rest, begun, entry_of, onward, is_same_stage, is_under_turn, stage_refused}
 use Rattle.mk_words.specs.States.{PassState, IsPass, call_of}
-use Rattle.mk_caller.specs.{States.{caller_of_pass, never_of, Admits}, Called.{step_at, refused_from, own_steps}}
-use Rattle.mk_caller.specs.Called.{own_calls, IsDecidedIn}
+use Rattle.mk_caller.specs.{States.{caller_of_pass, never_of, never_then, Admits}, Called.{own_calls, own_steps}}
+use Rattle.mk_caller.specs.Called.{step_at, refused_from, IsDecidedIn}
 
 -- whether a stage is one of these
 abbrev pub is_stage_of : List Stage → Stage → Bool
@@ -37,12 +36,6 @@ is_access (Op.CasPtr q i p r) = true
 is_access (Op.Lea d q i) = true
 is_access _ = false
 
--- the register that a refusal makes null
-abbrev pub refused_register : Op → Option ℕ
-refused_register (Op.GetPtr d q i) = Some d
-refused_register (Op.Lea d q i) = Some d
-refused_register _ = None
-
 -- A caller whose pass may begin a call of the operation.
 pub record MayBeginCall (p : PassState) (o : Op) : Type 0 where
   pub caller : ℕ
@@ -63,8 +56,7 @@ pub record IsUnderway (p : PassState) : Type 0 where
 
 -- The call was decided with this answer among these events; if there is none, it left the registers as they were.
 abbrev pub IsDecidedAs : PassState → Op → Option Answer → List Event → Type 0
-IsDecidedAs p o None more = KeepsRegisters (caller_of_pass p) (never_of p) (never_behind p.table.config (p.seen
-    ++ more))
+IsDecidedAs p o None more = KeepsRegisters (caller_of_pass p) (never_of p) (never_then p more)
 IsDecidedAs p o (Some a) more = IsDecidedIn p o a more
 
 -- The pass made these steps of a call of the operation, which decided this answer or none.
@@ -85,42 +77,6 @@ pub record IsAtFlight (p : PassState) (o : Op) (ss : List Step) (a : Option Answ
 -- It made one step, and its call went on so.
 abbrev pub CallMoves : PassState → Op → Step → Progress → PassState → Type 0
 CallMoves p o s x q = IsAtFlight p o (s ∷ []) x.answer x.flight q
-
--- the call after its `enter`
-abbrev pub begins : Op → Progress
-begins o = record { flight = begun o; answer = None }
-
--- the call after a register was loaded with this value
-abbrev pub loads : ℕ → Flight → Progress
-loads value f = progress_reg f f.stage value
-
--- the call after a global was loaded
-abbrev pub loads_global : ℕ → Flight → Progress
-loads_global value f = progress_getg f value
-
--- the call after a step that decides nothing
-abbrev pub passes : Flight → Progress
-passes f = onward f None
-
--- the call after a probe that found an unmapped run
-abbrev pub faults : Flight → Progress
-faults f = refused f Answer.Fault
-
--- the call after its word was loaded
-abbrev pub reads : ℕ → Flight → Progress
-reads value f = progress_read f f.op value
-
--- the call after its word was stored
-abbrev pub writes : Flight → Progress
-writes f = onward f (Some Answer.Done)
-
--- the call after its exchange, which did it or didn't
-abbrev pub exchanges : Bool → Flight → Progress
-exchanges did f = onward f (Some (Answer.Num (one_if did)))
-
--- the call after its `leave`
-abbrev pub call_ends : Flight → Progress
-call_ends f = record { flight = at_rest; answer = None }
 
 -- The pass made a step of the call in flight, which went on so.
 abbrev pub CallGoesOn : PassState → Step → (Flight → Progress) → PassState → Type 0

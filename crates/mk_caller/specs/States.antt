@@ -1,10 +1,9 @@
 -- What contracts see of a caller.
-use Rattle.std.specs.{Prelude.{◌≡◌, ℕ, Bool, true, false, List, [], ◌++◌, Option, Some, None, is_some}, Coded.codes}
+use Rattle.std.specs.{Prelude.{◌≡◌, ℕ, Bool, true, false, List, [], ◌++◌, Option, Some, None}, Coded.codes}
 use Rattle.mk_never.specs.{declared.{operations.Op.Op, values.Value.Value}, NeverHeap.{NeverState, register_at}}
 use Rattle.mk_never.specs.Admitted.{IsAdmitted}
 use Rattle.mk_core.specs.{Accesses.caller_number, History.never_behind, Calls.at_rest, declared.events.Event.Event}
-use Rattle.mk_core.specs.declared.events.Seat.{Seat, TheVariants.Caller}
-use Rattle.mk_core.specs.declared.seats.Flight.{Flight}
+use Rattle.mk_core.specs.declared.events.Seat.TheVariants.{Caller}
 use Rattle.mk_words.specs.{Laws.pass_prop, States.{WordsState, IsPass, PassState, call_of}}
 use denote.Struct.Props.{props}
 
@@ -64,35 +63,6 @@ abbrev pub pass_of : WordsState → ℕ → Option PassState → PassState
 pass_of w k (Some p) = p
 pass_of w k None = record { table = w; seat = Caller k; seats = []; seen = [] }
 
--- The pass is of these words and this caller.
-pub record IsOfCaller (w : WordsState) (k : ℕ) (x : Option PassState) : Type 0 where
-  pub table : (pass_of w k x).table ≡ w
-  pub seat : (pass_of w k x).seat ≡ Caller k
-
--- What holds of a pass that is at home.
-abbrev pub HasHome : WordsState → ℕ → Option PassState → Type 0
-HasHome w k x = is_some x ≡ true → IsHomePass (pass_of w k x)
-
--- That has one proof at most.
-home_pass_prop : (p : PassState) → IsProp (IsHomePass p)
-home_pass_prop p x y i = record {
-  pass = pass_prop p x.pass y.pass i;
-  idle = record {
-    seat = seat_prop p.seat x.idle.seat y.idle.seat i;
-    rest = call_prop (call_of p) x.idle.rest y.idle.rest i;
-  };
-}
-  where
-    seat_prop : (s : Seat) → IsProp (s ≡ Caller (caller_number s))
-    seat_prop s = hlevel (codes, props)
-
-    call_prop : (f : Flight) → IsProp (f ≡ at_rest)
-    call_prop f = hlevel (codes, props)
-
--- That it holds has one proof.
-pub home_prop : (home : Bool) (p : PassState) → IsProp (home ≡ true → IsHomePass p)
-home_prop home p = hlevel (props, home_pass_prop)
-
--- So has that it holds of what a caller has.
-pub made_prop : (w : WordsState) (k : ℕ) (x : Option PassState) → IsProp (HasHome w k x)
-made_prop w k x = home_prop (is_some x) (pass_of w k x)
+-- What holds of a pass that is home has one proof.
+pub home_prop : {home : Bool} {p : PassState} → IsProp (home ≡ true → IsHomePass p)
+home_prop = hlevel (codes, props, pass_prop)

@@ -6,9 +6,9 @@ ghost use Rattle.mk_core.specs.Calls.{at_rest, onward, stage_refused, stage_behi
 ghost use Rattle.mk_core.specs.Calls.{word_met, progress_reg};
 ghost use Rattle.mk_words.specs.States.{call_of};
 ghost use Rattle.mk_caller.specs.{States.{IsPassOfCaller, value_of}, Called.{Probes, ProbesAWord, IsRefused}};
+ghost use Rattle.mk_caller.specs.Called.{destination};
 ghost use Rattle.mk_caller.specs.Moves.{MayBeginCall, IsUnderway, IsAtFlight, Ends, CallGoesOn, is_access};
-ghost use Rattle.mk_caller.specs.Moves.{stores_register, refused_register, refused_steps, behind_q, loads};
-ghost use Rattle.mk_caller.specs.Moves.{passes};
+ghost use Rattle.mk_caller.specs.Moves.{stores_register, refused_steps, behind_q};
 ghost use Rattle.mk_core.specs.declared.events.Answer.TheVariants as answer;
 ghost use Rattle.mk_core.specs.declared.events.Step.TheVariants as step;
 ghost use Rattle.mk_core.specs.declared.seats.Stage.TheVariants as stage;
@@ -25,7 +25,8 @@ pub(crate) fn refuse(table: CallerTable, pass: &mut Pass, d: Option<u8>)
     requires underway { IsUnderway pass.old }
     requires stage { (call_of pass.old).stage ≡ stage_refused (call_of pass.old).op }
     requires loaded { (call_of pass.old).loaded ≡ 0 }
-    requires register { d ≡ refused_register (call_of pass.old).op }
+    requires access { is_access (call_of pass.old).op ≡ true }
+    requires register { d ≡ destination (call_of pass.old).op }
     ensures { Ends pass.old (refused_steps (call_of pass.old).op) None pass.new }
 {
     match d {
@@ -45,8 +46,9 @@ pub(crate) fn store_and_leave(table: CallerTable, pass: &mut Pass, d: u8, v: u64
     requires stage { stores_register (call_of pass.old).stage ≡ true }
     requires register { d ≡ d_of (call_of pass.old).op }
     requires stores { reg_access (call_of pass.old) (call_of pass.old).stage ≡ Store v }
-    requires last { (loads v (call_of pass.old)).flight.stage ≡ stage.Leave }
-    ensures { Ends pass.old (step.Reg ∷ step.Leave ∷ []) (loads v (call_of pass.old)).answer pass.new }
+    requires last { (progress_reg (call_of pass.old) (call_of pass.old).stage v).flight.stage ≡ stage.Leave }
+    ensures { Ends pass.old (step.Reg ∷ step.Leave ∷ [])
+        (progress_reg (call_of pass.old) (call_of pass.old).stage v).answer pass.new }
 {
     store(table, pass, d, v);
     leave(table, pass);
@@ -79,7 +81,7 @@ pub(crate) fn begin_access(
     requires ready { MayBeginCall pass.old op }
     requires access { is_access op ≡ true }
     requires from { q ≡ q_of op }
-    requires register { d ≡ refused_register op }
+    requires register { d ≡ destination op }
     ensures begun { IfOk result (λ u. IsAtFlight pass.old op (step.Enter op ∷ step.Reg ∷ []) None (behind_q op u)
         pass.new) }
     ensures some { IfOk result (λ u. value_of pass.old q ≢ Null) }
@@ -115,8 +117,8 @@ pub(crate) fn probe_access(
     requires access { is_access (call_of pass.old).op ≡ true }
     requires value { u ≡ (call_of pass.old).q }
     requires offset { i ≡ i_of (call_of pass.old).op }
-    requires register { d ≡ refused_register (call_of pass.old).op }
-    ensures moves { IfSome result (λ word. CallGoesOn pass.old step.Probe passes pass.new) }
+    requires register { d ≡ destination (call_of pass.old).op }
+    ensures moves { IfSome result (λ word. CallGoesOn pass.old step.Probe (λ f. onward f None) pass.new) }
     ensures word { IfSome result (λ word. word ≡ word_met (call_of pass.old)) }
     ensures reached { IfSome result (λ word. ProbesAWord pass.old (call_of pass.old).op pass.new) }
     ensures refused { IfNone result (Ends pass.old (step.Probe ∷ refused_steps (call_of pass.old).op)

@@ -1,10 +1,10 @@
 //! A script's end of the heap.
-ghost use Rattle.std.specs.Prelude.{◌≡◌, ◌≢◌, IfOk, OnOk, OnErr, IfErr, true, false};
+ghost use Rattle.std.specs.Prelude.{◌≡◌, ◌≢◌, IfOk, OnOk, OnErr, IfErr, is_some, true, false};
 ghost use Rattle.mk_never.specs.{declared.values.Value.TheVariants.Null, NeverHeap.is_same};
 ghost use Rattle.mk_core.specs.Calls.{at_rest};
 ghost use Rattle.mk_words.specs.States.{call_of};
-ghost use Rattle.mk_caller.specs.States.{Admits, HasHome, IsAtHome, IsIdleCaller, IsLent, caller_of_pass};
-ghost use Rattle.mk_caller.specs.States.{made_prop, value_of};
+ghost use Rattle.mk_caller.specs.States.{Admits, IsAtHome, IsHomePass, IsIdleCaller, IsLent, caller_of_pass};
+ghost use Rattle.mk_caller.specs.States.{home_prop, pass_of, value_of};
 ghost use Rattle.mk_caller.specs.Called.{Called, Says, IsAnswered, FindsGateHeld, IsRefused, ProbesAWord};
 ghost use Rattle.mk_caller.specs.Called.{CallComparesValues};
 ghost use Rattle.mk_never.specs.declared.operations.Op.TheVariants as op;
@@ -23,12 +23,13 @@ use std::marker::Model;
 pub struct Caller<'h> {
     table: CallerTable<'h>,
     pass: Option<Pass>,
-    ghost in_order: { HasHome table.words.now table.caller pass } by { made_prop table.words.now table.caller pass },
+    ghost in_order: { is_some pass ≡ true → IsHomePass (pass_of table.words.now table.caller pass) } by { home_prop },
 }
 
 impl<'h> Model for Caller<'h> {
-    ghost use Rattle.std.specs.{Coded.codes, Prelude.is_some};
-    ghost use Rattle.mk_caller.specs.States.{CallerState, IsOfCaller, home_prop, pass_of};
+    ghost use Rattle.std.specs.{Coded.codes, Prelude.{◌≡◌, is_some}};
+    ghost use Rattle.mk_core.specs.declared.events.Seat.TheVariants.{Caller};
+    ghost use Rattle.mk_caller.specs.States.{CallerState, home_prop, pass_of};
 
     ghost Value = { CallerState };
 
@@ -40,7 +41,10 @@ impl<'h> Model for Caller<'h> {
       in_order = c.in_order;
     } };
 
-    ghost invariant = { λ c. IsOfCaller c.table.words.now c.table.caller c.pass };
+    ghost invariant = { λ c. record {
+      table : (pass_of c.table.words.now c.table.caller c.pass).table ≡ c.table.words.now;
+      seat : (pass_of c.table.words.now c.table.caller c.pass).seat ≡ Caller c.table.caller;
+    } };
 }
 
 /// Does something with a caller's pass, which is home.

@@ -1,15 +1,15 @@
 //! The steps of a call, each with what is known of the call after it.
 ghost use Rattle.std.specs.Prelude.{◌≡◌, ◌↔◌, OnOk, OnErr, IfSome, IfNone, Some, None, true, ◌+◌, ◌-◌, ◌*◌, ◌/◌, ◌%◌};
-ghost use Rattle.std.specs.Prelude.{◌^◌};
+ghost use Rattle.std.specs.Prelude.{◌^◌, [], ◌∷◌};
 ghost use Rattle.mk_never.specs.declared.values.{Value.TheVariants.Null, Target.TheVariants.Unmapped};
 ghost use Rattle.mk_core.specs.{declared.accesses.Access.TheVariants.Store, Accesses.{register_met, reg_access}};
-ghost use Rattle.mk_core.specs.Calls.{refused, g_of, i_of, value_written, page_met, word_met};
+ghost use Rattle.mk_core.specs.Calls.{begun, g_of, i_of, onward, one_if, page_met, progress_getg, progress_read};
+ghost use Rattle.mk_core.specs.Calls.{progress_reg, refused, value_written, word_met};
 ghost use Rattle.mk_words.specs.States.{call_of};
 ghost use Rattle.mk_words.specs.Below.Laws.Theorems.{has_q, has_some_q};
 ghost use Rattle.mk_caller.specs.{States.{IsPassOfCaller, value_of}, Called.{FindsGateHeld, Probes, ProbesAWord}};
-ghost use Rattle.mk_caller.specs.Moves.{MayBeginCall, IsUnderway, CallMoves, CallGoesOn, begins, is_access};
-ghost use Rattle.mk_caller.specs.Moves.{loads_register, stores_register, loads, loads_global, passes, faults, reads};
-ghost use Rattle.mk_caller.specs.Moves.{writes, exchanges, call_ends};
+ghost use Rattle.mk_caller.specs.Moves.{MayBeginCall, IsUnderway, CallMoves, CallGoesOn, Ends, is_access};
+ghost use Rattle.mk_caller.specs.Moves.{loads_register, stores_register};
 ghost use Rattle.mk_core.specs.declared.events.Answer.TheVariants as answer;
 ghost use Rattle.mk_core.specs.declared.events.Step.TheVariants as step;
 ghost use Rattle.mk_core.specs.declared.seats.Stage.TheVariants as stage;
@@ -24,7 +24,8 @@ use mk_words::{Held, Pass};
 pub(crate) fn enter(table: CallerTable, pass: &mut Pass, op: Op) -> Result<(), Held>
     requires own { IsPassOfCaller table.words.now table.caller pass.old }
     requires ready { MayBeginCall pass.old op }
-    ensures moves { OnOk result (CallMoves pass.old op (step.Enter op) (begins op) pass.new) }
+    ensures moves { OnOk result (CallMoves pass.old op (step.Enter op)
+        (record { flight = begun op; answer = None }) pass.new) }
     ensures held { OnErr result (FindsGateHeld pass.old op pass.new) }
 {
     pass.is_in_order();
@@ -37,7 +38,7 @@ pub(crate) fn leave(table: CallerTable, pass: &mut Pass)
     requires own { IsPassOfCaller table.words.now table.caller pass.old }
     requires underway { IsUnderway pass.old }
     requires stage { (call_of pass.old).stage ≡ stage.Leave }
-    ensures moves { CallGoesOn pass.old step.Leave call_ends pass.new }
+    ensures moves { Ends pass.old (step.Leave ∷ []) None pass.new }
 {
     pass.leave(table.words, table.caller);
 }
@@ -49,7 +50,7 @@ pub(crate) fn load(table: CallerTable, pass: &mut Pass, r: u8) -> u64
     requires underway { IsUnderway pass.old }
     requires stage { loads_register (call_of pass.old).stage ≡ true }
     requires register { r ≡ register_met (call_of pass.old) (call_of pass.old).stage }
-    ensures moves { CallGoesOn pass.old step.Reg (loads result) pass.new }
+    ensures moves { CallGoesOn pass.old step.Reg (λ f. progress_reg f f.stage result) pass.new }
     ensures null { (result ≡ 0) ↔ (value_of pass.old r ≡ Null) }
 {
     pass.reg_load(table.words, table.caller, r)
@@ -63,7 +64,7 @@ pub(crate) fn store(table: CallerTable, pass: &mut Pass, r: u8, v: u64)
     requires stage { stores_register (call_of pass.old).stage ≡ true }
     requires register { r ≡ register_met (call_of pass.old) (call_of pass.old).stage }
     requires stores { reg_access (call_of pass.old) (call_of pass.old).stage ≡ Store v }
-    ensures moves { CallGoesOn pass.old step.Reg (loads v) pass.new }
+    ensures moves { CallGoesOn pass.old step.Reg (λ f. progress_reg f f.stage v) pass.new }
 {
     pass.reg_store(table.words, table.caller, r, v);
 }
@@ -77,7 +78,7 @@ pub(crate) fn read(table: CallerTable, pass: &mut Pass, word: u64) -> u64
     requires stage { (call_of pass.old).stage ≡ stage.Read }
     requires access { is_access (call_of pass.old).op ≡ true }
     requires word { word ≡ word_met (call_of pass.old) }
-    ensures moves { CallGoesOn pass.old step.Read (reads result) pass.new }
+    ensures moves { CallGoesOn pass.old step.Read (λ f. progress_read f f.op result) pass.new }
 {
     pass.read(table.words, table.pages, word)
 }
@@ -92,7 +93,7 @@ pub(crate) fn write(table: CallerTable, pass: &mut Pass, word: u64, v: u64)
     requires access { is_access (call_of pass.old).op ≡ true }
     requires word { word ≡ word_met (call_of pass.old) }
     requires value { v ≡ value_written (call_of pass.old) (call_of pass.old).op }
-    ensures moves { CallGoesOn pass.old step.Write writes pass.new }
+    ensures moves { CallGoesOn pass.old step.Write (λ f. onward f (Some answer.Done)) pass.new }
 {
     pass.write(table.words, table.pages, word, v);
 }
@@ -108,7 +109,7 @@ pub(crate) fn cas(table: CallerTable, pass: &mut Pass, word: u64, expected: u64,
     requires word { word ≡ word_met (call_of pass.old) }
     requires expected { expected ≡ (call_of pass.old).p }
     requires new { new ≡ (call_of pass.old).r }
-    ensures moves { CallGoesOn pass.old step.Cas (exchanges result) pass.new }
+    ensures moves { CallGoesOn pass.old step.Cas (λ f. onward f (Some (answer.Num (one_if result)))) pass.new }
 {
     pass.cas(table.words, table.pages, word, expected, new)
 }
@@ -120,7 +121,7 @@ pub(crate) fn dirty(table: CallerTable, pass: &mut Pass, page: u64)
     requires underway { IsUnderway pass.old }
     requires stage { (call_of pass.old).stage ≡ stage.Dirty }
     requires page { page ≡ page_met (call_of pass.old) }
-    ensures moves { CallGoesOn pass.old step.Dirty passes pass.new }
+    ensures moves { CallGoesOn pass.old step.Dirty (λ f. onward f None) pass.new }
 {
     pass.dirty(table.words, table.pages, page);
 }
@@ -132,7 +133,7 @@ pub(crate) fn global_load(table: CallerTable, pass: &mut Pass, g: u8) -> u64
     requires underway { IsUnderway pass.old }
     requires stage { (call_of pass.old).stage ≡ stage.Getg }
     requires global { g ≡ g_of (call_of pass.old).op }
-    ensures moves { CallGoesOn pass.old step.Getg (loads_global result) pass.new }
+    ensures moves { CallGoesOn pass.old step.Getg (λ f. progress_getg f result) pass.new }
 {
     pass.global_load(table.words, g)
 }
@@ -145,7 +146,7 @@ pub(crate) fn global_store(table: CallerTable, pass: &mut Pass, g: u8, v: u64)
     requires stage { (call_of pass.old).stage ≡ stage.Setg }
     requires global { g ≡ g_of (call_of pass.old).op }
     requires value { v ≡ (call_of pass.old).p }
-    ensures moves { CallGoesOn pass.old step.Setg writes pass.new }
+    ensures moves { CallGoesOn pass.old step.Setg (λ f. onward f (Some answer.Done)) pass.new }
 {
     pass.global_store(table.words, g, v);
 }
@@ -161,10 +162,10 @@ pub(crate) fn probe(table: CallerTable, pass: &mut Pass, u: u64, i: u64) -> Opti
     requires access { is_access (call_of pass.old).op ≡ true }
     requires value { u ≡ (call_of pass.old).q }
     requires offset { i ≡ i_of (call_of pass.old).op }
-    ensures moves { IfSome result (λ word. CallGoesOn pass.old step.Probe passes pass.new) }
+    ensures moves { IfSome result (λ word. CallGoesOn pass.old step.Probe (λ f. onward f None) pass.new) }
     ensures word { IfSome result (λ word. word ≡ word_met (call_of pass.old)) }
     ensures reached { IfSome result (λ word. ProbesAWord pass.old (call_of pass.old).op pass.new) }
-    ensures refused { IfNone result (CallGoesOn pass.old step.Probe faults pass.new) }
+    ensures refused { IfNone result (CallGoesOn pass.old step.Probe (λ f. refused f answer.Fault) pass.new) }
     ensures unmapped { IfNone result (Probes pass.old (call_of pass.old).op pass.new Unmapped) }
 {
     let word = (u - HEAP_START) / WORD_BYTES + i;

@@ -9,7 +9,7 @@ use Rattle.mk_words.proofs.Below.Laws.Vocabulary.{◌+◌, ◌/◌, ◌<◌, ◌
 use Rattle.mk_cycle.proofs.Vocabulary.{Acts, Cleans, CountsAreLeft, IsAtPhase, IsClean, IsEnabledTo, IsFreeForCycle}
 use Rattle.mk_cycle.proofs.Vocabulary.{IsGone, IsTurn, IsTurnAt, KeepsGates, PassState, WasUndirty, WordsState, call_of}
 use Rattle.mk_cycle.proofs.Vocabulary.{count_by-le-length, done_of, made, now_of, stands, steady_of, world_at, world_of}
-use Rattle.mk_books.proofs.PlaceLemmas.{count_by-map}
+use Rattle.mk_core.proofs.Below.Books.PlaceLemmas.{count_by-map}
 use Rattle.mk_core.specs.Allocations.{unreleased_storage}
 use Rattle.mk_core.specs.{Counts.TalliesAreExact, Moments.none_is_held, declared.seats.OwnCycle.TheVariants.Begun}
 use Rattle.mk_cycle.proofs.KeptInParts.{gates_behind, gates_then, same_config}

@@ -12,7 +12,7 @@ use Rattle.mk_words.proofs.Below.Laws.{KnownWorlds.known_world, ReadingsStands.f
 use Rattle.mk_words.proofs.Below.Laws.Settled.{unreleased_are_apart}
 use Rattle.mk_cycle.proofs.Vocabulary.{count_by, sum_below, sum_by}
 use Rattle.mk_geom.specs.PageUses.{bits_of}
-use Rattle.mk_books.proofs.UsedBitLemmas.{count_ones-masked, length-bits_of}
+use Rattle.mk_core.proofs.Below.Books.UsedBitLemmas.{count_ones-masked, length-bits_of}
 use Rattle.mk_cycle.proofs.SumsBelow.{counted_by_key, counted_by_place, one_if_any, sum_same, weighed_by_key}
 
 -- the bits of a word that fits the low half

@@ -2,7 +2,7 @@
 use Rattle.mk_words.proofs.Below.Laws.Vocabulary.{Steady, ℕ, ap, arith, cases_lt, false, header_at, inl, inr, subst}
 use Rattle.mk_words.proofs.Below.Laws.Vocabulary.{sym, ◌+◌, ◌<◌, ◌∙◌}
 use Rattle.mk_words.proofs.Below.Laws.{Vocabulary.{◌≡◌, ◌≤◌}, FreePages.free_pages_have_nothing}
-use Rattle.mk_books.specs.KnownPages.{is_in_use, page_at}
+use Rattle.mk_core.specs.Below.Books.KnownPages.{is_in_use, page_at}
 use Rattle.mk_cycle.proofs.Vocabulary.{Cleans, IsClean, IsTurn, PassState, WordsState, below_more, now_of}
 use Rattle.mk_cycle.proofs.CleaningSteps.{clean_stays, cleaned_table, cleans_nothing, cleans_then, halves}
 use Rattle.mk_cycle.proofs.{PageByPage.no_header, Undirty.{undirty_earlier, undirty_later, undirty_now}}

@@ -2,7 +2,7 @@
 use Rattle.mk_words.proofs.Below.Laws.Vocabulary.{Free, Header, Option, Some, Words, ℕ, arith, cases_lt, false}
 use Rattle.mk_words.proofs.Below.Laws.Vocabulary.{header_at, header_of, not, refl, slice_index, sym, use_under, used_at}
 use Rattle.mk_words.proofs.Below.Laws.{Vocabulary.{◌<◌, ◌≡◌, ◌≤◌}, FreePages.free_pages_have_nothing}
-use Rattle.mk_books.specs.KnownPages.{is_in_use}
+use Rattle.mk_core.specs.Below.Books.KnownPages.{is_in_use}
 use Rattle.mk_cycle.proofs.NoGrays.{no_gray}
 use Rattle.mk_cycle.specs.{Grays.{HasNoGray, IsUnmarked}, Stops.still_words}
 use Rattle.mk_geom.{proofs.HeaderLemmas.word_of-header_of, specs.PageUses.is_free_page}

@@ -8,7 +8,7 @@ use Rattle.mk_words.proofs.Below.Laws.Vocabulary.{or_parts, refl, run_count, sli
 use Rattle.mk_words.proofs.Below.Laws.Vocabulary.{used_at}
 use Rattle.mk_words.proofs.Below.Laws.Vocabulary.{◌+◌}
 use Rattle.mk_words.proofs.Below.Laws.Vocabulary.{◌<◌, ◌∙◌, ◌≡◌, ◌≤◌}
-use Rattle.mk_books.specs.KnownPages.{IsNext, has_freed_cells, is_in_use}
+use Rattle.mk_core.specs.Below.Books.KnownPages.{IsNext, has_freed_cells, is_in_use}
 use Rattle.mk_cycle.proofs.Vocabulary.{Frees, FreesPage, HasFreeCells, IsOccupied, IsSettledPage, IsTurn, PassState}
 use Rattle.mk_cycle.proofs.Vocabulary.{Released, SamePage, below_more, held_below, held_unmarked, now_of}
 use Rattle.mk_cycle.proofs.{Vocabulary.{released_below, released_on}, CountedPages.{counted_more, held_more, held_same}}

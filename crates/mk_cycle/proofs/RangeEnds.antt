@@ -1,7 +1,7 @@
 -- Where a range of pages ends that goes up to the next page of a kind, or up to the last.
 use Rattle.std.specs.Option.{unwrap_or}
 use Rattle.mk_words.proofs.Below.Laws.Vocabulary.{Bool, None, Option, Some, ℕ, arith, ◌≡◌, ◌≤◌}
-use Rattle.mk_books.specs.KnownPages.{IsNext}
+use Rattle.mk_core.specs.Below.Books.KnownPages.{IsNext}
 
 -- It isn't before its first page, and within the heap.
 pub record IsRangeEnd (first pages end : ℕ) : Type 0 where

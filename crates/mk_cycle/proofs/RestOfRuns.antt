@@ -12,7 +12,7 @@ use Rattle.mk_cycle.proofs.SettledPages.{none_left, still_settled}
 use Rattle.mk_cycle.specs.Freeing.{FreesRest, FreesRun, heads_unmapped_pages}
 use Rattle.mk_words.{proofs.StoredHeads.{heads_keep_turn, heads_leave}, specs.TurnSteps.{MayStoreHeads, StoresHeads}}
 use Rattle.mk_words.proofs.TurnSteps.{still_turn}
-use Rattle.mk_books.specs.KnownPages.{IsNext, has_freed_cells, page_at, StandsOn}
+use Rattle.mk_core.specs.Below.Books.KnownPages.{IsNext, has_freed_cells, page_at, StandsOn}
 use Rattle.mk_geom.specs.PageUses.{PartOfRun, use_of_page, use_under}
 use Rattle.std.specs.Option.{unwrap_or}
 

@@ -3,7 +3,7 @@ use Rattle.std.specs.Prelude.{◌≡◌, ℕ, ◌≤◌, Bool, ◌&&◌, nat_lt,
 use Rattle.std.specs.Prelude.{if◌then◌else◌, slice_index, ◌≢◌, ◌<◌, true, false, ◌==◌, ◌||◌, not, []}
 use Rattle.mk_geom.specs.declared.headers.Header.{Header, TheVariants.Later}
 use Rattle.mk_geom.specs.{Addresses.header_of, declared.pages.Page.Page}
-use Rattle.mk_books.specs.KnownPages.{has_freed_cells}
+use Rattle.mk_core.specs.Below.Books.KnownPages.{has_freed_cells}
 use Rattle.mk_core.specs.Cells.{is_unmapped_header, words_under, left_unmarked, header_in, head_page}
 use Rattle.mk_core.specs.{Words.{Words, has_bit, page_of, header_at, quarantine_word, used_at}, Frames.Steady}
 use Rattle.mk_core.specs.{Moments.{is_held, none_is_held}, MarkingConditions.has_settled_page}

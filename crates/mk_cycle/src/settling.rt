@@ -3,7 +3,7 @@
 ghost use Rattle.std.specs.Prelude.{◌≡◌, ◌<◌, ◌≤◌, ◌+◌, ◌-◌, ℕ, Some, true, false};
 ghost use Rattle.mk_core.specs.{Cells.{head_page, header_in, left_unmarked}, Words.used_at};
 ghost use Rattle.mk_geom.specs.declared.headers.Header.TheVariants.{Later};
-ghost use Rattle.mk_books.specs.KnownPages.{IsNext};
+ghost use Rattle.mk_core.specs.Below.Books.KnownPages.{IsNext};
 ghost use Rattle.mk_words.specs.States.{now_of};
 ghost use Rattle.mk_cycle.specs.{EngineLaw.{IsTurnAmong, IsTurnAt}, Freeing.{Frees, FreesPage, FreesRun}};
 ghost use Rattle.mk_cycle.specs.Freeing.{HasFreeCells, HasGivenBackOn, IsOccupied, IsSettledPage, may_be_unsettled};

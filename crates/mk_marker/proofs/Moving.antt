@@ -10,10 +10,10 @@ use Rattle.mk_words.proofs.{Below.Laws.Changes.marks_kind, Doing.{done_in_parts,
 use Rattle.mk_words.proofs.Doing.{own_or_others_in_parts}
 use Rattle.mk_words.specs.Steps.{AreOwnOrOfOthers}
 use Rattle.mk_core.proofs.{Conditions.meets_enabled, WordBits.{bit_for_has, bits_added}}
-use Rattle.mk_core.specs.{Accesses.scan_bit, Words.bit_for, Cells.words_scanned, Frames.{Attends, ScanIsLeft}}
+use Rattle.mk_core.specs.{Accesses.scan_bit, Words.bit_for, Cells.words_scanned, Frames.{Attends, OnlyGrow, ScanIsLeft}}
 use Rattle.mk_core.specs.History.{own_from}
 use Rattle.mk_core.specs.{Words.named_word, declared.seats.Presence.TheVariants.Attending}
-use Rattle.mk_marker.specs.Steps.{ClaimsMarked, IsMarkedIn, IsOf, IsScanning, IsScanOf, MarksGrow, Moved, MovesMarker}
+use Rattle.mk_marker.specs.Steps.{ClaimsMarked, IsMarkedIn, IsOf, IsScanning, IsScanOf, Moved, MovesMarker}
 use Rattle.mk_marker.specs.{Steps.words_left, Markers.{finding, attends, between_scans}}
 use Rattle.mk_marker.specs.{Markers.IsBlackIn, declared.cells.MarkedCell.MarkedCell}
 use Rattle.mk_words.proofs.{Made.{made, own_before}, Seats.same_self}
@@ -37,6 +37,10 @@ pub attends_there : (m : Moment) (s : Seat) → is_attending (marker_at m s).pre
 attends_there m (Marker k) h = h
 attends_there m (Caller k) h = cc
 attends_there m Host h = cc
+
+-- While a marker attends, no mark is taken back.
+abbrev MarksGrow : PassState → PassState → Type 0
+MarksGrow p q = attends p ≡ true → OnlyGrow (now_of p).words.marks (now_of q).words.marks
 
 pub marks_grow : {p : PassState} {s : Step} {q : PassState} → Makes p s q → MarksGrow p q
 marks_grow {p} {s} {q} makes on page k is =
@@ -88,7 +92,7 @@ still_marked p page k n q on is f =
 
 pub claimed : {p : PassState} (cell : MarkedCell) {n : ℕ} {q : PassState} → marker_in p ≡ between_scans
     (Some (record { page = cell.page; header = cell.header })) → IsMarkedIn p cell.page cell.index
-    → Marks p (Step.Claim cell.page cell.index) n q → ClaimsMarked p cell q × IsScanning (marker_in q) × IsScanOf
+    → Marks p (Step.Claim cell.page cell.index) n q → ClaimsMarked p cell q × IsScanning (marker_in q) None × IsScanOf
     (marker_in q) cell.page cell.index × (words_left (marker_in q) ≡ words_scanned (header_of cell.header))
 claimed {p} cell {n = n} {q = q} at is m =
     let on : attends p ≡ true = ap (λ (x : MarkerState). is_attending x.presence) at in

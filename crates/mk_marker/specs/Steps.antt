@@ -14,16 +14,12 @@ pub record IsOf (w : WordsState) (p : PassState) : Type 0 where
   pub one_table : p.table ≡ w
   pub marker : IsMarkers p
 
--- While a marker attends, no mark is taken back.
-abbrev pub MarksGrow : PassState → PassState → Type 0
-MarksGrow p q = attends p ≡ true → OnlyGrow (now_of p).words.marks (now_of q).words.marks
-
--- The pass made one step, which found this number.
+-- The pass made one step, which found this number. While a marker attends, no mark is taken back.
 pub record MovesMarker (p : PassState) (s : Step) (n : ℕ) (q : PassState) : Type 0 where
   pub pass : IsPass q
   pub did : Did p (finding p.seat s n ∷ []) q
   pub marker : marker_in q ≡ marker_behind p.table.config n s (marker_in p)
-  pub marks : MarksGrow p q
+  pub marks : attends p ≡ true → OnlyGrow (now_of p).words.marks (now_of q).words.marks
 
 -- whatever it found
 abbrev pub Moved : PassState → Step → PassState → Type 0
@@ -41,11 +37,11 @@ words_left x = by x.scan
     by (Some scan) = scan.end - scan.next
     by None = 0
 
--- A marker scans a cell, and has no open hand.
-pub record IsScanning (x : MarkerState) : Type 0 where
+-- A marker scans a cell, and has this value in its hand, or none.
+pub record IsScanning (x : MarkerState) (hand : Option ℕ) : Type 0 where
   pub scan : Scan
   pub seen : Option SeenHeader
-  pub is : x ≡ record { presence = Attending; scan = Some scan; hand = None; seen = seen }
+  pub is : x ≡ record { presence = Attending; scan = Some scan; hand = hand; seen = seen }
   pub next : scan.next ≤ scan.end
 
 -- It scans this cell.
@@ -57,13 +53,6 @@ pub record IsScanOf (x : MarkerState) (page index : ℕ) : Type 0 where
 pub record SameScan (x y : MarkerState) : Type 0 where
   pub page : scan_page y.scan ≡ scan_page x.scan
   pub bit : scan_bit y.scan ≡ scan_bit x.scan
-
--- It has this value in its hand.
-pub record IsHolding (x : MarkerState) (value : ℕ) : Type 0 where
-  pub scan : Scan
-  pub seen : Option SeenHeader
-  pub is : x ≡ record { presence = Attending; scan = Some scan; hand = Some value; seen = seen }
-  pub next : scan.next ≤ scan.end
 
 -- The pass claimed the cell, and found it marked.
 pub record ClaimsMarked (p : PassState) (cell : MarkedCell) (q : PassState) : Type 0 where

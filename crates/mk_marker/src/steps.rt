@@ -1,5 +1,5 @@
 //! The steps of a marker, each with what it leaves.
-ghost use Rattle.std.specs.Prelude.{◌≡◌, ◌<◌, ◌≤◌, ◌%◌, ◌&&◌, true, false, Some};
+ghost use Rattle.std.specs.Prelude.{◌≡◌, ◌<◌, ◌≤◌, ◌%◌, ◌&&◌, true, false, None, Some};
 ghost use Rattle.mk_geom.specs.Addresses.{header_of};
 ghost use Rattle.mk_core.specs.{Words.named_word, Conditions.is_word, MarkingConditions.{is_markers_word, is_out}};
 ghost use Rattle.mk_core.specs.{MarkingConditions.{may_mmark, may_mblack}, Cells.{cells_under, words_scanned}};
@@ -55,7 +55,7 @@ pub(crate) fn claim(words: &Words, pass: &mut MarkerPass, cell: MarkedCell)
     requires index { cell.index < cells_under (header_of cell.header) }
     requires marked { IsMarkedIn pass.old cell.page cell.index }
     ensures claims { ClaimsMarked pass.old cell pass.new }
-    ensures scanning { IsScanning (marker_in pass.new) }
+    ensures scanning { IsScanning (marker_in pass.new) None }
     ensures cell { IsScanOf (marker_in pass.new) cell.page cell.index }
     ensures left { words_left (marker_in pass.new) ≡ words_scanned (header_of cell.header) }
 {
@@ -66,7 +66,7 @@ pub(crate) fn claim(words: &Words, pass: &mut MarkerPass, cell: MarkedCell)
 #[inline(always)]
 pub(crate) fn load(words: &Words, pass: &mut MarkerPass) -> u64
     requires marker { IsOf words.now pass.old }
-    requires scanning { IsScanning (marker_in pass.old) }
+    requires scanning { IsScanning (marker_in pass.old) None }
     requires more { 0 < words_left (marker_in pass.old) }
     ensures { MovesMarker pass.old step.Mload result pass.new }
 {

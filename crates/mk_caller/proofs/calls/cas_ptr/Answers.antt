@@ -1,6 +1,7 @@
 use Rattle.mk_words.proofs.Below.Laws.Vocabulary.{refl}
-use Rattle.mk_caller.proofs.Chains.{called, faults, go, go_on, reached, sees_further, sees_more}
-use Rattle.mk_caller.{proofs.Comparing.{compares_values}, specs.Moves.{call_ends, exchanges, loads, passes}}
+use Rattle.mk_caller.proofs.Chains.{call_ends, called, exchanges, faults, go, go_on, loads, passes, reached}
+use Rattle.mk_caller.proofs.Chains.{sees_further, sees_more}
+use Rattle.mk_caller.proofs.Comparing.{compares_values}
 use Rattle.mk_caller.proofs.calls.cas_ptr.Goals as goal
 
 pub returns-in_default-clause-refused : goal.returns-in_default-clause-refused

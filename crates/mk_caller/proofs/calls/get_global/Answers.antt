@@ -1,5 +1,5 @@
 use Rattle.mk_words.proofs.Below.Laws.Vocabulary.{refl}
-use Rattle.mk_caller.{proofs.Chains.{called, go, go_on, stores}, specs.Moves.{loads_global}}
+use Rattle.mk_caller.proofs.Chains.{called, go, go_on, loads_global, stores}
 use Rattle.mk_caller.proofs.calls.get_global.Goals as goal
 
 pub returns-clause-called : goal.returns-clause-called

@@ -1,6 +1,6 @@
 use Rattle.mk_words.proofs.Below.Laws.Vocabulary.{refl}
-use Rattle.mk_caller.proofs.Chains.{called, faults, go, go_on, go_probed, reached, sees_further, sees_more}
-use Rattle.mk_caller.specs.Moves.{call_ends, reads}
+use Rattle.mk_caller.proofs.Chains.{call_ends, called, faults, go, go_on, go_probed, reached, reads, sees_further}
+use Rattle.mk_caller.proofs.Chains.{sees_more}
 use Rattle.mk_caller.proofs.calls.get_num.Goals as goal
 
 pub returns-in_default-clause-refused : goal.returns-in_default-clause-refused

@@ -1,6 +1,6 @@
 use Rattle.mk_words.proofs.Below.Laws.Vocabulary.{refl}
-use Rattle.mk_caller.proofs.Chains.{called, faults, go, go_on, go_probed, reached, sees_further, sees_more, stores}
-use Rattle.mk_caller.specs.Moves.{reads}
+use Rattle.mk_caller.proofs.Chains.{called, faults, go, go_on, go_probed, reached, reads, sees_further, sees_more}
+use Rattle.mk_caller.proofs.Chains.{stores}
 use Rattle.mk_caller.proofs.calls.get_ptr.Goals as goal
 
 pub returns-in_default-clause-refused : goal.returns-in_default-clause-refused

@@ -1,5 +1,5 @@
 use Rattle.mk_words.proofs.Below.Laws.Vocabulary.{refl}
-use Rattle.mk_caller.{proofs.Chains.called, proofs.Chains.go, proofs.Chains.stores, specs.Moves.loads}
+use Rattle.mk_caller.proofs.Chains.{called, go, loads, stores}
 use Rattle.mk_caller.proofs.calls.move_ptr.Goals as goal
 
 pub returns-clause-called : goal.returns-clause-called

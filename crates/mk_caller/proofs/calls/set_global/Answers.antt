@@ -1,5 +1,5 @@
 use Rattle.mk_words.proofs.Below.Laws.Vocabulary.{refl}
-use Rattle.mk_caller.{proofs.Chains.{called, go, go_on}, specs.Moves.{call_ends, loads, writes}}
+use Rattle.mk_caller.proofs.Chains.{call_ends, called, go, go_on, loads, writes}
 use Rattle.mk_caller.proofs.calls.set_global.Goals as goal
 
 pub returns-clause-called : goal.returns-clause-called

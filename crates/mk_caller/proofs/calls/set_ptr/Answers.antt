@@ -1,6 +1,6 @@
 use Rattle.mk_words.proofs.Below.Laws.Vocabulary.{refl}
-use Rattle.mk_caller.proofs.Chains.{called, faults, go, go_on, reached, sees_further, sees_more}
-use Rattle.mk_caller.specs.Moves.{call_ends, loads, passes, writes}
+use Rattle.mk_caller.proofs.Chains.{call_ends, called, faults, go, go_on, loads, passes, reached, sees_further}
+use Rattle.mk_caller.proofs.Chains.{sees_more, writes}
 use Rattle.mk_caller.proofs.calls.set_ptr.Goals as goal
 
 pub returns-in_default-clause-refused : goal.returns-in_default-clause-refused

@@ -2,7 +2,7 @@ use Rattle.std.specs.Option.{unwrap_or}
 use Rattle.mk_words.proofs.Below.Laws.Vocabulary.{ap, arith, subst, ℕ, ◌+◌, ◌∙◌}
 use Rattle.mk_cycle.proofs.CleanedPages.{cleans_to_none, ready_past, ready_to_end, same_pages}
 use Rattle.mk_cycle.proofs.{CleaningSteps.cleans_then, RangeEnds.{IsRangeEnd, range_ends}}
-use Rattle.mk_books.specs.KnownPages.{IsNext, is_free}
+use Rattle.mk_core.specs.Below.Books.KnownPages.{IsNext, is_free}
 use Rattle.mk_words.specs.States.{now_of}
 use Rattle.mk_cycle.proofs.cleaning.clean_pages_in_use.Goals.{After-unwrap_or-end}
 use Rattle.mk_cycle.proofs.cleaning.clean_pages_in_use.Goals as goal

@@ -1,5 +1,5 @@
 use Rattle.mk_words.proofs.Below.Laws.Vocabulary.{arith, eqb-true, slice_index, subst, ℕ, ◌+◌, ◌≡◌}
-use Rattle.mk_books.specs.KnownPages.{IsNext, is_free}
+use Rattle.mk_core.specs.Below.Books.KnownPages.{IsNext, is_free}
 use Rattle.mk_words.specs.States.{now_of}
 use Rattle.mk_cycle.proofs.Clearing.{no_bit_of_either, range_past, unmarked_kept}
 use Rattle.mk_cycle.proofs.dirty.clean_dirty.Goals.{After-unwrap_or-end}
