@@ -42,9 +42,40 @@ impl Counts {
             self.refused += 1;
         }
     }
+
+    /// Counts an answer that refuses nothing.
+    #[inline(always)]
+    fn count_accepted(&mut self, _answer: Answer)
+        requires room { CountsHaveRoom self.old }
+        requires accepted { is_refusal _answer ≡ false }
+        ensures ops { self.new.ops ≡ self.old.ops + 1 }
+        ensures refused { self.new.refused ≡ count_by is_refusal (_answer ∷ []) + self.old.refused }
+    {
+        self.ops += 1;
+    }
 }
 
-/// Answers the operation that waits, and counts the answer.
+/// Answers the operation that waits, and counts the answer. It may refuse, and something may be printed.
+#[inline(always)]
+fn take_any_answer(
+    alloc: Global,
+    feed: &mut Feed,
+    counts: &mut Counts,
+    answer: Answer,
+) -> Result<(), NoMemory>
+    requires waiting { IsWaiting feed.old }
+    requires room { CountsHaveRoom counts.old }
+    ensures takes { OnOk result
+        (ScriptTakesAnswer answer (script_of feed.old counts.old) (script_of feed.new counts.new)) }
+    ensures nearer { OnOk result (work_left feed.new < work_left feed.old) }
+{
+    feed.answer_ahead(alloc, answer)?;
+    counts.count(answer);
+    Ok(())
+}
+
+/// Answers the operation that waits, and counts the answer. Mostly the next operation comes at once. Then the answer
+/// refuses nothing, so it needn't be looked at again.
 #[inline(always)]
 fn take_answer(
     alloc: Global,
@@ -58,9 +89,11 @@ fn take_answer(
         (ScriptTakesAnswer answer (script_of feed.old counts.old) (script_of feed.new counts.new)) }
     ensures nearer { OnOk result (work_left feed.new < work_left feed.old) }
 {
-    feed.answer(alloc, answer)?;
-    counts.count(answer);
-    Ok(())
+    if feed.answer_at_once(answer) {
+        counts.count_accepted(answer);
+        return Ok(());
+    }
+    take_any_answer(alloc, feed, counts, answer)
 }
 
 /// The text of a script so far.
