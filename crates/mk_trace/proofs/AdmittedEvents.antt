@@ -1,14 +1,14 @@
 -- The operations of an event are admitted where all registers are null, and leave them so.
 use Rattle.std.proofs.{Common.{set, slice_get}, lemmas.List.FromFn.{get_or-range_with_len, length-range_with_len}}
 use Rattle.std.proofs.{lemmas.List.Elements.All-get_or, lemmas.Option.slice_get-get_or}
-use Rattle.mk_trace.proofs.Vocabulary.{A, AreAdmitted, C, Config, Contents, Event, F, IsAdmitted}
+use Rattle.mk_trace.proofs.Vocabulary.{A, AreAdmitted, AreNull, C, Config, Contents, Event, F, IsAdmitted}
 use Rattle.mk_trace.proofs.Vocabulary.{IsBetween, IsEventOf, IsHistory, IsPlayable, IsSound, K, Kind, NeverState, Null}
 use Rattle.mk_trace.proofs.Vocabulary.{Num, Op}
 use Rattle.mk_trace.proofs.Vocabulary.{Ptr, To, TraceEvent, Value, W, after_calls, allocation_at, asked, calls}
 use Rattle.mk_trace.proofs.Vocabulary.{calls_of_caller, config_of}
 use Rattle.mk_trace.proofs.Vocabulary.{global_at, kinds_of, length-replicate, never_behind, never_first, ops_of}
 use Rattle.mk_trace.proofs.Vocabulary.{range_with_len, register_at, replicate, types_from}
-use Rattle.mk_trace.{proofs.SlotTypes.{length-types_from}, specs.{Calls.AreNull, Playing.slot_type}}
+use Rattle.mk_trace.{proofs.SlotTypes.{length-types_from}, specs.Playing.slot_type}
 use Rattle.mk_laws.proofs.Vocabulary.{AccessIsAdmitted, Bool, IsTyped, IsTypedAllocation, List, Meets, get_or-set_same}
 use Rattle.mk_laws.proofs.Vocabulary.{length, refl, subst, suc, sym, true, words_of, zero, [], ◌*◌, ◌+◌, ◌-◌, ◌<◌, ◌∙◌}
 use Rattle.mk_laws.proofs.Vocabulary.{◌∷◌, ◌≡◌, ◌≢◌, ◌≤◌}

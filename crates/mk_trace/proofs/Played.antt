@@ -1,5 +1,6 @@
 -- What was played so far, with one event more, and at the end.
-use Rattle.mk_trace.proofs.Vocabulary.{AllTurnsAreExact, Answer, Caller, CallerState, Config, Contents, Decided, Event}
+use Rattle.mk_trace.proofs.Vocabulary.{AllTurnsAreExact, Answer, AreNull, Caller, CallerState, Config, Contents}
+use Rattle.mk_trace.proofs.Vocabulary.{Decided, Event}
 use Rattle.mk_trace.proofs.Vocabulary.{Grows, HostState, IsEventOf, IsHistory, IsPlayable, PassState, TraceEvent}
 use Rattle.mk_trace.proofs.Vocabulary.{WordsState, after_calls, answered, asked, begins_full, calls, calls_of_caller}
 use Rattle.mk_trace.proofs.Vocabulary.{config_of, first_host, is_refusal, never_behind, one_if, pass_for}
@@ -13,7 +14,7 @@ use Rattle.mk_core.specs.History.{calls_from}
 use Rattle.mk_heap.specs.{Below.Callers.States.IsAtHome, Hosts.IsWhole}
 use Rattle.mk_heap.proofs.Below.Objects.Bounds.{quarantine_of_one_is_bounded}
 use Rattle.mk_heap.proofs.UnsweptHistories.{unswept_is_precise}
-use Rattle.mk_trace.specs.Calls.{AreNull, HasPlayed, MayBePlayed, PlaysEvent, SameCalls}
+use Rattle.mk_trace.specs.Calls.{HasPlayed, MayBePlayed, PlaysEvent, SameCalls}
 use Rattle.mk_trace.specs.{Playing.{IsPlayed, ops_played}, Grammar.slot_of}
 
 -- Before the first event.
