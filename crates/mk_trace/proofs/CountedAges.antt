@@ -2,9 +2,11 @@
 use Rattle.std.proofs.{Common.drop-set-lt, lemmas.List.take-set, lemmas.List.Sums.fold-append}
 use Rattle.mk_trace.proofs.Vocabulary.{counted, drop_more, fold, in_a_word, nat_tests, one_if, take-append-drop, times}
 use Rattle.mk_trace.proofs.Vocabulary.{with_one}
-use Rattle.mk_laws.proofs.Vocabulary.{List, ℕ, ap, arith, drop, get_or-set_same, if◌then◌else◌, length, length-set, map}
-use Rattle.mk_laws.proofs.Vocabulary.{refl, slice_index_or, slice_set, subst, sym, take, [], ◌++◌, ◌+◌, ◌<◌, ◌==◌, ◌∙◌}
-use Rattle.mk_laws.proofs.Vocabulary.{◌∷◌, ◌≡◌, ◌≤◌}
+use Rattle.mk_heap.proofs.Below.Laws.Vocabulary.{List, ℕ, ap, arith, drop, get_or-set_same, if◌then◌else◌, length}
+use Rattle.mk_heap.proofs.Below.Laws.Vocabulary.{length-set, map}
+use Rattle.mk_heap.proofs.Below.Laws.Vocabulary.{refl, slice_index_or, slice_set, subst, sym, take, [], ◌++◌, ◌+◌, ◌<◌}
+use Rattle.mk_heap.proofs.Below.Laws.Vocabulary.{◌==◌, ◌∙◌}
+use Rattle.mk_heap.proofs.Below.Laws.Vocabulary.{◌∷◌, ◌≡◌, ◌≤◌}
 
 pub counted_more : (ages more : List ℕ) → fold with_one (counted ages) more ≡ counted (ages ++ more)
 counted_more ages more = sym (fold-append with_one [] ages more)

@@ -5,8 +5,9 @@ use Rattle.mk_trace.proofs.Vocabulary.{TraceStop, contents_of, ends, events_from
 use Rattle.mk_trace.proofs.Vocabulary.{lines_of, nat_tests, nothing_written, ops_of, text_fault_at}
 use Rattle.mk_trace.proofs.Vocabulary.{trace_of_lines, typed_event, with_trace_line}
 use Rattle.mk_trace.proofs.{Vocabulary.{words_of_line, written_from}, ReadLines.{gone_on, passed_else, then_next}}
-use Rattle.mk_laws.proofs.Vocabulary.{Bool, List, ℕ, ap, arith, drop, if◌then◌else◌, length, nat_le, subst, sym, []}
-use Rattle.mk_laws.proofs.Vocabulary.{◌++◌, ◌+◌, ◌==◌, ◌∷◌, ◌≡◌, ◌≤◌}
+use Rattle.mk_heap.proofs.Below.Laws.Vocabulary.{Bool, List, ℕ, ap, arith, drop, if◌then◌else◌, length, nat_le, subst}
+use Rattle.mk_heap.proofs.Below.Laws.Vocabulary.{sym, []}
+use Rattle.mk_heap.proofs.Below.Laws.Vocabulary.{◌++◌, ◌+◌, ◌==◌, ◌∷◌, ◌≡◌, ◌≤◌}
 use Rattle.mk_check.proofs.GrammarLemmas.{passed_then}
 use Rattle.mk_script.specs.Grammar.{without_empty_last}
 use Rattle.mk_trace.specs.{Grammar.{along, contents_from, words_of_slots}, Lines.trace_line_of}

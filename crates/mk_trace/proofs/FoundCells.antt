@@ -4,9 +4,11 @@ use Rattle.mk_trace.proofs.Vocabulary.{PlacedAllocation, Word, Words, cell_at, c
 use Rattle.mk_trace.proofs.Vocabulary.{header_at, histories_keep_the_invariant, is_freed, is_heap_address, left}
 use Rattle.mk_trace.{proofs.Vocabulary.{never_behind, option_map, placed_at, unfreed}, specs.Calls.{word_behind}}
 use Rattle.mk_trace.proofs.{FoundObjects.{PointsToCell, frees_nothing, points_to_cell}, EndsInLists.leaves_twice}
-use Rattle.mk_laws.proofs.Vocabulary.{Bool, List, None, Option, Some, ℕ, ap, arith, false, get_or_past, has_bit}
-use Rattle.mk_laws.proofs.Vocabulary.{if◌then◌else◌, nat_le, no_bit, not, page_at_address, slice_index, sym, true, ◌%◌}
-use Rattle.mk_laws.proofs.{Vocabulary.{◌*◌, ◌+◌, ◌<◌, ◌∙◌, ◌≡◌, ◌≤◌}, KnownWorlds.known_world}
+use Rattle.mk_heap.proofs.Below.Laws.Vocabulary.{Bool, List, None, Option, Some, ℕ, ap, arith, false, get_or_past}
+use Rattle.mk_heap.proofs.Below.Laws.Vocabulary.{has_bit}
+use Rattle.mk_heap.proofs.Below.Laws.Vocabulary.{if◌then◌else◌, nat_le, no_bit, not, page_at_address, slice_index, sym}
+use Rattle.mk_heap.proofs.Below.Laws.Vocabulary.{true, ◌%◌}
+use Rattle.mk_heap.proofs.Below.Laws.{Vocabulary.{◌*◌, ◌+◌, ◌<◌, ◌∙◌, ◌≡◌, ◌≤◌}, KnownWorlds.known_world}
 use Rattle.mk_core.specs.Cells.{pointed_cell}
 
 -- looks, one after the other

@@ -10,8 +10,8 @@ use Rattle.mk_trace.proofs.{Vocabulary.words_of_some, FreedWords.{large_weight, 
 use Rattle.mk_trace.proofs.FreedWords.{storage_weight, sum_alike, sum_mapped, weighed}
 use Rattle.mk_trace.proofs.KeptObjects.{ages_gone, kept_age, let_go, none_ages, none_found, none_released, noted}
 use Rattle.mk_trace.proofs.{KeptObjects.{one_ages, one_found, was_kept}, NumberLists.words_of_numbers}
-use Rattle.mk_laws.proofs.Vocabulary.{List, None, Option, Some, ℕ, ap, arith, inl, inr}
-use Rattle.mk_laws.proofs.Vocabulary.{refl, subst, sym, true, [], ◌++◌, ◌+◌, ◌<◌, ◌∙◌, ◌∷◌, ◌≡◌, ◌≢◌, ◌⊎◌}
+use Rattle.mk_heap.proofs.Below.Laws.Vocabulary.{List, None, Option, Some, ℕ, ap, arith, inl, inr}
+use Rattle.mk_heap.proofs.Below.Laws.Vocabulary.{refl, subst, sym, true, [], ◌++◌, ◌+◌, ◌<◌, ◌∙◌, ◌∷◌, ◌≡◌, ◌≢◌, ◌⊎◌}
 use Rattle.mk_trace.proofs.Vocabulary.{AreQuarantinedObjects, option_map_or, option_to_list}
 use Rattle.mk_trace.specs.Ledgers.{IsPeakOf, LetsGo, Notes, aged_object, risen, weighed_anew}
 use Rattle.mk_trace.specs.Peaks.{found_by_ends}

@@ -6,8 +6,9 @@ use Rattle.mk_trace.proofs.Vocabulary.{SettlesFreed, config_of, ends, freed_obje
 use Rattle.mk_trace.proofs.Vocabulary.{is_under_turn, left, most_held, never_behind, number_freed, objects_kept}
 use Rattle.mk_trace.proofs.{Vocabulary.{option_map, peaks_of, quarantined_words, reserved_words}, KeptPeaks.keeps_on}
 use Rattle.mk_trace.proofs.{PeakParts.last_below, ReleasedAreFreed.ages_counted}
-use Rattle.mk_laws.proofs.Vocabulary.{List, Option, ℕ, ap, arith, false, refl, subst, sym, [], ◌+◌, ◌<◌, ◌∙◌, ◌≡◌, ◌≤◌}
-use Rattle.mk_laws.proofs.Vocabulary.{◌⊎◌}
+use Rattle.mk_heap.proofs.Below.Laws.Vocabulary.{List, Option, ℕ, ap, arith, false, refl, subst, sym, [], ◌+◌, ◌<◌, ◌∙◌}
+use Rattle.mk_heap.proofs.Below.Laws.Vocabulary.{◌≡◌, ◌≤◌}
+use Rattle.mk_heap.proofs.Below.Laws.Vocabulary.{◌⊎◌}
 use Rattle.mk_core.specs.{Allocations.unreleased_storage, History.left_from}
 use Rattle.mk_trace.specs.{Peaks.{found_by_ends, found_by_ends_from, greatest_from}, Ledgers.Notes}
 

@@ -1,8 +1,9 @@
 -- The peaks bound what quarantine costs.
 use Rattle.mk_trace.proofs.Vocabulary.{Config, Event, IsHistory, PlacedAllocation, held_by_allocations, left, peaks_of}
 use Rattle.mk_trace.proofs.{Vocabulary.{quarantined_words, reserved_words}, PeakParts.is_greatest}
-use Rattle.mk_laws.proofs.Vocabulary.{Bool, List, ℕ, arith, earlier_part_is_history, false, if◌then◌else◌, not, refl}
-use Rattle.mk_laws.proofs.Vocabulary.{subst, ◌&&◌, ◌*◌, ◌++◌, ◌+◌, ◌≡◌, ◌≤◌}
+use Rattle.mk_heap.proofs.Below.Laws.Vocabulary.{Bool, List, ℕ, arith, earlier_part_is_history, false, if◌then◌else◌}
+use Rattle.mk_heap.proofs.Below.Laws.Vocabulary.{not, refl}
+use Rattle.mk_heap.proofs.Below.Laws.Vocabulary.{subst, ◌&&◌, ◌*◌, ◌++◌, ◌+◌, ◌≡◌, ◌≤◌}
 use Rattle.mk_heap.proofs.Below.Objects.CountedWords.{filtered_in_parts}
 use Rattle.mk_heap.proofs.Below.Objects.LittleHeld.{held_is_little_where_free}
 use Rattle.mk_heap.proofs.Below.Objects.Quarters.{quarantined_is_fresh_or_kept}

@@ -9,9 +9,11 @@ use Rattle.mk_trace.proofs.Vocabulary.{slot_number, text_fault_at, trace_of_line
 use Rattle.mk_trace.proofs.Vocabulary.{types_from, with_trace_line, words_of_line, written_from}
 use Rattle.mk_trace.proofs.ReadLines.{along_keeps, bound, gone_on, passed_else, then_next, unless_none}
 use Rattle.mk_trace.{proofs.SlotTypes.{length-types_from, range_below, types_among}, specs.declared.lines.Slot.{Slot}}
-use Rattle.mk_laws.proofs.Vocabulary.{Bool, List, None, Option, Some, ℕ, arith, false, get_or, if◌then◌else◌, is_some}
-use Rattle.mk_laws.proofs.Vocabulary.{length, length-map, nat_le, refl, subst, true, [], ◌++◌, ◌+◌, ◌<◌, ◌==◌, ◌∷◌, ◌≡◌}
-use Rattle.mk_laws.proofs.Vocabulary.{◌≤◌}
+use Rattle.mk_heap.proofs.Below.Laws.Vocabulary.{Bool, List, None, Option, Some, ℕ, arith, false, get_or, if◌then◌else◌}
+use Rattle.mk_heap.proofs.Below.Laws.Vocabulary.{is_some}
+use Rattle.mk_heap.proofs.Below.Laws.Vocabulary.{length, length-map, nat_le, refl, subst, true, [], ◌++◌, ◌+◌, ◌<◌}
+use Rattle.mk_heap.proofs.Below.Laws.Vocabulary.{◌==◌, ◌∷◌, ◌≡◌}
+use Rattle.mk_heap.proofs.Below.Laws.Vocabulary.{◌≤◌}
 use Rattle.mk_check.proofs.GrammarLemmas.{at_most-None, passed_then, within-None}
 use Rattle.mk_check.proofs.FaultLemmas.{or-None}
 use Rattle.mk_script.specs.{Lines.{at_most, heap_limit, within}, Operands.{◌>>=◌, name, number}}

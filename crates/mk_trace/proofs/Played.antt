@@ -7,9 +7,11 @@ use Rattle.mk_trace.proofs.Vocabulary.{config_of, first_host, is_refusal, never_
 use Rattle.mk_trace.proofs.{Vocabulary.{refused_events, take_all, take_more}, LaterOps.{ops-played_more, refused_more}}
 use Rattle.mk_trace.proofs.OneCaller.{as_many, calls_are_own, never_then_calls, none_called}
 use Rattle.mk_trace.proofs.{AdmittedEvents.{EventsAreAdmitted, events_are_admitted}, ExactPlays.play_is_unswept}
-use Rattle.mk_laws.proofs.Vocabulary.{Bool, List, ℕ, ap, arith, false, get_or, if◌then◌else◌, length, list_any}
-use Rattle.mk_laws.proofs.Vocabulary.{map-append, refl, subst, sym, take, [], ◌++◌, ◌+◌, ◌<◌, ◌∙◌, ◌∷◌, ◌≡◌, ◌≤◌}
-use Rattle.mk_laws.proofs.Promises.{histories_keep_all_promises}
+use Rattle.mk_heap.proofs.Below.Laws.Vocabulary.{Bool, List, ℕ, ap, arith, false, get_or, if◌then◌else◌, length}
+use Rattle.mk_heap.proofs.Below.Laws.Vocabulary.{list_any}
+use Rattle.mk_heap.proofs.Below.Laws.Vocabulary.{map-append, refl, subst, sym, take, [], ◌++◌, ◌+◌, ◌<◌, ◌∙◌, ◌∷◌, ◌≡◌}
+use Rattle.mk_heap.proofs.Below.Laws.Vocabulary.{◌≤◌}
+use Rattle.mk_heap.proofs.Below.Laws.Promises.{histories_keep_all_promises}
 use Rattle.mk_core.specs.History.{calls_from}
 use Rattle.mk_heap.specs.{Below.Callers.States.IsAtHome, Hosts.IsWhole}
 use Rattle.mk_heap.proofs.Below.Objects.Bounds.{quarantine_of_one_is_bounded}

@@ -2,8 +2,9 @@
 use Rattle.std.proofs.{lemmas.List.Elements.filter-append, lemmas.List.Sums.{fold-append, sum_by_more}}
 use Rattle.mk_trace.proofs.Vocabulary.{Freed, FreedObject, SettlesFreed, aged, fold, in_a_word, objects_kept}
 use Rattle.mk_trace.proofs.Vocabulary.{still_kept, sum_by, take_all, take_more, with_one}
-use Rattle.mk_laws.proofs.Vocabulary.{Bool, List, ℕ, ap, arith, get_or, if◌then◌else◌, length, map, map-append, subst}
-use Rattle.mk_laws.proofs.Vocabulary.{sym, take, [], ◌++◌, ◌+◌, ◌<◌, ◌∙◌, ◌∷◌, ◌≡◌, ◌≤◌}
+use Rattle.mk_heap.proofs.Below.Laws.Vocabulary.{Bool, List, ℕ, ap, arith, get_or, if◌then◌else◌, length, map}
+use Rattle.mk_heap.proofs.Below.Laws.Vocabulary.{map-append, subst}
+use Rattle.mk_heap.proofs.Below.Laws.Vocabulary.{sym, take, [], ◌++◌, ◌+◌, ◌<◌, ◌∙◌, ◌∷◌, ◌≡◌, ◌≤◌}
 use Rattle.mk_trace.specs.Ledgers.{ages_let_go, is_freed_among, weighed_anew}
 
 -- Words of kept objects, summed up one by one, where a number above 2^64 - 1 stands as 2^64 - 1.

@@ -2,9 +2,10 @@
 use Rattle.std.proofs.{Common.Bor, lemmas.{Iterator.Adapters.position_from-zero, List.at_drop_all}}
 use Rattle.std.{proofs.lemmas.List.Quantifiers.position-Some, specs.Cmp.Lexicographic.nat_list_eq_equiv}
 use Rattle.std.specs.{HashMap.{HashMap, get_by}, List.position_from, Map.lookup, Str.bytes_eq}
-use Rattle.mk_laws.proofs.Vocabulary.{List, Option, Some, ℕ, ap, arith, cond, drop, get_or, length, subst, sym, [], ◌+◌}
-use Rattle.mk_laws.proofs.Vocabulary.{◌<◌}
-use Rattle.mk_laws.proofs.Vocabulary.{◌∙◌, ◌≡◌}
+use Rattle.mk_heap.proofs.Below.Laws.Vocabulary.{List, Option, Some, ℕ, ap, arith, cond, drop, get_or, length, subst}
+use Rattle.mk_heap.proofs.Below.Laws.Vocabulary.{sym, [], ◌+◌}
+use Rattle.mk_heap.proofs.Below.Laws.Vocabulary.{◌<◌}
+use Rattle.mk_heap.proofs.Below.Laws.Vocabulary.{◌∙◌, ◌≡◌}
 use Rattle.mk_trace.proofs.Vocabulary.{at_drop_more, slot_number}
 use Rattle.mk_trace.specs.{Grammar.AreSlotNumbers, declared.lines.Slot.Slot}
 

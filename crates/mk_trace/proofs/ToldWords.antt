@@ -10,9 +10,10 @@ use Rattle.mk_trace.proofs.LookedTables.{LeavesTable, is_no_look, looks_leave, l
 use Rattle.mk_trace.proofs.{EndsInLists.{changes, leaves_then}, ExactPlays.{caller_is_still, look_stays_exact}}
 use Rattle.mk_trace.proofs.{OneCaller.{callers_at_home, same_calls}, OwnPieces.{mine_parts, none_of_others}}
 use Rattle.mk_trace.proofs.PeakParts.{from-append, last_below}
-use Rattle.mk_laws.proofs.Vocabulary.{List, ℕ, ap, append-nil, append_assoc, arith, earlier_part_is_history}
-use Rattle.mk_laws.proofs.Vocabulary.{enabled_in_parts, false, left_in_parts, left_more, refl, subst, sym, [], ◌++◌}
-use Rattle.mk_laws.proofs.Vocabulary.{◌∙◌, ◌∷◌, ◌≡◌}
+use Rattle.mk_heap.proofs.Below.Laws.Vocabulary.{List, ℕ, ap, append-nil, append_assoc, arith, earlier_part_is_history}
+use Rattle.mk_heap.proofs.Below.Laws.Vocabulary.{enabled_in_parts, false, left_in_parts, left_more, refl, subst, sym}
+use Rattle.mk_heap.proofs.Below.Laws.Vocabulary.{[], ◌++◌}
+use Rattle.mk_heap.proofs.Below.Laws.Vocabulary.{◌∙◌, ◌∷◌, ◌≡◌}
 use Rattle.mk_heap.proofs.MovedHosts.{taken_own}
 use Rattle.mk_heap.specs.Ending.{TellsWord}
 use Rattle.mk_trace.specs.Calls.{held_behind, word_behind}

@@ -1,5 +1,5 @@
 -- The words that the proofs of this crate share: they import them from here.
-use Rattle.mk_laws.proofs.Vocabulary.{List, Option, ℕ, ◌≡◌}
+use Rattle.mk_heap.proofs.Below.Laws.Vocabulary.{List, Option, ℕ, ◌≡◌}
 pub use Rattle.std.proofs.Common.{All, Ok, codes, filter, fold, length-append, length-drop, max, option_map, replicate}
 pub use Rattle.std.proofs.{Common.{rules, sum_by, take-append-drop, take_all, ⊎_elim}, Math.Bool.and-false}
 pub use Rattle.std.proofs.lemmas.{Bool.Decides.nat_tests, List.{at_drop_more, drop_more, length-replicate}}
@@ -8,21 +8,30 @@ pub use Rattle.std.specs.{List.range_with_len, Option.{option_map_or, option_to_
 pub use Rattle.mk_core.{proofs.Histories.{calls_append}, specs.{History.{Grows, is_same_seat}, History.never_first}}
 pub use Rattle.mk_core.specs.{Allocations.{allocations_by, held_by_allocations}, Moments.IsBetween}
 pub use Rattle.mk_core.specs.Counts.{decides_freed}
-pub use Rattle.mk_laws.proofs.{CyclePhases.moves_phase, ImagesKept.exists_placed}
-pub use Rattle.mk_laws.proofs.InvariantHistories.{histories_keep_the_invariant, reach_is_kept}
-pub use Rattle.mk_laws.proofs.Vocabulary.{Answer, AreAdmitted, AreEnabledFrom, AreOfOthers, Call, Caller, Cell, Config}
-pub use Rattle.mk_laws.proofs.Vocabulary.{Decided, Event, Flight, Host, IsAdmitted, IsHistory, IsSound, IsTidy}
-pub use Rattle.mk_laws.proofs.Vocabulary.{IsWithinLimits, Kind, Marker, Moment, NeverState, Null, Num, Op}
-pub use Rattle.mk_laws.proofs.Vocabulary.{PlacedAllocation, Ptr, Seat, Stage, Step, TalliesAreTidy, To, Value, Word}
-pub use Rattle.mk_laws.proofs.Vocabulary.{Words, World, address_of, after_calls, after_free, allocation_at, answered}
-pub use Rattle.mk_laws.proofs.Vocabulary.{asked, call_decided, calls, calls_from, cell_at, cell_freed}
-pub use Rattle.mk_laws.proofs.Vocabulary.{cell_of_allocation, cell_words, ends, entry_of, first_world, flagged}
-pub use Rattle.mk_laws.proofs.Vocabulary.{flight_of, found, freed_where_it_stands, global_at, granted, header_at}
-pub use Rattle.mk_laws.proofs.Vocabulary.{in_a_word, is_begin, is_end, is_freed, is_heap_address, is_large}
-pub use Rattle.mk_laws.proofs.Vocabulary.{is_left_unmarked, is_phase, is_quarantined, is_release, is_some_and}
-pub use Rattle.mk_laws.proofs.Vocabulary.{is_under_turn, kinds_of, left, never_behind, never_granted, no_longer_fresh}
-pub use Rattle.mk_laws.proofs.Vocabulary.{object_made, phase_of, placed_at, pointed_cell, register_at, seat_exists}
-pub use Rattle.mk_laws.proofs.Vocabulary.{stands_in, storage_words, with_released, world_behind}
+pub use Rattle.mk_heap.proofs.Below.Laws.{CyclePhases.moves_phase, ImagesKept.exists_placed}
+pub use Rattle.mk_heap.proofs.Below.Laws.InvariantHistories.{histories_keep_the_invariant, reach_is_kept}
+pub use Rattle.mk_heap.proofs.Below.Laws.Vocabulary.{Answer, AreAdmitted, AreEnabledFrom, AreOfOthers, Call, Caller}
+pub use Rattle.mk_heap.proofs.Below.Laws.Vocabulary.{Cell, Config}
+pub use Rattle.mk_heap.proofs.Below.Laws.Vocabulary.{Decided, Event, Flight, Host, IsAdmitted, IsHistory, IsSound}
+pub use Rattle.mk_heap.proofs.Below.Laws.Vocabulary.{IsTidy}
+pub use Rattle.mk_heap.proofs.Below.Laws.Vocabulary.{IsWithinLimits, Kind, Marker, Moment, NeverState, Null, Num, Op}
+pub use Rattle.mk_heap.proofs.Below.Laws.Vocabulary.{PlacedAllocation, Ptr, Seat, Stage, Step, TalliesAreTidy, To}
+pub use Rattle.mk_heap.proofs.Below.Laws.Vocabulary.{Value, Word}
+pub use Rattle.mk_heap.proofs.Below.Laws.Vocabulary.{Words, World, address_of, after_calls, after_free, allocation_at}
+pub use Rattle.mk_heap.proofs.Below.Laws.Vocabulary.{answered}
+pub use Rattle.mk_heap.proofs.Below.Laws.Vocabulary.{asked, call_decided, calls, calls_from, cell_at, cell_freed}
+pub use Rattle.mk_heap.proofs.Below.Laws.Vocabulary.{cell_of_allocation, cell_words, ends, entry_of, first_world}
+pub use Rattle.mk_heap.proofs.Below.Laws.Vocabulary.{flagged}
+pub use Rattle.mk_heap.proofs.Below.Laws.Vocabulary.{flight_of, found, freed_where_it_stands, global_at, granted}
+pub use Rattle.mk_heap.proofs.Below.Laws.Vocabulary.{header_at}
+pub use Rattle.mk_heap.proofs.Below.Laws.Vocabulary.{in_a_word, is_begin, is_end, is_freed, is_heap_address, is_large}
+pub use Rattle.mk_heap.proofs.Below.Laws.Vocabulary.{is_left_unmarked, is_phase, is_quarantined, is_release}
+pub use Rattle.mk_heap.proofs.Below.Laws.Vocabulary.{is_some_and}
+pub use Rattle.mk_heap.proofs.Below.Laws.Vocabulary.{is_under_turn, kinds_of, left, never_behind, never_granted}
+pub use Rattle.mk_heap.proofs.Below.Laws.Vocabulary.{no_longer_fresh}
+pub use Rattle.mk_heap.proofs.Below.Laws.Vocabulary.{object_made, phase_of, placed_at, pointed_cell, register_at}
+pub use Rattle.mk_heap.proofs.Below.Laws.Vocabulary.{seat_exists}
+pub use Rattle.mk_heap.proofs.Below.Laws.Vocabulary.{stands_in, storage_words, with_released, world_behind}
 pub use Rattle.mk_heap.proofs.Below.Objects.ListParts.{lacks_append, lacks_one, none_at}
 pub use Rattle.mk_heap.proofs.Below.Objects.Parts.{seen_made}
 pub use Rattle.mk_heap.proofs.Below.Words.Seats.{has_first}

@@ -9,7 +9,7 @@ use Rattle.mk_core.specs.{declared.config.Config.Config, declared.events.Answer.
 use Rattle.mk_core.specs.{declared.events.Seat.Seat, declared.events.Seat.TheVariants.{Caller, Host}}
 use Rattle.mk_core.specs.{Counts.is_full_answer, Calls.{asked, answered}, History.{is_same_seat, calls, left}}
 use Rattle.mk_core.specs.{Allocations.PlacedAllocation, Moments.{IsBetween, IsWithinLimits}}
-use Rattle.mk_laws.specs.{Releases.CyclesArePrecise, Promises.KeepsAllPromises}
+use Rattle.mk_heap.specs.Below.Laws.{Releases.CyclesArePrecise, Promises.KeepsAllPromises}
 pub use Rattle.mk_check.specs.Feed.{is_refusal}
 use Rattle.mk_heap.specs.{Below.Objects.TurnCycles.{TurnsOfAreExact, is_of_cycle}, Hosts.IsWhole}
 use Rattle.mk_heap.specs.{Below.Objects.Bounds.QuarantineIsBounded, Unswept.{IsUnswept, SeatSweepsNothing}}

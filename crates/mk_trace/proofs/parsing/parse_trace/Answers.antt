@@ -1,5 +1,5 @@
 use Rattle.mk_trace.proofs.{Vocabulary.{header_line_of, texts_of}, ReadLines.{read_whole, stops_whole}}
-use Rattle.mk_laws.proofs.Vocabulary.{ap, arith, length, sym, ◌<◌, ◌∙◌}
+use Rattle.mk_heap.proofs.Below.Laws.Vocabulary.{ap, arith, length, sym, ◌<◌, ◌∙◌}
 use Rattle.mk_trace.proofs.parsing.parse_trace.Goals as goal
 
 pub at_end-requires : goal.at_end-requires

@@ -1,5 +1,5 @@
 use Rattle.mk_trace.proofs.Vocabulary.{AllTurnsAreExact, Config, quarantined_words, reserved_words}
-use Rattle.mk_laws.proofs.Vocabulary.{ap, arith, length, subst, sym, ◌∙◌}
+use Rattle.mk_heap.proofs.Below.Laws.Vocabulary.{ap, arith, length, subst, sym, ◌∙◌}
 use Rattle.mk_trace.proofs.LedgerCalls.{ages_of, first_held, first_idle, first_keeps, most_of}
 use Rattle.mk_trace.proofs.Played.{closed, refused_at}
 use Rattle.mk_trace.proofs.{ExactPlays.first_exact, FewEvents.none_ended, HeldCalls.most_told, OneCaller.home_joined}

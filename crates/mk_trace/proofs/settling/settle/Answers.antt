@@ -1,5 +1,5 @@
 use Rattle.mk_trace.proofs.{Vocabulary.{Words, left, rules}, SettledLedgers.settles_anew}
-use Rattle.mk_laws.proofs.Vocabulary.{ap, refl, ◌≡◌}
+use Rattle.mk_heap.proofs.Below.Laws.Vocabulary.{ap, refl, ◌≡◌}
 use Rattle.mk_trace.proofs.settling.settle.Goals as goal
 
 pub returns-clause-settles : goal.returns-clause-settles
