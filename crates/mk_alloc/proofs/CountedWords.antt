@@ -9,7 +9,7 @@ use Rattle.mk_alloc.proofs.QuarantineVocabulary.{flight_of, freed_where_it_stand
 use Rattle.mk_alloc.proofs.QuarantineVocabulary.{given_back_behind, held_by_allocations, if◌then◌else◌, is_begin}
 use Rattle.mk_alloc.proofs.QuarantineVocabulary.{is_release, is_some, is_some_and, left, not, refl, storage_words, true}
 use Rattle.mk_alloc.proofs.QuarantineVocabulary.{with_released, world_behind, [], ◌&&◌, ◌*◌, ◌++◌, ◌+◌, ◌||◌, ◌∷◌, ◌≡◌}
-use Rattle.mk_alloc.proofs.{QuarantineVocabulary.◌≤◌, HeldFreed.{held_part, held_sum}}
+use Rattle.mk_alloc.proofs.{QuarantineVocabulary.{◌≤◌, is_mapped}, HeldFreed.{held_part, held_sum}}
 use Rattle.mk_alloc.specs.Bounds.{given_back_from, words_given_back}
 use Rattle.mk_core.specs.History.{left_from}
 

@@ -1,14 +1,14 @@
 -- The deeds of a history leave its allocations, and give back what it gave back.
 use Rattle.std.proofs.{lemmas.{List.map-id, Bool.{eqb-true, or_right}}, Common.{suc, zero}}
 use Rattle.std.specs.Prelude.{filter, sum_by}
-use Rattle.mk_alloc.proofs.QuarantineVocabulary.{Bool, Cell, Config, Event, Flight, List, None, Option}
-use Rattle.mk_alloc.proofs.QuarantineVocabulary.{PlacedAllocation, Some, Step, World, and_parts, ap, arith, cases_Bool}
-use Rattle.mk_alloc.proofs.QuarantineVocabulary.{cell_freed, false, first_world, flight_of, given_back_behind}
-use Rattle.mk_alloc.proofs.QuarantineVocabulary.{if◌then◌else◌, inl, inr, is_mapped, is_some_and, length, list_any, not}
-use Rattle.mk_alloc.proofs.QuarantineVocabulary.{placed_at, refl, storage_words, subst, sym, true, world_behind, ℕ}
-use Rattle.mk_alloc.proofs.QuarantineVocabulary.{◌&&◌, ◌++◌, ◌+◌, ◌<◌, ◌||◌, ◌∙◌, ◌∷◌, ◌≡◌, [], false_from_ne_true}
 use Rattle.mk_alloc.proofs.Vocabulary.{allocations_by, asked, call_decided, eq-eqb, map, or_left, ◌==◌, and_from, cond}
-use Rattle.mk_alloc.proofs.Vocabulary.{freed_where_it_stands, or_cases, true≢false}
+use Rattle.mk_alloc.proofs.{Vocabulary.{freed_where_it_stands, or_cases, true≢false}, QuarantineVocabulary.{Bool, Cell}}
+use Rattle.mk_alloc.proofs.QuarantineVocabulary.{Config, Event, Flight, List, None, Option, PlacedAllocation, Some}
+use Rattle.mk_alloc.proofs.QuarantineVocabulary.{Step, World, and_parts, ap, arith, cases_Bool, cell_freed, false}
+use Rattle.mk_alloc.proofs.QuarantineVocabulary.{first_world, flight_of, given_back_behind, if◌then◌else◌, inl, inr}
+use Rattle.mk_alloc.proofs.QuarantineVocabulary.{is_mapped, is_some_and, length, list_any, not, placed_at, refl}
+use Rattle.mk_alloc.proofs.QuarantineVocabulary.{storage_words, subst, sym, true, world_behind, ℕ, ◌&&◌, ◌++◌, ◌+◌, ◌<◌}
+use Rattle.mk_alloc.proofs.QuarantineVocabulary.{◌||◌, ◌∙◌, ◌∷◌, ◌≡◌, [], false_from_ne_true, with_released}
 use Rattle.mk_core.specs.{History.left_from, Cells.{is_left_unmarked, pointed_cell}, Words.Words}
 use Rattle.mk_never.specs.NeverHeap.{Call}
 use Rattle.mk_geom.specs.Addresses.{address_of}

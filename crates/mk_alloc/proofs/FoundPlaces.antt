@@ -15,12 +15,12 @@ use Rattle.mk_caller.proofs.Below.Laws.Vocabulary.{use_under, used_on, uses_of_p
 use Rattle.mk_caller.proofs.Below.Laws.Vocabulary.{◌==◌, ◌∙◌, ◌∷◌, ◌≡◌, ◌≢◌, ◌≤◌}
 use Rattle.mk_caller.proofs.Below.Laws.InvariantHistories.{pages_show_the_storage}
 use Rattle.mk_alloc.proofs.ObjectVocabulary.{held_by_allocations, option_map, sum_by-cons}
-use Rattle.mk_books.specs.KnownPages.{LowestBlockHasThePlace, free_cell_on, has_free_cell, page_at}
+use Rattle.mk_core.specs.Below.Books.KnownPages.{LowestBlockHasThePlace, free_cell_on, has_free_cell, page_at}
 use Rattle.mk_geom.proofs.{HeaderLemmas.{header_of-word_of, word_of-header_of}, FirstFit.{cell_place_is, run_place_is}}
 use Rattle.mk_geom.proofs.HeldWords.{pages_hold_mapped_words}
 use Rattle.mk_geom.specs.PageUses.{Cells, PageUse, cells_taken, first_where, held_by_use, held_by_uses, is_free_page}
 use Rattle.mk_geom.specs.PageUses.{small_place, bits_of, use_of_page, MayTakeCell}
-use Rattle.mk_books.proofs.{FreeCellLemmas.cells_taken_alike, UsedBitLemmas.length-bits_of}
+use Rattle.mk_core.proofs.Below.Books.{FreeCellLemmas.cells_taken_alike, UsedBitLemmas.length-bits_of}
 use Rattle.mk_core.proofs.{Sizes.class_for_small, UnreleasedStorage.unreleased_more}
 
 -- What the answers of the page map say of an object's place.

@@ -31,7 +31,7 @@ use Rattle.mk_alloc.proofs.ObjectVocabulary.{held_by_allocations, histories_keep
 use Rattle.mk_alloc.proofs.{ObjectVocabulary.{value_of, world_of}, HeldFreed.{freed_one, held_part, held_set}}
 use Rattle.mk_alloc.proofs.{HeldFreed.{large_part, live_part, small_part}, LoadedFrees.loaded_undecided}
 use Rattle.mk_alloc.proofs.{Looks.acting_caller, MayAct.{free_is_acting, off_four}, RunHeaders.made_use}
-use Rattle.mk_books.specs.KnownPages.{page_at, StandsOn}
+use Rattle.mk_core.specs.Below.Books.KnownPages.{page_at, StandsOn}
 use Rattle.mk_geom.{proofs.ClassTable.{class_words_within}, specs.PageUses.{PartOfRun}}
 use Rattle.mk_core.proofs.{ObjectHeaders.part_heads_run, StandingAllocations.placed_cell}
 

@@ -7,7 +7,7 @@ use Rattle.mk_alloc.proofs.Vocabulary.{TurnOf, ℕ, ap, append_assoc, append_can
 use Rattle.mk_alloc.proofs.Vocabulary.{caller_of_pass, cases_Bool, does_wider, false, finishes, has_place, has_step}
 use Rattle.mk_alloc.proofs.Vocabulary.{inl, inr, is_begin, is_end, is_of_cycle, is_pending_free_at, none_is_held}
 use Rattle.mk_alloc.proofs.Vocabulary.{now_of, or_from, or_parts, pass_before, phase_of, refl, same_config, subst, sym}
-use Rattle.mk_alloc.proofs.Vocabulary.{true, turn_stays, [], ⊎_elim, ◌++◌, ◌<◌, ◌∙◌, ◌∷◌, ◌≡◌}
+use Rattle.mk_alloc.proofs.Vocabulary.{true, turn_stays, [], ⊎_elim, ◌++◌, ◌<◌, ◌∙◌, ◌∷◌, ◌≡◌, left}
 use Rattle.mk_alloc.proofs.CalledTurns.{GivenBack, Taken, called, lacks_given, phase_taken, registers_taken}
 use Rattle.mk_alloc.proofs.CalledTurns.{taken_callers, taken_is, taken_turn, turn_of, within_is}
 use Rattle.mk_alloc.proofs.DueParts.{RunIn, at_behind, end_at, ends_before, run_in, run_list}

@@ -13,7 +13,7 @@ use Rattle.mk_alloc.proofs.JoinedLooks.{reached_table, reached_world, reaches_wi
 use Rattle.mk_alloc.proofs.SmallFrees.{freed_now, frees_counted, fresh_told_by, tally_between}
 use Rattle.mk_alloc.proofs.{ClearedRuns.{IsGoneIn, still_gone}, Serves.out_of_stop}
 use Rattle.mk_alloc.specs.FreeParts.{ClearsRun, MayUnmap}
-use Rattle.mk_books.specs.KnownPages.{StandsOn}
+use Rattle.mk_core.specs.Below.Books.KnownPages.{StandsOn}
 use Rattle.mk_geom.specs.PageUses.{PartOfRun}
 
 -- what heads a run

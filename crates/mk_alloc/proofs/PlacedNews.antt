@@ -16,7 +16,7 @@ use Rattle.mk_alloc.proofs.{MayAct.new_is_acting, Reaching.kept_by, RunHeaders.{
 use Rattle.mk_alloc.proofs.{Serves.{KnowsPlace, head_may, heads_on, knows_place}, Takes.unplaced_settled}
 use Rattle.mk_caller.specs.Below.Words.TurnSteps.{MayStoreHeads, StoresHeads}
 use Rattle.mk_caller.specs.Below.Words.Sweeping.{SweepsNothing, is_mark}
-use Rattle.mk_books.specs.KnownPages.{HeadersSay, run_word}
+use Rattle.mk_core.specs.Below.Books.KnownPages.{HeadersSay, run_word}
 use Rattle.mk_alloc.specs.{declared.objects.Shape.Shape, Placing.{IsPlaced, IsServed, place_now_for, object_shaped}}
 use Rattle.mk_geom.specs.PageUses.{PartOfRun, place_on_uses}
 use Rattle.mk_core.specs.Calls.{has_type}

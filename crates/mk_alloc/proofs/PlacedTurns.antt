@@ -107,7 +107,7 @@ module _ (p q : PassState) (t : IsTurn p) (u : IsUnplaced p) (quiet : IsQuiet p)
         call = record {
           pass = looks.same;
           call = looks_call looks;
-          done = ap (λ (h : Holding). record { placing = h.placing; freed = h.freed; cycle = h.cycle }) l.holding;
+          done = ap (λ (h : Holding). record h { hand = None }) l.holding;
           gone = λ gone. gone_beside t d history (none_freed_yet t u.new);
         };
         steady = l.steady;

@@ -5,7 +5,7 @@ use Rattle.mk_caller.proofs.Below.Laws.Vocabulary.{is_small_object, large_count,
 use Rattle.mk_caller.proofs.Below.Laws.Vocabulary.{suc, sym, true, true≢false, unmapped_header, use_under, zero, Some}
 use Rattle.mk_caller.proofs.Below.Laws.Vocabulary.{Words, ℕ, ◌*◌, ◌+◌, ◌-◌, RunPages, word_of, ◌<◌, ◌∙◌, ◌≡◌, ◌≢◌, ◌≤◌}
 use Rattle.mk_geom.{proofs.{Bridge.run_in_range, HeaderLemmas.header_of-word_of}, specs.PageUses.{PageUse, PartOfRun}}
-use Rattle.mk_books.specs.KnownPages.{page_at, StandsOn, run_word}
+use Rattle.mk_core.specs.Below.Books.KnownPages.{page_at, StandsOn, run_word}
 use Rattle.mk_core.proofs.ObjectHeaders.{large_header}
 
 -- The page so far after the run's head isn't unmapped.

@@ -24,7 +24,7 @@ use Rattle.mk_alloc.proofs.RunHeaders.{IsStillMapped, still_mapped, unmapped_use
 use Rattle.mk_alloc.specs.FreeParts.{MayUnmap, MayWipe, MayWipeFrom, WipedTo, with_pages}
 use Rattle.mk_caller.specs.Below.Words.{Steps.Finds, TurnSteps.{MayStoreHeads, StoresHeads}}
 use Rattle.mk_geom.proofs.{Bridge.run_in_range, HeaderLemmas.header_of-word_of}
-use Rattle.mk_books.specs.KnownPages.{HeadersSay, run_word}
+use Rattle.mk_core.specs.Below.Books.KnownPages.{HeadersSay, run_word}
 use Rattle.mk_geom.specs.{Addresses.{cell_under, word_at_address}, PageUses.PartOfRun}
 use Rattle.mk_core.specs.{Effects.{hand_given, hand_of_cell, is_in_stop}, Cells.pointed_cell}
 use Rattle.mk_core.specs.Frames.{HoldsAll, written_of}

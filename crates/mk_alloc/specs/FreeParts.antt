@@ -2,7 +2,7 @@
 use Rattle.std.specs.Prelude.{◌≡◌, ◌≢◌, ℕ, ◌*◌, ◌<◌, Bool, true, false, List, [], Some, ◌+◌, ◌≤◌, slice_index, ◌↔◌}
 use Rattle.std.specs.Prelude.{◌==◌, IsTrue, map, None, ◌∷◌, ◌++◌, ◌||◌}
 use Rattle.mk_geom.specs.{declared.{pages.Page.Page, addresses.Cell.Cell}, PageUses.PartOfRun}
-use Rattle.mk_books.specs.KnownPages.{StandsOn}
+use Rattle.mk_core.specs.Below.Books.KnownPages.{StandsOn}
 use Rattle.mk_core.specs.Allocations.{freed_where_it_stands, PlacedAllocation, fresh_words_of, held_by_allocations}
 use Rattle.mk_core.specs.Cells.{header_in, run_headed, words_are_zero, heads_run, is_freed}
 use Rattle.mk_core.specs.{Counts.{TalliesAreExact, releases, decides_freed}, Frames.{Steady, steady_of}}

@@ -6,12 +6,12 @@ ghost use Rattle.mk_geom.specs.{Addresses.cells_of, PageUses.{first_where, is_fr
 ghost use Rattle.mk_geom.specs.PageUses.{large_place, carved, resident_pages, bits_of, use_of_page};
 ghost use Rattle.mk_geom.specs.PageUses.{uses_of_pages};
 ghost use Rattle.mk_core.specs.Words.{header_at, page_of};
-ghost use Rattle.mk_books.specs.KnownPages.{free_cell_on, has_free_cell};
+ghost use Rattle.mk_core.specs.Below.Books.KnownPages.{free_cell_on, has_free_cell};
 ghost use Rattle.mk_caller.specs.Below.Words.States.{now_of};
 
 use crate::objects::Shape;
-use mk_books::{free_pages_from, the_lowest_block_has_the_place};
 use mk_caller::lower::words::{Turn, Words};
+use mk_core::lower::books::{free_pages_from, the_lowest_block_has_the_place};
 use mk_geom::{Place, SMALL_WORDS, cells, class_of, run_pages};
 
 /// The lowest cell of a block of the class that isn't used.

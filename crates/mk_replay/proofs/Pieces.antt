@@ -1,11 +1,11 @@
 -- The pieces of a line, found from left to right.
 use Rattle.std.proofs.{lemmas.List.{at_drop_more, drop_all, take_more}, Common.{drop-drop, nat_eq}}
-use Rattle.std.specs.{Cmp.Lexicographic.pointwise, List.starts_with}
+use Rattle.std.specs.{Cmp.Lexicographic.pointwise, List.{onto_first, starts_with}}
 use Rattle.mk_laws.proofs.Vocabulary.{Bool, List, ℕ, ap, append-nil, append_assoc, arith, drop, false, get_or}
 use Rattle.mk_laws.proofs.Vocabulary.{if◌then◌else◌, length, sym, take, true, [], ◌&&◌, ◌++◌, ◌+◌, ◌-◌, ◌<◌, ◌==◌, ◌∙◌}
 use Rattle.mk_laws.proofs.Vocabulary.{◌∷◌, ◌≡◌, ◌≤◌}
 use Rattle.mk_replay.proofs.Vocabulary.{length-drop, nat_tests, take_all}
-use Rattle.mk_replay.specs.Schedules.{IsEndOfPiece, in_front, pieces_of}
+use Rattle.mk_replay.specs.Schedules.{IsEndOfPiece, pieces_of}
 
 -- a text in front of the first piece
 abbrev pub glue : List ℕ → List (List ℕ) → List (List ℕ)
@@ -13,7 +13,8 @@ glue text [] = text ∷ []
 glue text (piece ∷ pieces) = (text ++ piece) ∷ pieces
 
 glue_nothing : (is_cut : Bool) (byte : ℕ) (cut uncut : List (List ℕ))
-    → glue [] (if is_cut then [] ∷ cut else in_front byte uncut) ≡ (if is_cut then [] ∷ cut else in_front byte uncut)
+    → glue [] (if is_cut then [] ∷ cut else onto_first byte uncut)
+    ≡ (if is_cut then [] ∷ cut else onto_first byte uncut)
 glue_nothing x0 byte cut uncut = grind (arith, uncut)
 
 pub glue_first : (text : List ℕ) → pieces_of text ≡ glue [] (pieces_of text)
@@ -27,7 +28,7 @@ is_cut (byte ∷ []) = false
 is_cut (byte ∷ next ∷ rest) = (byte == 59) && (next == 32)
 
 uncut : (byte : ℕ) (rest : List ℕ) → is_cut (byte ∷ rest) ≡ false
-    → pieces_of (byte ∷ rest) ≡ in_front byte (pieces_of rest)
+    → pieces_of (byte ∷ rest) ≡ onto_first byte (pieces_of rest)
 unfolding pieces_of
 uncut byte x1 is = grind arith
 

@@ -1,19 +1,20 @@
 -- What a run's steps say of the histories that it stands for.
 use Rattle.std.proofs.{Common.{IsTrue, set}, lemmas.List.{append_cancel_left, get_or_default, get_or_push}}
-use Rattle.std.specs.Option.{option_or}
-use Rattle.mk_replay.proofs.Vocabulary.{Answer, AreEnabled, AreFirstTexts, ArePlayersOf, Config, Decided, Entry, Event}
+use Rattle.std.proofs.lemmas.List.Sums.{sum_by-append}
+use Rattle.std.specs.{Option.option_or, Prelude.count_by}
+use Rattle.mk_replay.proofs.Vocabulary.{Answer, AreEnabled, ArePlayersOf, Config, Decided, Entry, Event}
 use Rattle.mk_replay.proofs.Vocabulary.{IsPlayerOf, Item, Op, TakesStep, answer_decided, calls, config_of, ends_call}
 use Rattle.mk_replay.proofs.Vocabulary.{entry_of, event_of_entry, first_world, flight_of, is_same_seat, left}
 use Rattle.mk_replay.proofs.{Vocabulary.{length-append, nat_tests, served_to}, ServedMore.{served_first, served_more}}
 use Rattle.mk_laws.proofs.Vocabulary.{IsEnabled, List, None, Option, Seat, Some, ℕ, ap, arith, caller_number, cases_eq}
 use Rattle.mk_laws.proofs.Vocabulary.{enabled_meets, false, get_or, get_or-set_other, get_or-set_same}
-use Rattle.mk_laws.proofs.Vocabulary.{get_or_append_left, inl, inr, length, refl, seat_exists, slice_index_or}
-use Rattle.mk_laws.proofs.Vocabulary.{slice_set, subst, sym, true, [], ◌++◌, ◌<◌, ◌∙◌, ◌∷◌, ◌≡◌, ◌≢◌}
+use Rattle.mk_laws.proofs.Vocabulary.{cond, get_or_append_left, inl, inr, length, refl, seat_exists, slice_index_or}
+use Rattle.mk_laws.proofs.Vocabulary.{slice_set, subst, sym, true, [], ◌++◌, ◌+◌, ◌<◌, ◌∙◌, ◌∷◌, ◌≡◌, ◌≢◌}
 use Rattle.mk_core.proofs.Histories.{calls_more, last_enabled}
 use Rattle.mk_core.specs.{Enabled.failing, History.{CoreStandsFor, CoreState}}
 use Rattle.mk_check.proofs.{FeedLaws.{feed_push, feed_push-ended}, GivenAnswers.same_number}
-use Rattle.mk_check.specs.{Feed.{feed, has_ended}, declared.text.Text.Text}
-use Rattle.mk_replay.specs.Replays.{IsFed, IsRunAfter, PlayerTakesAnswer, Served, TakeEvent, TakesEntry, served_by}
+use Rattle.mk_check.specs.{Feed.{feed, has_ended, is_refusal}, declared.text.Text.Text}
+use Rattle.mk_replay.specs.Replays.{FeedsOn, IsFed, IsRunAfter, Served, TakeEvent, TakesEntry, served_by}
 use Rattle.mk_replay.specs.{Replays.IsReplayedText, declared.{players.Player.Player, replaying.Run.Run}}
 use Rattle.mk_check.specs.Feeding.{FeedStandsFor, FeedState, TakesAnswer as FeedTakesAnswer}
 
@@ -65,13 +66,18 @@ one_takes players j old new e a lt at is takes = λ program k d x less h. elim (
   | inr other ↦ others players j new e a is d other h
 ]
 
--- At a call's last step the answer that was kept, or is decided there, is given.
-pub last_takes : (old new : Player) (decided : Option Answer) (a : Answer) → option_or decided old.kept ≡ Some a
-    → PlayerTakesAnswer a (record old { kept = None }) new → TakesStep true decided old new
-last_takes old new decided a is takes = λ program k x h.
+-- At a call's last step the answer that was kept, or is decided there, is given and counted.
+pub last_takes : (old : Player) (fed : FeedState) (decided : Option Answer) (a : Answer)
+    → option_or decided old.kept ≡ Some a → FeedsOn a old.feed fed → TakesStep true decided old
+    (record { feed = fed; kept = None; ops = old.ops + 1; refused = count_by is_refusal (a ∷ []) + old.refused })
+last_takes old fed decided a is feeds = λ program k x h.
     let given : option_or decided x.kept ≡ Some a = ap (option_or decided) (sym h.kept) ∙ is in
-    rw given (takes program k (record { answers = x.answers; kept = None })
-    (record { fed = h.fed; kept = refl; ops = h.ops; refused = h.refused }))
+    rw given (record {
+      fed = feeds program k x.answers h.fed;
+      kept = refl;
+      ops = omega (arith, h.ops, length-append x.answers (a ∷ []));
+      refused = omega (arith, h.refused, sum_by-append (λ (y : Answer). cond (is_refusal y) 1 0) x.answers (a ∷ []));
+    })
 
 -- One player more.
 pub players_push : {program : List Item} (players : List Player) {p : Player} → ArePlayersOf program [] players
@@ -88,15 +94,19 @@ players_push {program} players {p} h new = λ k d less.
           (h k d lt))
     ]
 
+-- the texts of the first scripts, in order
+abbrev pub AreFirstTexts : List Item → List Event → List Text → Type 0
+AreFirstTexts program es texts = (k : ℕ) (d : Text) → k < length texts
+    → IsReplayedText program es k (slice_index_or texts k d)
+
 -- One text more.
 pub texts_push : {program : List Item} {es : List Event} (texts : List Text) (t : Text) → AreFirstTexts program es texts
-    → IsReplayedText program es (length texts) t.bytes.items t.ops t.refused → AreFirstTexts program es (texts
-    ++ t ∷ [])
+    → IsReplayedText program es (length texts) t → AreFirstTexts program es (texts ++ t ∷ [])
 texts_push {program} {es} texts t h new = λ k d less.
     let total = length-append texts (t ∷ []) in
     elim (cases_eq k (length texts)) [
       | inl e ↦ rw (get_or_push texts t d k (sym e))
-          (subst (λ (i : ℕ). IsReplayedText program es i t.bytes.items t.ops t.refused) (sym e) new)
+          (subst (λ (i : ℕ). IsReplayedText program es i t) (sym e) new)
       | inr ne ↦ (let lt : k < length texts = omega arith in rw (get_or_append_left texts (t ∷ []) d k lt) (h k d lt))
     ]
 

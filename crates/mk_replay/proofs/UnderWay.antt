@@ -1,11 +1,12 @@
 -- A run after the first entries of a schedule.
-use Rattle.std.proofs.{Common.{add-one, drop-cons}, Math.ListN.drop_of_length-le, lemmas.List.Sums.count_by-le-length}
+use Rattle.std.proofs.{Common.{All, add-one, drop-cons}, Math.ListN.drop_of_length-le}
+use Rattle.std.proofs.lemmas.List.Sums.{count_by-le-length}
 use Rattle.mk_replay.proofs.Vocabulary.{AreEnabled, Entry, Event, Item, answers_given, config_of, event_of_entry}
 use Rattle.mk_replay.proofs.Vocabulary.{history_of, length-append, nat_tests}
 use Rattle.mk_laws.proofs.Vocabulary.{List, None, Some, ℕ, ap, arith, drop, false, get_or, length, refl, subst, sym, []}
 use Rattle.mk_laws.proofs.Vocabulary.{◌++◌, ◌+◌, ◌<◌, ◌==◌, ◌∙◌, ◌∷◌, ◌≡◌, ◌≤◌}
 use Rattle.mk_check.{proofs.GivenAnswers.{few_answers}, specs.Feed.{is_refusal}}
-use Rattle.mk_replay.specs.Replays.{EachHasRoom, IsNotEnabled, IsRunAfter, TakesEntry}
+use Rattle.mk_replay.specs.Replays.{IsNotEnabled, IsRunAfter, PlayerHasRoom, TakesEntry}
 use Rattle.mk_replay.specs.Replays.{failing_entry, history_from, refusal_from, refusal_of}
 use Rattle.mk_replay.specs.declared.replaying.ReplayStop.{ReplayStop}
 use Rattle.mk_replay.specs.declared.replaying.{ReplayStop.TheVariants.NotEnabled, Run.Run}
@@ -20,7 +21,7 @@ pub record IsUnderWay (program : List Item) (schedule : List Entry) (count : ℕ
 
 -- There are fewer answers than the counts can hold.
 pub room_of : {program : List Item} {schedule : List Entry} {n : ℕ} {run : Run} → IsUnderWay program schedule n run
-    → n < 18446744073709551615 → EachHasRoom run.players.items
+    → n < 18446744073709551615 → All PlayerHasRoom run.players.items
 room_of {program} h few = λ k d less.
     let p = h.is_run.players k d less in
     let answers = answers_given (config_of program 8) h.events k in

@@ -8,5 +8,5 @@ pub use Rattle.mk_laws.proofs.Vocabulary.{first_world, flight_of, left, progress
 pub use Rattle.mk_check.specs.{Declarations.config_of, Feed.{answers_given, ends_call}}
 pub use Rattle.mk_script.specs.{Grammar.texts_of, declared.items.Item.Item}
 pub use Rattle.mk_replay.specs.{Forms.{form_of, value_among}, Replays.{ArePlayersOf, IsPlayerOf, TakesStep, served_to}}
-pub use Rattle.mk_replay.specs.{Schedules.text_length, Replays.{AreFirstTexts, event_of_entry, history_of}}
+pub use Rattle.mk_replay.specs.{Schedules.text_length, Replays.{event_of_entry, history_of}}
 pub use Rattle.mk_replay.specs.{Schedules.is_schedule_line, declared.schedule.Entry.Entry}

@@ -1,13 +1,13 @@
 -- The words of an event and of a seat.
 use Rattle.std.specs.Prelude.{ℕ, ◌==◌, if◌then◌else◌, false, List, [], ◌∷◌, Option, Some, None, ok_or, Ok, Err}
-use Rattle.std.specs.{declared.result.Result.Result, Str.bytes_eq}
+use Rattle.std.specs.{declared.result.Result.Result, Option.option_map_or, Str.bytes_eq}
 use Rattle.mk_never.specs.declared.operations.Op.{Op}
-use Rattle.mk_core.specs.declared.events.{Seat.Seat, Word.Word, Tally.Tally}
+use Rattle.mk_core.specs.{declared.events.Seat.Seat, declared.events.Word.Word, declared.events.Tally.Tally}
 use Rattle.mk_core.specs.declared.events.Step.{Step}
 use Rattle.mk_script.specs.{declared.faults.TextKind.TextKind, Operands.number_of_word}
 use Rattle.mk_replay.specs.declared.forms.FormOfNumber.{FormOfNumber}
 use Rattle.mk_replay.specs.declared.forms.FormOfNumber.TheVariants.{Hold, Open, Clear, Wipe, Undirty, Unblack}
-use Rattle.mk_replay.specs.declared.forms.{FormOfNumbers.FormOfNumbers, WordOfNumber.WordOfNumber}
+use Rattle.mk_replay.specs.{declared.forms.FormOfNumbers.FormOfNumbers, declared.forms.WordOfNumber.WordOfNumber}
 use lib.Chars.{codes}
 
 -- the value that a word is listed with
@@ -68,10 +68,6 @@ forms_of_numbers =
     ∷ (codes "mark", (λ p v. Step.Mark p v)) ∷ (codes "black", (λ p v. Step.Black p v))
     ∷ (codes "claim", (λ p k. Step.Claim p k)) ∷ []
 
--- forms of a word of the table
-abbrev pub forms_of_word : List (List ℕ × (Word → Step))
-forms_of_word = (codes "look", (λ x. Step.Look x)) ∷ (codes "mlook", (λ x. Step.Mlook x)) ∷ []
-
 -- the names of tallies
 abbrev pub tallies : List (List ℕ × Tally)
 tallies =
@@ -93,28 +89,23 @@ words_of_number =
     ∷ (codes "black", (λ n. Word.Black n)) ∷ (codes "dirty", (λ n. Word.Dirty n))
     ∷ (codes "heap", (λ n. Word.Heap n)) ∷ []
 
--- the form, with its number
-abbrev pub form_with_number : {A : Type 0} → Option (ℕ → A) → List ℕ → Result A TextKind
-form_with_number None w = Err TextKind.Word
-form_with_number (Some f) w = on_ok f (number w)
-
--- the form, with its two numbers
-abbrev pub with_numbers : {A : Type 0} → Option (ℕ → ℕ → A) → List ℕ → List ℕ → Result A TextKind
-with_numbers None v w = Err TextKind.Word
-with_numbers (Some f) v w = both f (number v) (number w)
-
 -- a word of the table, by its words
 abbrev pub table_word : List (List ℕ) → Result Word TextKind
 table_word (a ∷ []) = ok_or (value_among plain_words a) TextKind.Word
-table_word (a ∷ n ∷ []) = form_with_number (value_among words_of_number a) n
+table_word (a ∷ n ∷ []) =
+    option_map_or (λ word. on_ok word (number n)) (value_among words_of_number a) (Err TextKind.Word)
 table_word (a ∷ c ∷ r ∷ []) =
-    with_numbers (if bytes_eq a (codes "reg") then Some (λ caller register. Word.Reg caller register) else None) c r
+    if bytes_eq a (codes "reg")
+    then both (λ caller register. Word.Reg caller register) (number c) (number r)
+    else Err TextKind.Word
 table_word _ = Err TextKind.Word
 
--- the form, with its word of the table
-abbrev pub with_table_word : Option (Word → Step) → List (List ℕ) → Result Step TextKind
-with_table_word None ws = Err TextKind.Word
-with_table_word (Some f) ws = on_ok f (table_word ws)
+-- a look at a word of the table
+abbrev pub look_form : List ℕ → List (List ℕ) → Result Step TextKind
+look_form a ws =
+    if bytes_eq a (codes "look")
+    then on_ok (λ x. Step.Look x) (table_word ws)
+    else if bytes_eq a (codes "mlook") then on_ok (λ x. Step.Mlook x) (table_word ws) else Err TextKind.Word
 
 -- the form of a `tally`
 abbrev pub tally_form : List ℕ → List ℕ → Result Step TextKind
@@ -125,19 +116,11 @@ abbrev pub two_operands : List ℕ → List ℕ → List ℕ → Result Step Tex
 two_operands a v w =
     if bytes_eq a (codes "tally")
     then tally_form v w
-    else two_or_look (value_among forms_of_numbers a)
-  where
-    two_or_look : Option (ℕ → ℕ → Step) → Result Step TextKind
-    two_or_look (Some f) = both f (number v) (number w)
-    two_or_look None = with_table_word (value_among forms_of_word a) (v ∷ w ∷ [])
+    else option_map_or (λ f. both f (number v) (number w)) (value_among forms_of_numbers a) (look_form a (v ∷ w ∷ []))
 
 -- an event of two words
 abbrev pub one_operand : List ℕ → List ℕ → Result Step TextKind
-one_operand a v = one_or_look (value_among forms_of_number a)
-  where
-    one_or_look : Option (ℕ → Step) → Result Step TextKind
-    one_or_look (Some f) = on_ok f (number v)
-    one_or_look None = with_table_word (value_among forms_of_word a) (v ∷ [])
+one_operand a v = option_map_or (λ f. on_ok f (number v)) (value_among forms_of_number a) (look_form a (v ∷ []))
 
 -- the form of an event, by its words
 abbrev pub form_of : List (List ℕ) → Result Step TextKind
@@ -145,7 +128,7 @@ form_of [] = Err TextKind.Word
 form_of (a ∷ []) = ok_or (value_among plain_forms a) TextKind.Word
 form_of (a ∷ v ∷ []) = one_operand a v
 form_of (a ∷ v ∷ w ∷ []) = two_operands a v w
-form_of (a ∷ u ∷ v ∷ w ∷ more) = with_table_word (value_among forms_of_word a) (u ∷ v ∷ w ∷ more)
+form_of (a ∷ u ∷ v ∷ w ∷ more) = look_form a (u ∷ v ∷ w ∷ more)
 
 -- a seat, by its word
 abbrev pub seat_of : List ℕ → Result Seat TextKind

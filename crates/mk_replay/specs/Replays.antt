@@ -3,15 +3,15 @@
 use Rattle.std.specs.Prelude.{◌≡◌, ◌<◌, ℕ, List, [], ◌∷◌, ◌++◌, length, count_by, slice_index_or, Option, Some, None}
 use Rattle.std.specs.{Prelude.{◌==◌, if◌then◌else◌, ◌≤◌, Bool, true, false}, List.cons_option, Option.option_or}
 use Rattle.mk_never.specs.declared.operations.Op.{Op}
-use Rattle.mk_core.specs.declared.events.{Seat.Seat, Step.Step, Event.Event}
+use Rattle.mk_core.specs.{declared.events.Seat.Seat, declared.events.Step.Step, declared.events.Event.Event}
 use Rattle.mk_core.specs.{Enabled.failing, History.{left, is_same_seat, CoreStandsFor}, declared.config.Config.Config}
-use Rattle.mk_core.specs.declared.events.{Answer.Answer, Seat.TheVariants.Caller}
+use Rattle.mk_core.specs.{declared.events.Answer.Answer, declared.events.Seat.TheVariants.Caller}
 use Rattle.mk_script.specs.{declared.items.Item.Item, Scopes.script_names}
 use Rattle.mk_check.specs.{Declarations.config_of, Feed.{is_refusal, answers_given, text_behind, feed, ends_call}}
 use Rattle.mk_check.specs.{Feed.answer_waiting, Feeding.{next_op, FeedState, FeedStandsFor}, declared.text.Text.Text}
 use Rattle.mk_replay.specs.{Forms.nothing_to_enter, declared.replaying.ReplayStop.ReplayStop}
-use Rattle.mk_replay.specs.declared.{replaying.ReplayStop.TheVariants.NotEnabled, schedule.Entry.Entry}
-use Rattle.mk_replay.specs.declared.{players.Player.Player, replaying.Run.Run}
+use Rattle.mk_replay.specs.{declared.replaying.ReplayStop.TheVariants.NotEnabled, declared.schedule.Entry.Entry}
+use Rattle.mk_replay.specs.{declared.players.Player.Player, declared.replaying.Run.Run}
 
 -- A caller's operation is its script's next one, fed with the answers so far. Other seats have none.
 abbrev pub next_op_for : List Item → List Event → Seat → Option Op
@@ -56,22 +56,15 @@ abbrev pub refusal_of : List Item → List Entry → Option ReplayStop
 refusal_of program schedule = refusal_from program [] schedule
 
 -- The text of script k, fed with the answers of its calls that ended, and the counts of these and of the refused ones.
-pub record IsReplayedText (program : List Item) (es : List Event) (k : ℕ) (bytes : List ℕ)
-    (ops refused : ℕ) : Type 0 where
-  pub text : bytes ≡ text_behind program (config_of program 8) es k
-  pub all : ops ≡ length (answers_given (config_of program 8) es k)
-  pub refusals : refused ≡ count_by is_refusal (answers_given (config_of program 8) es k)
-
--- the texts of the first scripts, in order
-abbrev pub AreFirstTexts : List Item → List Event → List Text → Type 0
-AreFirstTexts program es texts = (k : ℕ) (d : Text) → k < length texts
-    → IsReplayedText program es k (slice_index_or texts k d).bytes.items (slice_index_or texts k d).ops
-    (slice_index_or texts k d).refused
+pub record IsReplayedText (program : List Item) (es : List Event) (k : ℕ) (t : Text) : Type 0 where
+  pub text : t.bytes.items ≡ text_behind program (config_of program 8) es k
+  pub all : t.ops ≡ length (answers_given (config_of program 8) es k)
+  pub refusals : t.refused ≡ count_by is_refusal (answers_given (config_of program 8) es k)
 
 -- A text for each script, in order.
 pub record AreTextsOf (program : List Item) (es : List Event) (texts : List Text) : Type 0 where
   pub count : length texts ≡ length (script_names program)
-  pub each : AreFirstTexts program es texts
+  pub each : (k : ℕ) (d : Text) → k < length texts → IsReplayedText program es k (slice_index_or texts k d)
 
 -- What a run keeps for each script, and what it stands for.
 -- Private functions alone cite these words.
@@ -113,11 +106,6 @@ pub record IsPlayerOf (program : List Item) (k : ℕ) (x : Served) (p : Player) 
   pub ops : p.ops ≡ length x.answers
   pub refused : p.refused ≡ count_by is_refusal x.answers
 
--- Whatever the first stands for, the second stands for that with the answer after it.
-abbrev pub PlayerTakesAnswer : Answer → Player → Player → Type 0
-PlayerTakesAnswer a old new = (program : List Item) (k : ℕ) (x : Served)
-    → IsPlayerOf program k x old → IsPlayerOf program k (record x { answers = x.answers ++ a ∷ [] }) new
-
 -- Whatever the first was served, the second was served that and the step after it.
 abbrev pub TakesStep : Bool → Option Answer → Player → Player → Type 0
 TakesStep last decided old new = (program : List Item) (k : ℕ) (x : Served)
@@ -127,10 +115,6 @@ TakesStep last decided old new = (program : List Item) (k : ℕ) (x : Served)
 pub record PlayerHasRoom (p : Player) : Type 0 where
   pub ops : p.ops < 18446744073709551615
   pub refused : p.refused < 18446744073709551615
-
--- Each player can take one answer more.
-abbrev pub EachHasRoom : List Player → Type 0
-EachHasRoom players = (k : ℕ) (d : Player) → k < length players → PlayerHasRoom (slice_index_or players k d)
 
 -- the players after an event that decides this answer, if any
 abbrev pub TakeEvent : Event → Option Answer → List Player → List Player → Type 0

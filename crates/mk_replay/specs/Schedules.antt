@@ -1,26 +1,20 @@
 -- A text of a script part and a schedule: its program and the events, or its first fault; and how it is read.
 use Rattle.std.specs.Prelude.{ℕ, ◌+◌, Bool, false, ◌&&◌, nat_le, ◌==◌, if◌then◌else◌, List, [], ◌∷◌, ◌++◌, length, map}
 use Rattle.std.specs.{Prelude.{Option, Some, None, Ok, Err, ◌≡◌, ◌≤◌, take, drop, ◌<◌}, declared.result.Result.Result}
-use Rattle.std.specs.Str.{bytes_eq}
-use Rattle.mk_core.specs.declared.events.{Seat.Seat, Step.Step}
-use Rattle.mk_script.specs.declared.{items.Item.Item, faults.TextKind.TextKind}
+use Rattle.std.specs.{List.onto_first, Str.bytes_eq}
+use Rattle.mk_core.specs.{declared.events.Seat.Seat, declared.events.Step.Step}
+use Rattle.mk_script.specs.{declared.items.Item.Item, declared.faults.TextKind.TextKind}
 use Rattle.mk_script.specs.{declared.faults.TextStop.TextStop, Grammar.{lines_of, words_of_line, fault_at}}
 use Rattle.mk_script.specs.Grammar.{longest_text, too_long, items_of_lines}
 use Rattle.mk_replay.specs.{declared.schedule.Entry.Entry, Forms.{both, form_of, seat_of}}
-use Rattle.mk_replay.specs.declared.lines.LineStop.{LineStop, TheVariants.{Text, NoMemory}}
 use lib.Chars.{codes}
-
--- a byte in front of the first piece
-abbrev pub in_front : ℕ → List (List ℕ) → List (List ℕ)
-in_front byte [] = (byte ∷ []) ∷ []
-in_front byte (piece ∷ pieces) = (byte ∷ piece) ∷ pieces
 
 -- A line is cut at each `; `, from left to right.
 unfoldable pub pieces_of : List ℕ → List (List ℕ)
 pieces_of [] = [] ∷ []
 pieces_of (byte ∷ []) = (byte ∷ []) ∷ []
 pieces_of (byte ∷ next ∷ rest) =
-    if (byte == 59) && (next == 32) then [] ∷ pieces_of rest else in_front byte (pieces_of (next ∷ rest))
+    if (byte == 59) && (next == 32) then [] ∷ pieces_of rest else onto_first byte (pieces_of (next ∷ rest))
 
 -- the steps of a line of events
 abbrev pub forms_of : List (List (List ℕ)) → Result (List Step) TextKind
@@ -96,8 +90,7 @@ abbrev pub replay_of : List ℕ → Result (List Item × List Entry) TextStop
 replay_of text =
     if nat_le (length text) longest_text then replay_of_lines (lines_of text) else Err (fault_at 0 too_long)
 
--- What reading a line gives, unless memory runs out.
--- Private functions alone cite these words.
+-- What reading a line gives. Private functions alone cite these words.
 
 -- the expected entries stand after the old ones
 pub record AddsEntries (expected : Result (List Entry) TextKind) (old new : List Entry) : Type 0 where
@@ -105,10 +98,11 @@ pub record AddsEntries (expected : Result (List Entry) TextKind) (old new : List
   pub are : expected ≡ Ok entries
   pub added : new ≡ old ++ entries
 
--- the expected fault, or no memory
-abbrev pub IsStopOf : {A : Type 0} → Result A TextKind → LineStop → Type 0
-IsStopOf expected (Text kind) = expected ≡ Err kind
-IsStopOf expected NoMemory = Unit {0}
+-- a line's fault, unless memory ran out
+pub record IsFaultOf (line : ℕ) (expected : Result (List Entry) TextKind) (stop : TextStop) : Type 0 where
+  pub kind : TextKind
+  pub is_fault : expected ≡ Err kind
+  pub told : stop ≡ TextStop.Text line kind
 
 -- a line's first piece ends there, and others follow
 pub record IsEndOfPiece (text : List ℕ) (end : ℕ) : Type 0 where
@@ -146,8 +140,3 @@ pub record HasNone (lines : List (List ℕ)) : Type 0 where
 abbrev pub text_length : List (List ℕ) → ℕ
 text_length [] = 0
 text_length (line ∷ lines) = length line + 1 + text_length lines
-
--- what stops at a line, of a text whose line of this number it is
-abbrev pub stop_at : ℕ → LineStop → TextStop
-stop_at line (Text fault) = TextStop.Text line fault
-stop_at line NoMemory = TextStop.NoMemory

@@ -248,7 +248,7 @@ fn tally_form(name: &[u8], operand: &[u8]) -> Result<Step, TextKind>
 
 /// An event that looks at a word of the table.
 fn look(name: &[u8], operands: &[&[u8]]) -> Result<Step, TextKind>
-    ensures { result ≡ spec.with_table_word (spec.value_among spec.forms_of_word name.now) (texts_of operands.now) }
+    ensures { result ≡ spec.look_form name.now (texts_of operands.now) }
 {
     if name == b"look".as_slice() {
         Ok(Step::Look(table_word(operands)?))
@@ -284,7 +284,7 @@ fn register_word(name: &[u8], caller: &[u8], register: &[u8]) -> Result<Word, Te
 
 /// A word of the table with one number after its name.
 fn word_of_number(name: &[u8], operand: &[u8]) -> Result<Word, TextKind>
-    ensures { result ≡ spec.form_with_number (spec.value_among spec.words_of_number name.now) operand.now }
+    ensures { result ≡ spec.table_word (name.now ∷ operand.now ∷ []) }
 {
     let word = listed(&WORDS_OF_NUMBER, name)?;
     Ok(word.of(number(operand)?))

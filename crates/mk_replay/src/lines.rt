@@ -1,32 +1,15 @@
 //! The events of a line.
-ghost use Rattle.std.specs.Prelude.{◌≡◌, ◌∷◌, [], ◌++◌, map, IfOk, OnOk, MatchOption, MatchResult, Ok, Err};
+ghost use Rattle.std.specs.Prelude.{◌≡◌, ◌≢◌, ◌∷◌, [], ◌++◌, map, IfOk, OnOk, MatchOption, MatchResult, Ok, Err};
 ghost use Rattle.mk_script.specs.Grammar.{texts_of, words_of_line};
 ghost use Rattle.mk_replay.specs.Forms as spec;
 ghost use Rattle.mk_replay.specs.Schedules.{pieces_of, entries_from, entries_of_pieces, entries_of_line};
-ghost use Rattle.mk_replay.specs.Schedules.{AddsEntries, IsStopOf, IsEndOfPiece, forms_so_far, forms_with, with_form};
+ghost use Rattle.mk_replay.specs.Schedules.{AddsEntries, IsFaultOf, IsEndOfPiece, forms_so_far, forms_with, with_form};
 
 use crate::forms::{form, seat};
 use crate::schedule::Entry;
 use mk_core::{Seat, Step};
-use mk_script::{TextKind, replace_words};
+use mk_script::{TextKind, TextStop, replace_words};
 use std::alloc::{AllocError, Global};
-
-/// Why a line's events aren't read.
-#[derive(Clone, Copy)]
-pub(crate) enum LineStop {
-    Text(TextKind),
-    NoMemory,
-}
-
-impl From<AllocError> for LineStop {
-    ghost use Rattle.mk_replay.specs.declared.lines.LineStop.{LineStop, TheVariants.NoMemory};
-
-    ghost from_gives = { λ _ stop. stop ≡ NoMemory };
-
-    fn from(_error: AllocError) -> LineStop {
-        LineStop::NoMemory
-    }
-}
 
 /// Reads lines, each in the room of the one before it.
 #[derive(Drop)]
@@ -51,14 +34,17 @@ impl<'a> LineReader<'a> {
         line: u64,
         text: &'a [u8],
         entries: &mut Vec<Entry>,
-    ) -> Result<(), LineStop>
+    ) -> Result<(), TextStop>
         ensures { MatchResult result
             (λ _. AddsEntries (entries_of_line line text.now) entries.old.items entries.new.items)
-            (IsStopOf (entries_of_line line text.now)) }
+            (λ stop. stop ≢ TextStop.NoMemory → IsFaultOf line (entries_of_line line text.now) stop) }
     {
         replace_pieces(&mut self.pieces, text)?;
         let [first, others @ ..] = self.pieces.as_slice() else {
-            return Err(LineStop::Text(TextKind::Word));
+            return Err(TextStop::Text {
+                line,
+                kind: TextKind::Word,
+            });
         };
         replace_words(&mut self.words, first)?;
         read_words(&mut self.words, &mut self.forms, line, others, entries)
@@ -97,23 +83,27 @@ fn read_words<'a>(
     line: u64,
     others: &[&'a [u8]],
     entries: &mut Vec<Entry>,
-) -> Result<(), LineStop>
+) -> Result<(), TextStop>
     ensures { let expected =
         entries_of_pieces line (texts_of words.old.items ∷ map words_of_line (texts_of others.now)) in
         MatchResult result (λ _. AddsEntries expected entries.old.items entries.new.items)
-        (IsStopOf expected) }
+        (λ stop. stop ≢ TextStop.NoMemory → IsFaultOf line expected stop) }
 {
     let [name, operands @ ..] = words.as_slice() else {
-        return Err(LineStop::Text(TextKind::Word));
+        return Err(TextStop::Text {
+            line,
+            kind: TextKind::Word,
+        });
     };
     let seat = seat(name);
     let first = form(operands);
-    match (seat, replace_forms(words, forms, first, others)?) {
-        (Ok(seat), None) => Ok(push_entries(entries, line, seat, forms)?),
-        (Ok(_), Some(kind)) => Err(LineStop::Text(kind)),
-        (Err(kind), None) => Err(LineStop::Text(kind)),
-        (Err(first), Some(second)) => Err(LineStop::Text(worse_fault(first, second))),
-    }
+    let kind = match (seat, replace_forms(words, forms, first, others)?) {
+        (Ok(seat), None) => return Ok(push_entries(entries, line, seat, forms)?),
+        (Ok(_), Some(kind)) => kind,
+        (Err(kind), None) => kind,
+        (Err(first), Some(second)) => worse_fault(first, second),
+    };
+    Err(TextStop::Text { line, kind })
 }
 
 /// Puts the forms of a line, of which this is the first piece's, in the place of those of another, or returns its

@@ -1,8 +1,8 @@
 //! A script that takes part in a run.
 ghost use Rattle.std.specs.Prelude.{◌≡◌, ◌<◌, ◌+◌, ℕ, [], ◌∷◌, length, count_by, IfOk, OnOk, None};
 ghost use Rattle.mk_check.specs.{Feed.is_refusal, Laws.IsScript, Declarations.config_of};
-ghost use Rattle.mk_replay.specs.Replays.{IsReplayedText, Served, served_to, IsPlayerOf, PlayerTakesAnswer};
-ghost use Rattle.mk_replay.specs.Replays.{TakesStep, FeedsOn, PlayerHasRoom};
+ghost use Rattle.mk_replay.specs.Replays.{IsReplayedText, Served, served_to, IsPlayerOf, TakesStep, FeedsOn};
+ghost use Rattle.mk_replay.specs.Replays.{PlayerHasRoom};
 
 use mk_check::{Checked, Feed, Text, is_refusal};
 use mk_core::Answer;
@@ -61,16 +61,6 @@ impl Player {
         }
     }
 
-    /// The answer of a call that ended.
-    fn answer(&mut self, alloc: Global, answer: Answer) -> Result<(), NoMemory>
-        requires { PlayerHasRoom self.old }
-        ensures { OnOk result (PlayerTakesAnswer answer self.old self.new) }
-    {
-        feed_on(&mut self.feed, alloc, answer)?;
-        self.count(answer);
-        Ok(())
-    }
-
     /// One of its steps, which may be its call's last one, and may decide an answer.
     pub(crate) fn follow(
         &mut self,
@@ -87,17 +77,19 @@ impl Player {
             return Ok(());
         }
         self.kept = None;
-        match kept {
-            Some(answer) => self.answer(alloc, answer),
-            None => Ok(()),
-        }
+        let Some(answer) = kept else {
+            return Ok(());
+        };
+        feed_on(&mut self.feed, alloc, answer)?;
+        self.count(answer);
+        Ok(())
     }
 
     /// Its text so far.
     pub(crate) fn text(&self, alloc: Global) -> Result<Text, NoMemory>
         ensures { (program : List Item) (es : List Event) (k : ℕ)
             → IsPlayerOf program k (served_to (config_of program 8) es k) self.now
-            → IfOk result (λ t. IsReplayedText program es k t.bytes.items t.ops t.refused) }
+            → IfOk result (IsReplayedText program es k) }
     {
         Ok(Text {
             bytes: self.feed.text().to_vec(alloc)?,

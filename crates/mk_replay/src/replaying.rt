@@ -1,11 +1,11 @@
 //! The run of a schedule.
-ghost use Rattle.std.specs.Prelude.{◌≡◌, ◌≢◌, ℕ, [], length, None, Some, IfOk, IfErr, OnOk, IsTrue};
+ghost use Rattle.std.specs.Prelude.{◌≡◌, ◌≢◌, ℕ, [], length, All, None, Some, IfOk, IfErr, OnOk, IsTrue};
 ghost use Rattle.mk_script.specs.Scopes.{script_names};
 ghost use Rattle.mk_core.specs.{Conditions.seat_exists, History.{AreEnabled, CallsAreAdmitted}};
 ghost use Rattle.mk_check.specs.Declarations.{config_of};
 ghost use Rattle.mk_laws.specs.Promises.{KeepsAllPromises};
 ghost use Rattle.mk_replay.specs.Replays.{event_of_entry, failing_entry, next_op_for, history_of, refusal_of};
-ghost use Rattle.mk_replay.specs.Replays.{AreTextsOf, EachHasRoom, TakeEvent, IsRunAfter, ArePlayersOf};
+ghost use Rattle.mk_replay.specs.Replays.{AreTextsOf, PlayerHasRoom, TakeEvent, IsRunAfter, ArePlayersOf};
 ghost use Rattle.mk_replay.specs.Replays.{TakesEntry, IsNotEnabled};
 ghost use Rattle.mk_replay.specs.declared.replaying.ReplayStop.TheVariants as ReplayStop;
 
@@ -106,7 +106,7 @@ impl Run {
         event: Event,
         decided: Option<Answer>,
     ) -> Result<(), NoMemory>
-        requires { EachHasRoom self.old.players.items }
+        requires { All PlayerHasRoom self.old.players.items }
         ensures core { self.new.core ≡ self.old.core }
         ensures count { length self.new.players.items ≡ length self.old.players.items }
         ensures players { OnOk result (TakeEvent event decided self.old.players.items self.new.players.items) }
@@ -122,7 +122,7 @@ impl Run {
 
     /// One entry of the schedule.
     fn step(&mut self, alloc: Global, entry: Entry) -> Result<(), ReplayStop>
-        requires { EachHasRoom self.old.players.items }
+        requires { All PlayerHasRoom self.old.players.items }
         ensures ok { (program : List Item) (es : List Event) → IsRunAfter program es self.old
             → OnOk result (TakesEntry program es entry self.new) }
         ensures stop { (program : List Item) (es : List Event) → IsRunAfter program es self.old

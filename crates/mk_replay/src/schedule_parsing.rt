@@ -2,10 +2,9 @@
 ghost use Rattle.std.specs.Prelude.{◌≡◌, ◌≢◌, ◌<◌, ◌≤◌, ◌+◌, ◌^◌, length, Ok, Err, IfOk, IfErr, MatchOption};
 ghost use Rattle.mk_script.specs.Grammar.{longest_text, lines_of, texts_of};
 ghost use Rattle.mk_replay.specs.Schedules.{StandsAt, HasNone, replay_of, entries_of_lines};
-ghost use Rattle.mk_replay.specs.Schedules as reading;
 ghost use Rattle.mk_replay.specs.Schedules as spec;
 
-use crate::lines::{LineReader, LineStop};
+use crate::lines::LineReader;
 use crate::schedule::{Entry, Schedule};
 use mk_script::{
     Program, TEXT_LIMIT, TOO_LONG, TextKind, TextStop, parse, replace_words, split_lines,
@@ -79,8 +78,8 @@ fn is_schedule_line<'a>(words: &mut Vec<&'a [u8]>, line: &'a [u8]) -> Result<boo
 
 /// The length of these lines of a text, each with its newline.
 fn text_length(lines: &[&[u8]]) -> usize
-    requires { reading.text_length (texts_of lines.now) < 2 ^ 64 }
-    ensures { result ≡ reading.text_length (texts_of lines.now) }
+    requires { spec.text_length (texts_of lines.now) < 2 ^ 64 }
+    ensures { result ≡ spec.text_length (texts_of lines.now) }
 {
     let mut length = 0;
     for line in lines {
@@ -102,18 +101,8 @@ fn entries(alloc: Global, first: u64, lines: &[&[u8]]) -> Result<Vec<Entry>, Tex
     for (index, text) in lines.iter().enumerate() {
         let line = first + index as u64;
         if let Err(stop) = reader.read(line, text, &mut entries) {
-            return Err(stop_at(line, stop));
+            return Err(stop);
         }
     }
     Ok(entries)
-}
-
-/// A line's stop, as that of the text whose line of this number it is.
-fn stop_at(line: u64, stop: LineStop) -> TextStop
-    ensures { result ≡ reading.stop_at line stop }
-{
-    match stop {
-        LineStop::Text(kind) => TextStop::Text { line, kind },
-        LineStop::NoMemory => TextStop::NoMemory,
-    }
 }

@@ -1,22 +1,24 @@
 -- The operations of an event are admitted where all registers are null, and leave them so.
 use Rattle.std.proofs.{Common.{set, slice_get}, lemmas.List.FromFn.{get_or-range_with_len, length-range_with_len}}
 use Rattle.std.proofs.{lemmas.List.Elements.All-get_or, lemmas.Option.slice_get-get_or}
-use Rattle.mk_trace.proofs.Vocabulary.{A, AreAdmitted, C, Config, Contents, Event, F, IsAdmitted}
+use Rattle.mk_trace.proofs.Vocabulary.{A, AreAdmitted, AreNull, C, Config, Contents, Event, F, IsAdmitted}
 use Rattle.mk_trace.proofs.Vocabulary.{IsBetween, IsEventOf, IsHistory, IsPlayable, IsSound, K, Kind, NeverState, Null}
 use Rattle.mk_trace.proofs.Vocabulary.{Num, Op}
 use Rattle.mk_trace.proofs.Vocabulary.{Ptr, To, TraceEvent, Value, W, after_calls, allocation_at, asked, calls}
 use Rattle.mk_trace.proofs.Vocabulary.{calls_of_caller, config_of}
 use Rattle.mk_trace.proofs.Vocabulary.{global_at, kinds_of, length-replicate, never_behind, never_first, ops_of}
 use Rattle.mk_trace.proofs.Vocabulary.{range_with_len, register_at, replicate, types_from}
-use Rattle.mk_trace.{proofs.SlotTypes.{length-types_from}, specs.{Calls.AreNull, Playing.slot_type}}
-use Rattle.mk_laws.proofs.Vocabulary.{AccessIsAdmitted, Bool, IsTyped, IsTypedAllocation, List, Meets, get_or-set_same}
-use Rattle.mk_laws.proofs.Vocabulary.{length, refl, subst, suc, sym, true, words_of, zero, [], ◌*◌, ◌+◌, ◌-◌, ◌<◌, ◌∙◌}
-use Rattle.mk_laws.proofs.Vocabulary.{◌∷◌, ◌≡◌, ◌≢◌, ◌≤◌}
+use Rattle.mk_trace.{proofs.SlotTypes.{length-types_from}, specs.Playing.slot_type}
+use Rattle.mk_heap.proofs.Below.Laws.Vocabulary.{AccessIsAdmitted, Bool, IsTyped, IsTypedAllocation, List, Meets}
+use Rattle.mk_heap.proofs.Below.Laws.Vocabulary.{get_or-set_same}
+use Rattle.mk_heap.proofs.Below.Laws.Vocabulary.{length, refl, subst, suc, sym, true, words_of, zero, [], ◌*◌, ◌+◌, ◌-◌}
+use Rattle.mk_heap.proofs.Below.Laws.Vocabulary.{◌<◌, ◌∙◌}
+use Rattle.mk_heap.proofs.Below.Laws.Vocabulary.{◌∷◌, ◌≡◌, ◌≢◌, ◌≤◌}
 use Rattle.mk_never.proofs.{Later.{calls_stay, op_stays}, Edits.left_at_by, Fresh.new_adds}
 use Rattle.mk_never.{proofs.TypedCalls.{op_keeps, stays_typed}, specs.NeverHeap.{after_op}}
 use Rattle.mk_never.specs.Admitted.{IsBase, IsCaller, IsOfKind, OperandsAreInRange, StoreIsAdmitted}
 use Rattle.mk_never.specs.declared.operations.Op.TheVariants.{Clear, Free, GetGlobal, New, SetGlobal, SetNum, SetPtr}
-use Rattle.mk_laws.proofs.Vocabulary.{Number as NumKind, Some, ℕ, ap, arith, false, get_or, get_or-set_other}
+use Rattle.mk_heap.proofs.Below.Laws.Vocabulary.{Number as NumKind, Some, ℕ, ap, arith, false, get_or, get_or-set_other}
 
 -- The kinds of a slot's objects.
 

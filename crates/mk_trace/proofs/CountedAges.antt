@@ -1,29 +1,18 @@
 -- Pairs of an age and how many have it: ages are counted one by one, in any order.
 use Rattle.std.proofs.{Common.drop-set-lt, lemmas.List.take-set, lemmas.List.Sums.fold-append}
 use Rattle.mk_trace.proofs.Vocabulary.{counted, drop_more, fold, in_a_word, nat_tests, one_if, take-append-drop, times}
-use Rattle.mk_trace.{proofs.Vocabulary.{with_one}, specs.Peaks.{with_age}}
-use Rattle.mk_laws.proofs.Vocabulary.{List, ℕ, ap, arith, drop, get_or-set_same, if◌then◌else◌, length, length-set, map}
-use Rattle.mk_laws.proofs.Vocabulary.{refl, slice_index_or, slice_set, subst, sym, take, [], ◌++◌, ◌+◌, ◌<◌, ◌==◌, ◌∙◌}
-use Rattle.mk_laws.proofs.Vocabulary.{◌∷◌, ◌≡◌, ◌≤◌}
-
--- where a word holds each count
-
-abbrev in_words : List (ℕ × ℕ) → List (ℕ × ℕ)
-in_words pairs = map (λ (pair : ℕ × ℕ). (pair.0, in_a_word pair.1)) pairs
-
-one : (pairs : List (ℕ × ℕ)) (age : ℕ) → with_one (in_words pairs) age ≡ in_words (with_age pairs age)
-one [] age = grind arith
-one (p ∷ pairs) age = grind (arith, nat_tests, one pairs age)
-
-all : (pairs : List (ℕ × ℕ)) (ages : List ℕ) → fold with_one (in_words pairs) ages ≡ in_words (fold with_age pairs ages)
-all pairs [] = refl
-all pairs (age ∷ ages) = ap (λ (l : List (ℕ × ℕ)). fold with_one l ages) (one pairs age) ∙ all (with_age pairs age) ages
+use Rattle.mk_trace.proofs.Vocabulary.{with_one}
+use Rattle.mk_heap.proofs.Below.Laws.Vocabulary.{List, ℕ, ap, arith, drop, get_or-set_same, if◌then◌else◌, length}
+use Rattle.mk_heap.proofs.Below.Laws.Vocabulary.{length-set, map}
+use Rattle.mk_heap.proofs.Below.Laws.Vocabulary.{refl, slice_index_or, slice_set, subst, sym, take, [], ◌++◌, ◌+◌, ◌<◌}
+use Rattle.mk_heap.proofs.Below.Laws.Vocabulary.{◌==◌, ◌∙◌}
+use Rattle.mk_heap.proofs.Below.Laws.Vocabulary.{◌∷◌, ◌≡◌, ◌≤◌}
 
 pub counted_more : (ages more : List ℕ) → fold with_one (counted ages) more ≡ counted (ages ++ more)
-counted_more ages more = all (fold with_age [] ages) more ∙ ap in_words (sym (fold-append with_age [] ages more))
+counted_more ages more = sym (fold-append with_one [] ages more)
 
 -- Two ages are counted in either order.
-either : (pairs : List (ℕ × ℕ)) (a b : ℕ) → with_age (with_age pairs a) b ≡ with_age (with_age pairs b) a
+either : (pairs : List (ℕ × ℕ)) (a b : ℕ) → with_one (with_one pairs a) b ≡ with_one (with_one pairs b) a
 either [] a b = grind (arith, nat_tests)
 either (p ∷ pairs) a b = grind (arith, nat_tests, either pairs a b)
 
@@ -38,10 +27,10 @@ times_without n [] some i = absurd (omega (arith, some))
 times_without n (y ∷ ys) some i = grind (arith, nat_tests, λ (h : 1 ≤ times n ys). times_without n ys h i)
 
 taken : (f : ℕ → ℕ) (pairs : List (ℕ × ℕ)) (n : ℕ) (ys : List ℕ) → 1 ≤ times n ys
-    → fold with_age pairs (map f ys) ≡ fold with_age (with_age pairs (f n)) (map f (without n ys))
+    → fold with_one pairs (map f ys) ≡ fold with_one (with_one pairs (f n)) (map f (without n ys))
 taken f pairs n [] some = absurd (omega (arith, some))
 taken f pairs n (y ∷ ys) some =
-    grind (arith, nat_tests, either pairs (f y) (f n), λ (h : 1 ≤ times n ys). taken f (with_age pairs (f y)) n ys h)
+    grind (arith, nat_tests, either pairs (f y) (f n), λ (h : 1 ≤ times n ys). taken f (with_one pairs (f y)) n ys h)
 
 stands : (n : ℕ) (ys : List ℕ) → 1 ≤ times n (n ∷ ys)
 stands n ys = grind (arith, nat_tests)
@@ -51,19 +40,19 @@ nothing [] none = refl
 nothing (y ∷ ys) none = let first = none y in absurd (omega (arith, stands y ys, first))
 
 same_folded : (f : ℕ → ℕ) (pairs : List (ℕ × ℕ)) (xs ys : List ℕ) → ((i : ℕ) → times i xs ≡ times i ys)
-    → fold with_age pairs (map f xs) ≡ fold with_age pairs (map f ys)
+    → fold with_one pairs (map f xs) ≡ fold with_one pairs (map f ys)
 same_folded f pairs [] ys same =
-    ap (λ (l : List ℕ). fold with_age pairs (map f l)) (sym (nothing ys (λ i. sym (same i))))
+    ap (λ (l : List ℕ). fold with_one pairs (map f l)) (sym (nothing ys (λ i. sym (same i))))
 same_folded f pairs (n ∷ xs) ys same =
     let first = same n in
     let there : 1 ≤ times n ys = omega (arith, stands n xs, first) in
-    same_folded f (with_age pairs (f n)) xs (without n ys)
+    same_folded f (with_one pairs (f n)) xs (without n ys)
     (λ i. (let one = same i in let other = times_without n ys there i in omega (arith, one, other)))
     ∙ sym (taken f pairs n ys there)
 
 pub same_counted : (f : ℕ → ℕ) (xs ys : List ℕ) → ((i : ℕ) → times i xs ≡ times i ys)
     → counted (map f xs) ≡ counted (map f ys)
-same_counted f xs ys same = ap in_words (same_folded f [] xs ys same)
+same_counted f xs ys same = same_folded f [] xs ys same
 
 -- One more of an age that stands among pairs, where the pairs before that place have less.
 

@@ -5,10 +5,12 @@ use Rattle.mk_trace.proofs.Vocabulary.{is_of_cycle, left, lets_go, moves_phase, 
 use Rattle.mk_trace.proofs.FoundByEnds.{EndsOnce, FreesNoneFrom, Rests, ends-append, ends_once, found-append}
 use Rattle.mk_trace.proofs.FoundByEnds.{found-none, frees_behind, frees_second, grows_by, is_over, no_end-cons, rests}
 use Rattle.mk_trace.{proofs.FlagSteps.{releases_then, same_releases}, specs.Peaks.{found_by_ends_from}}
-use Rattle.mk_laws.proofs.Vocabulary.{Bool, List, ℕ, ap, append-nil, append_assoc, arith, cases_Bool, enabled_parts}
-use Rattle.mk_laws.proofs.Vocabulary.{false, inl, inr, left_append, left_in_parts, or_from, or_parts, refl, subst, sym}
-use Rattle.mk_laws.proofs.Vocabulary.{true, true≢false, [], ◌++◌, ◌||◌, ◌∙◌, ◌∷◌, ◌≡◌, ◌⊎◌}
-use Rattle.mk_laws.proofs.CyclePhases.{begin_is, phase_behind}
+use Rattle.mk_heap.proofs.Below.Laws.Vocabulary.{Bool, List, ℕ, ap, append-nil, append_assoc, arith, cases_Bool}
+use Rattle.mk_heap.proofs.Below.Laws.Vocabulary.{enabled_parts}
+use Rattle.mk_heap.proofs.Below.Laws.Vocabulary.{false, inl, inr, left_append, left_in_parts, or_from, or_parts, refl}
+use Rattle.mk_heap.proofs.Below.Laws.Vocabulary.{subst, sym}
+use Rattle.mk_heap.proofs.Below.Laws.Vocabulary.{true, true≢false, [], ◌++◌, ◌||◌, ◌∙◌, ◌∷◌, ◌≡◌, ◌⊎◌}
+use Rattle.mk_heap.proofs.Below.Laws.CyclePhases.{begin_is, phase_behind}
 use Rattle.mk_core.specs.{Cycles.Next, History.left_from}
 use Rattle.mk_heap.proofs.{Below.Objects.ListParts.{lacks_first, lacks_second}, Below.Objects.HeldTurns.next_of}
 use Rattle.mk_heap.specs.Below.Objects.TurnCycles.{RunsOneCycle}

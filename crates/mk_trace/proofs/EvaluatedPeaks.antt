@@ -1,6 +1,6 @@
 -- The peaks of small schedules.
 use Rattle.mk_trace.{proofs.Vocabulary.{peaks_of}, specs.Peaks.{found_by_ends_from, greatest_from}}
-use Rattle.mk_laws.proofs.Vocabulary.{refl, [], ◌∷◌, ◌≡◌}
+use Rattle.mk_heap.proofs.Below.Laws.Vocabulary.{refl, [], ◌∷◌, ◌≡◌}
 use Rattle.mk_core.proofs.Schedules.{by, c0, freed_after_begin, host, one_page}
 use Rattle.mk_core.proofs.LargeSchedule.{large_freed, three_pages}
 use Rattle.mk_core.specs.{Allocations.unreleased_storage, Words.all_below, Cells.pointed_cell, History.left_from}

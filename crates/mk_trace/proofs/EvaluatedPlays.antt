@@ -4,8 +4,9 @@ use Rattle.mk_trace.proofs.Vocabulary.{Step, TalliesAreTidy, W, World, answered,
 use Rattle.mk_trace.proofs.Vocabulary.{Host, Marker, Seat, flight_of, has_step, is_begin, left, lets_go, none_at}
 use Rattle.mk_trace.proofs.Vocabulary.{peaks_of, refused_events, seat_exists}
 use Rattle.mk_trace.proofs.{Vocabulary.world_behind, ExactPlays.nothing_given, Playable.is_playable}
-use Rattle.mk_laws.proofs.Vocabulary.{List, None, Some, Tally, ap, arith, false, or_parts, refl, subst, sym, true, []}
-use Rattle.mk_laws.proofs.{Vocabulary.{◌++◌, ◌∙◌, ◌∷◌, ◌≡◌}, Promises.histories_keep_all_promises}
+use Rattle.mk_heap.proofs.Below.Laws.Vocabulary.{List, None, Some, Tally, ap, arith, false, or_parts, refl, subst, sym}
+use Rattle.mk_heap.proofs.Below.Laws.Vocabulary.{true, []}
+use Rattle.mk_heap.proofs.Below.Laws.{Vocabulary.{◌++◌, ◌∙◌, ◌∷◌, ◌≡◌}, Promises.histories_keep_all_promises}
 use Rattle.mk_core.proofs.{Schedules.{by, c0, fault, first_fault}, EvaluatedHistories.enabled, EventsAt.{Also, AtEach}}
 use Rattle.mk_core.proofs.EventsAt.{at_each, ◌and◌}
 use Rattle.mk_core.specs.{Allocations.unreleased_storage, Words.all_below, Cells.pointed_cell}

@@ -1,6 +1,6 @@
 -- Small texts: their traces, and their first faults.
 use Rattle.std.proofs.Common.{Err}
-use Rattle.mk_laws.proofs.Vocabulary.{refl, [], ◌∷◌, ◌≡◌}
+use Rattle.mk_heap.proofs.Below.Laws.Vocabulary.{refl, [], ◌∷◌, ◌≡◌}
 use Rattle.mk_trace.proofs.Vocabulary.{A, C, F, K, Ok, TraceStop, W, Which, codes}
 use Rattle.mk_check.specs.declared.typing_faults.TypeKind.{TypeKind}
 use Rattle.mk_script.specs.declared.faults.TextKind.{TextKind}

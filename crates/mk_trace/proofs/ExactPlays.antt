@@ -4,8 +4,9 @@ use Rattle.mk_trace.proofs.Vocabulary.{HostState, IsHistory, Op, PassState, Seat
 use Rattle.mk_trace.proofs.Vocabulary.{and-false, config_of, first_world, has_first, has_step, is_of_cycle}
 use Rattle.mk_trace.proofs.{Vocabulary.{is_same_seat, pass_for, seat_exists}, HeldLooks.{Looked, all_lack, behind}}
 use Rattle.mk_trace.proofs.{HeldLooks.{first, moves, seen_is}, JoinedCalls.{Joined, elsewhere}}
-use Rattle.mk_laws.proofs.Vocabulary.{Bool, List, ℕ, ap, arith, false, list_any, list_any-append, ltb-true, or_from}
-use Rattle.mk_laws.proofs.Vocabulary.{or_parts, refl, subst, sym, true, [], ◌&&◌, ◌++◌, ◌∙◌, ◌∷◌, ◌≡◌}
+use Rattle.mk_heap.proofs.Below.Laws.Vocabulary.{Bool, List, ℕ, ap, arith, false, list_any, list_any-append, ltb-true}
+use Rattle.mk_heap.proofs.Below.Laws.Vocabulary.{or_from}
+use Rattle.mk_heap.proofs.Below.Laws.Vocabulary.{or_parts, refl, subst, sym, true, [], ◌&&◌, ◌++◌, ◌∙◌, ◌∷◌, ◌≡◌}
 use Rattle.mk_core.specs.History.{AreOfOthers}
 use Rattle.mk_heap.proofs.Below.{Objects.ExactTurns.stay_exact_behind_others, Words.Doing.not_own}
 use Rattle.mk_heap.proofs.Below.Words.Seats.{without_keeps}

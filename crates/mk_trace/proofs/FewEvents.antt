@@ -2,14 +2,16 @@
 use Rattle.std.proofs.{Common.Result, lemmas.List.{Splits.length-slice_split, Sums.count_by-le-length}}
 use Rattle.mk_trace.proofs.Vocabulary.{Contents, Event, HeapPages, IsOfSomeTraceText, LinesSoFar, Ok, Op, TraceEvent}
 use Rattle.mk_trace.proofs.Vocabulary.{TraceStop, contents_of, ends, events_from, header_line_of, length-append}
-use Rattle.mk_trace.proofs.Vocabulary.{lines_of, nat_tests, nothing_written, ops_of, read_behind, text_fault_at}
-use Rattle.mk_trace.proofs.Vocabulary.{trace_of_lines, type_fault_at, typed_event, with_event, with_trace_line}
+use Rattle.mk_trace.proofs.Vocabulary.{lines_of, nat_tests, nothing_written, ops_of, text_fault_at}
+use Rattle.mk_trace.proofs.Vocabulary.{trace_of_lines, typed_event, with_trace_line}
 use Rattle.mk_trace.proofs.{Vocabulary.{words_of_line, written_from}, ReadLines.{gone_on, passed_else, then_next}}
-use Rattle.mk_laws.proofs.Vocabulary.{Bool, List, ℕ, ap, arith, drop, if◌then◌else◌, length, nat_le, subst, sym, []}
-use Rattle.mk_laws.proofs.Vocabulary.{◌+◌, ◌==◌, ◌∷◌, ◌≡◌, ◌≤◌}
+use Rattle.mk_heap.proofs.Below.Laws.Vocabulary.{Bool, List, ℕ, ap, arith, drop, if◌then◌else◌, length, nat_le, subst}
+use Rattle.mk_heap.proofs.Below.Laws.Vocabulary.{sym, []}
+use Rattle.mk_heap.proofs.Below.Laws.Vocabulary.{◌++◌, ◌+◌, ◌==◌, ◌∷◌, ◌≡◌, ◌≤◌}
 use Rattle.mk_check.proofs.GrammarLemmas.{passed_then}
 use Rattle.mk_script.specs.Grammar.{without_empty_last}
-use Rattle.mk_trace.specs.{Grammar.{along, contents_from, words_of_slots}, declared.lines.Line.Line}
+use Rattle.mk_trace.specs.{Grammar.{along, contents_from, words_of_slots}, Lines.trace_line_of}
+use Rattle.mk_trace.specs.declared.lines.Line.{Line}
 
 -- before any event
 pub none_ended : (es : List Event) → es ≡ [] → ends es ≡ 0
@@ -38,7 +40,7 @@ line_adds : (before : LinesSoFar) (given : Line)
 line_adds before (Line.Slot slot) = omega arith
 line_adds before (Line.Event event) = let count = length-append before.events (event ∷ []) in omega (arith, count)
 
-event_adds : (before : List TraceEvent) (event : TraceEvent) → length (with_event before event) ≤ length before + 1
+event_adds : (before : List TraceEvent) (event : TraceEvent) → length (before ++ event ∷ []) ≤ length before + 1
 event_adds before event = let count = length-append before (event ∷ []) in omega (arith, count)
 
 read : (heap : HeapPages) (written : LinesSoFar) (trace : Contents) → contents_of heap written ≡ Ok trace
@@ -46,8 +48,9 @@ read : (heap : HeapPages) (written : LinesSoFar) (trace : Contents) → contents
 read heap written trace h =
     let some = passed_else (length written.slots == 0) _ _ trace h in
     let found = then_next (events_from written.slots (length written.slots + 2) written.events []) _ trace some.1 in
-    let count = along_grows type_fault_at (λ events line. typed_event written.slots line) with_event
-    length event_adds (length written.slots + 2) written.events [] found.value found.is in
+    let count = along_grows TraceStop.IllTyped (λ events line. typed_event written.slots line)
+    (λ events event. events ++ event ∷ []) length event_adds (length written.slots + 2) written.events [] found.value
+    found.is in
     let made = contents_from heap.pages heap.resident (words_of_slots written.slots) found.value in
     let is : made ≡ trace = cc in
     let few : length found.value ≤ length written.events = omega (arith, count) in
@@ -59,7 +62,7 @@ of_lines [] trace h = absurd cc
 of_lines (first ∷ lines) trace h =
     let header = gone_on (text_fault_at 1) (header_line_of (words_of_line first)) _ trace h in
     let written = then_next (written_from 2 lines nothing_written) _ trace header.behind in
-    let events = along_grows text_fault_at read_behind with_trace_line
+    let events = along_grows text_fault_at (λ before line. trace_line_of before (words_of_line line)) with_trace_line
     (λ (w : LinesSoFar). length w.events) line_adds 2 lines nothing_written written.value written.is in
     let count = read header.value written.value trace written.behind in
     omega (arith, events, count)

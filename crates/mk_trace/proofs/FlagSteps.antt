@@ -5,14 +5,19 @@ use Rattle.mk_trace.proofs.Vocabulary.{allocation_at, allocations_by, cell_freed
 use Rattle.mk_trace.proofs.Vocabulary.{freed_where_it_stands, granted, has_step, histories_keep_the_invariant}
 use Rattle.mk_trace.proofs.Vocabulary.{is_release, left, length-append, never_behind, never_granted, no_longer_fresh}
 use Rattle.mk_trace.proofs.Vocabulary.{placed_at, unfreed, world_behind}
-use Rattle.mk_laws.proofs.Vocabulary.{ap, arith, cases_eq, cases_lt, changed_at, false, freed_leaves, freed_released}
-use Rattle.mk_laws.proofs.Vocabulary.{fresh_leaves, get_or-set_other, get_or-set_same, get_or_past, if◌then◌else◌, inl}
-use Rattle.mk_laws.proofs.Vocabulary.{inr, is_some, length, length-map, length-set, map, no_allocation, none_freed}
-use Rattle.mk_laws.proofs.Vocabulary.{or_parts, refl, released_leaves, set_past, slice_index_or, subst, suc, sym, true}
-use Rattle.mk_laws.proofs.{Vocabulary.{with_freed, zero, [], ◌++◌, ◌<◌, ◌∙◌, ◌∷◌, ◌≡◌, ◌≤◌}, Images.AreTwins}
+use Rattle.mk_heap.proofs.Below.Laws.Vocabulary.{ap, arith, cases_eq, cases_lt, changed_at, false, freed_leaves}
+use Rattle.mk_heap.proofs.Below.Laws.Vocabulary.{freed_released}
+use Rattle.mk_heap.proofs.Below.Laws.Vocabulary.{fresh_leaves, get_or-set_other, get_or-set_same, get_or_past}
+use Rattle.mk_heap.proofs.Below.Laws.Vocabulary.{if◌then◌else◌, inl}
+use Rattle.mk_heap.proofs.Below.Laws.Vocabulary.{inr, is_some, length, length-map, length-set, map, no_allocation}
+use Rattle.mk_heap.proofs.Below.Laws.Vocabulary.{none_freed}
+use Rattle.mk_heap.proofs.Below.Laws.Vocabulary.{or_parts, refl, released_leaves, set_past, slice_index_or, subst, suc}
+use Rattle.mk_heap.proofs.Below.Laws.Vocabulary.{sym, true}
+use Rattle.mk_heap.proofs.Below.Laws.{Vocabulary.{with_freed, zero, [], ◌++◌, ◌<◌, ◌∙◌, ◌∷◌, ◌≡◌, ◌≤◌}, Images.AreTwins}
 use Rattle.mk_never.specs.Laws.{LeadsTo}
 use Rattle.mk_core.{proofs.ChangedAllocations.earlier_at, specs.History.left_from}
-use Rattle.mk_laws.proofs.Vocabulary.{Bool, LeavesPlaces, List, NeverAllocation as Allocation, None, Option, Some, ℕ}
+use Rattle.mk_heap.proofs.Below.Laws.Vocabulary.{Bool, LeavesPlaces, List, NeverAllocation as Allocation, None, Option}
+use Rattle.mk_heap.proofs.Below.Laws.Vocabulary.{Some, ℕ}
 
 -- What stays of allocations over a list of events: their places and types, that they are released, and, where nothing
 -- is released, that they are not.

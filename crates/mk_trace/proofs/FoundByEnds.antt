@@ -4,10 +4,11 @@ use Rattle.mk_trace.proofs.Vocabulary.{World, calls_append, decides_freed, ends,
 use Rattle.mk_trace.proofs.Vocabulary.{is_release, moves_phase, phase_of, sum_by-append, sum_by-cons, world_behind}
 use Rattle.mk_trace.proofs.{Vocabulary.⊎_elim, FlagSteps.{frees_by, frees_then, releases_by, releases_then}}
 use Rattle.mk_trace.proofs.{FlagSteps.{same_releases, step_later}, FreeCalls.{frees_decide, is_free_call}}
-use Rattle.mk_laws.proofs.Vocabulary.{Bool, List, ℕ, ap, arith, cases_Bool, cond, false, false_from_ne_true}
-use Rattle.mk_laws.proofs.Vocabulary.{if◌then◌else◌, length, list_any, list_any-append, or_parts, refl, subst, sym}
-use Rattle.mk_laws.proofs.Vocabulary.{true, true≢false, [], ◌++◌, ◌+◌, ◌||◌, ◌∙◌, ◌∷◌, ◌≡◌, ◌≤◌}
-use Rattle.mk_laws.proofs.CyclePhases.{phase_behind}
+use Rattle.mk_heap.proofs.Below.Laws.Vocabulary.{Bool, List, ℕ, ap, arith, cases_Bool, cond, false, false_from_ne_true}
+use Rattle.mk_heap.proofs.Below.Laws.Vocabulary.{if◌then◌else◌, length, list_any, list_any-append, or_parts, refl}
+use Rattle.mk_heap.proofs.Below.Laws.Vocabulary.{subst, sym}
+use Rattle.mk_heap.proofs.Below.Laws.Vocabulary.{true, true≢false, [], ◌++◌, ◌+◌, ◌||◌, ◌∙◌, ◌∷◌, ◌≡◌, ◌≤◌}
+use Rattle.mk_heap.proofs.Below.Laws.CyclePhases.{phase_behind}
 use Rattle.mk_core.specs.History.{calls_from, left_from}
 use Rattle.mk_trace.specs.Peaks.{found_by_ends_from}
 

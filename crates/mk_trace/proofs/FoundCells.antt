@@ -4,10 +4,11 @@ use Rattle.mk_trace.proofs.Vocabulary.{PlacedAllocation, Word, Words, cell_at, c
 use Rattle.mk_trace.proofs.Vocabulary.{header_at, histories_keep_the_invariant, is_freed, is_heap_address, left}
 use Rattle.mk_trace.{proofs.Vocabulary.{never_behind, option_map, placed_at, unfreed}, specs.Calls.{word_behind}}
 use Rattle.mk_trace.proofs.{FoundObjects.{PointsToCell, frees_nothing, points_to_cell}, EndsInLists.leaves_twice}
-use Rattle.mk_trace.proofs.LookedTables.{leaves_then}
-use Rattle.mk_laws.proofs.Vocabulary.{Bool, List, None, Option, Some, ℕ, ap, arith, false, get_or_past, has_bit}
-use Rattle.mk_laws.proofs.Vocabulary.{if◌then◌else◌, nat_le, no_bit, not, page_at_address, slice_index, sym, true, ◌%◌}
-use Rattle.mk_laws.proofs.{Vocabulary.{◌*◌, ◌+◌, ◌<◌, ◌∙◌, ◌≡◌, ◌≤◌}, KnownWorlds.known_world}
+use Rattle.mk_heap.proofs.Below.Laws.Vocabulary.{Bool, List, None, Option, Some, ℕ, ap, arith, false, get_or_past}
+use Rattle.mk_heap.proofs.Below.Laws.Vocabulary.{has_bit}
+use Rattle.mk_heap.proofs.Below.Laws.Vocabulary.{if◌then◌else◌, nat_le, no_bit, not, page_at_address, slice_index, sym}
+use Rattle.mk_heap.proofs.Below.Laws.Vocabulary.{true, ◌%◌}
+use Rattle.mk_heap.proofs.Below.Laws.{Vocabulary.{◌*◌, ◌+◌, ◌<◌, ◌∙◌, ◌≡◌, ◌≤◌}, KnownWorlds.known_world}
 use Rattle.mk_core.specs.Cells.{pointed_cell}
 
 -- looks, one after the other
@@ -17,22 +18,22 @@ pub looks_twice : {c : Config} {es fs gs : List Event} → HostOnlyLooks c es fs
 looks_twice {c} {es} {fs} {gs} one two = record {
   calls = two.calls ∙ one.calls;
   leaves = leaves_twice one.leaves two.leaves;
-  table = leaves_then one.table two.table;
+  words = two.words ∙ ap (λ (w : Words). record w { turn = (left c gs).now.words.turn }) one.words;
   most = λ measure. two.most measure ∙ one.most measure;
   exact = λ before. two.exact (one.exact before);
 }
 
 pub freed_looked : {c : Config} {es fs : List Event} → HostOnlyLooks c es fs → (cell : Cell)
     → is_freed (left c fs).now.words cell ≡ is_freed (left c es).now.words cell
-freed_looked looks cell = ap (λ (w : Words). is_freed w cell) looks.table.words
+freed_looked looks cell = ap (λ (w : Words). is_freed w cell) looks.words
 
 pub pointed_looked : {c : Config} {es fs : List Event} → HostOnlyLooks c es fs → (u : ℕ)
     → pointed_cell c.pages (left c fs).now.words.pages u ≡ pointed_cell c.pages (left c es).now.words.pages u
-pointed_looked {c} looks u = ap (λ (w : Words). pointed_cell c.pages w.pages u) looks.table.words
+pointed_looked {c} looks u = ap (λ (w : Words). pointed_cell c.pages w.pages u) looks.words
 
 pub header_looked : {c : Config} {es fs : List Event} → HostOnlyLooks c es fs → (p : ℕ)
     → header_at (left c fs).now.words p ≡ header_at (left c es).now.words p
-header_looked looks p = ap (λ (w : Words). header_at w p) looks.table.words
+header_looked looks p = ap (λ (w : Words). header_at w p) looks.words
 
 -- what an address points into
 

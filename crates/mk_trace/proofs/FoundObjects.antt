@@ -6,15 +6,18 @@ use Rattle.mk_trace.proofs.Vocabulary.{cell_of_allocation, cell_words, exists_pl
 use Rattle.mk_trace.proofs.Vocabulary.{histories_keep_the_invariant, is_freed, is_large, is_phase, kinds_of, left}
 use Rattle.mk_trace.proofs.Vocabulary.{never_behind, never_granted, phase_of, placed_at, reach_is_kept, storage_words}
 use Rattle.mk_trace.proofs.Vocabulary.{unfreed, ⊎_elim}
-use Rattle.mk_laws.proofs.Vocabulary.{Bool, IsFreedCell, IsQuarantined, List, Mirrors, None, Some, ℕ, ap, arith}
-use Rattle.mk_laws.proofs.Vocabulary.{bases_of, cases_Bool, cells_begin, eqb-true, false, false_from_ne_true}
-use Rattle.mk_laws.proofs.Vocabulary.{if◌then◌else◌, image_of, inl, inr, is_released_in, large_is_not_small, length}
-use Rattle.mk_laws.proofs.Vocabulary.{nat_le, not, object_placed, refl, slice_index, storage_holds, subst, sym, true}
-use Rattle.mk_laws.proofs.Vocabulary.{true≢false, typed_size, word_points, ◌+◌, ◌<◌, ◌∙◌, ◌≡◌, ◌≢◌}
+use Rattle.mk_heap.proofs.Below.Laws.Vocabulary.{Bool, IsFreedCell, IsQuarantined, List, Mirrors, None, Some, ℕ, ap}
+use Rattle.mk_heap.proofs.Below.Laws.Vocabulary.{arith}
+use Rattle.mk_heap.proofs.Below.Laws.Vocabulary.{bases_of, cases_Bool, cells_begin, eqb-true, false, false_from_ne_true}
+use Rattle.mk_heap.proofs.Below.Laws.Vocabulary.{if◌then◌else◌, image_of, inl, inr, is_released_in, large_is_not_small}
+use Rattle.mk_heap.proofs.Below.Laws.Vocabulary.{length}
+use Rattle.mk_heap.proofs.Below.Laws.Vocabulary.{nat_le, not, object_placed, refl, slice_index, storage_holds, subst}
+use Rattle.mk_heap.proofs.Below.Laws.Vocabulary.{sym, true}
+use Rattle.mk_heap.proofs.Below.Laws.Vocabulary.{true≢false, typed_size, word_points, ◌+◌, ◌<◌, ◌∙◌, ◌≡◌, ◌≢◌}
 use Rattle.mk_never.specs.{Laws.{LeadsTo, IsReachable.by_global}, Admitted.IsPlaceIn}
 use Rattle.mk_core.{proofs.Sizes.words_are_small, specs.Cells.pointed_cell}
-use Rattle.mk_laws.proofs.{InvariantHistories.allocations_stand, Settled.unreleased_are_apart}
-use Rattle.mk_laws.specs.Theorems.{StandsUsed}
+use Rattle.mk_heap.proofs.Below.Laws.{InvariantHistories.allocations_stand, Settled.unreleased_are_apart}
+use Rattle.mk_heap.specs.Below.Laws.Theorems.{StandsUsed}
 
 -- Freed bits between calls: those of the allocations that are freed and unreleased, and no others.
 

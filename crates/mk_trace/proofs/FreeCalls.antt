@@ -1,8 +1,9 @@
 -- What frees an object decides a Free.
 use Rattle.mk_trace.proofs.Vocabulary.{Answer, Cell, Config, Decided, Flight, Moment, Op, Seat, Stage, Step}
 use Rattle.mk_trace.proofs.Vocabulary.{call_decided, decides_freed, entry_of, flagged, flight_of}
-use Rattle.mk_laws.proofs.Vocabulary.{Bool, None, Option, ℕ, arith, false, if◌then◌else◌, is_free_at, is_some, list_any}
-use Rattle.mk_laws.proofs.Vocabulary.{progress_freed, true, ◌≡◌}
+use Rattle.mk_heap.proofs.Below.Laws.Vocabulary.{Bool, None, Option, ℕ, arith, false, if◌then◌else◌, is_free_at}
+use Rattle.mk_heap.proofs.Below.Laws.Vocabulary.{is_some, list_any}
+use Rattle.mk_heap.proofs.Below.Laws.Vocabulary.{progress_freed, true, ◌≡◌}
 
 abbrev pub is_free : Op → Bool
 is_free (Op.Free p) = true

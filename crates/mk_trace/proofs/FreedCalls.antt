@@ -13,9 +13,11 @@ use Rattle.mk_trace.proofs.FreedWords.{large_weight, quarantined_is, reserved_is
 use Rattle.mk_trace.proofs.JoinedCalls.{InTurn, Joined, acts, before, before_lacks, beside_leaves, called, decided}
 use Rattle.mk_trace.proofs.JoinedCalls.{ends_told, exact, held_at_end, in_parts, last, whole}
 use Rattle.mk_trace.proofs.{FoundByEnds.none_freed_from, OneCaller.callers_at_home, OwnPieces.within_is}
-use Rattle.mk_laws.proofs.Vocabulary.{Bool, List, Some, ℕ, ap, append_assoc, arith, cases_Bool, earlier_part_is_history}
-use Rattle.mk_laws.proofs.Vocabulary.{false, inl, inr, left_in_parts, length, never_in_parts, refl, subst, sym, true}
-use Rattle.mk_laws.proofs.Vocabulary.{[], ◌*◌, ◌++◌, ◌+◌, ◌<◌, ◌∙◌, ◌∷◌, ◌≡◌}
+use Rattle.mk_heap.proofs.Below.Laws.Vocabulary.{Bool, List, Some, ℕ, ap, append_assoc, arith, cases_Bool}
+use Rattle.mk_heap.proofs.Below.Laws.Vocabulary.{earlier_part_is_history}
+use Rattle.mk_heap.proofs.Below.Laws.Vocabulary.{false, inl, inr, left_in_parts, length, never_in_parts, refl, subst}
+use Rattle.mk_heap.proofs.Below.Laws.Vocabulary.{sym, true}
+use Rattle.mk_heap.proofs.Below.Laws.Vocabulary.{[], ◌*◌, ◌++◌, ◌+◌, ◌<◌, ◌∙◌, ◌∷◌, ◌≡◌}
 use Rattle.mk_never.specs.Laws.IsReachable.{by_register}
 use Rattle.mk_heap.specs.Below.Objects.TurnCycles.{FreeIsExact, FreesFirst, IsDueIn}
 use Rattle.mk_trace.specs.{Peaks.greatest_from, Calls.DoesCall}

@@ -10,10 +10,12 @@ use Rattle.mk_trace.proofs.FreeCalls.{flagged_free, freeing_is, frees_decide, is
 use Rattle.mk_trace.{proofs.FreedWords.{freed_adds, part, sum_falls, sum_rises, weighed}, specs.Peaks.{greatest_from}}
 use Rattle.mk_trace.proofs.PeakParts.{falls_by, from-append, last_below, rises_by}
 use Rattle.mk_trace.proofs.FoundByEnds.{FreesNoneFrom, free_parts}
-use Rattle.mk_laws.proofs.Vocabulary.{Bool, List, None, Option, Some, ℕ, ap, append-nil, append_assoc, arith}
-use Rattle.mk_laws.proofs.Vocabulary.{earlier_part_is_history, false, if◌then◌else◌, inl, inr, left_in_parts, list_any}
-use Rattle.mk_laws.proofs.Vocabulary.{never_in_parts, not, refl, subst, sym, true, true≢false, [], ◌&&◌, ◌*◌, ◌++◌, ◌+◌}
-use Rattle.mk_laws.proofs.Vocabulary.{◌||◌, ◌∙◌, ◌∷◌, ◌≡◌, ◌≤◌, ◌⊎◌}
+use Rattle.mk_heap.proofs.Below.Laws.Vocabulary.{Bool, List, None, Option, Some, ℕ, ap, append-nil, append_assoc, arith}
+use Rattle.mk_heap.proofs.Below.Laws.Vocabulary.{earlier_part_is_history, false, if◌then◌else◌, inl, inr, left_in_parts}
+use Rattle.mk_heap.proofs.Below.Laws.Vocabulary.{list_any}
+use Rattle.mk_heap.proofs.Below.Laws.Vocabulary.{never_in_parts, not, refl, subst, sym, true, true≢false, [], ◌&&◌, ◌*◌}
+use Rattle.mk_heap.proofs.Below.Laws.Vocabulary.{◌++◌, ◌+◌}
+use Rattle.mk_heap.proofs.Below.Laws.Vocabulary.{◌||◌, ◌∙◌, ◌∷◌, ◌≡◌, ◌≤◌, ◌⊎◌}
 use Rattle.mk_never.specs.Laws.{IsReachable, IsReachable.by_register}
 use Rattle.mk_core.specs.History.{calls_from, left_from}
 

@@ -3,9 +3,11 @@ use Rattle.std.proofs.Common.{get_or-drop}
 use Rattle.mk_trace.proofs.Vocabulary.{A, C, Config, Event, F, IsHistory, K, NeverState, Null, Op, TraceEvent, W}
 use Rattle.mk_trace.proofs.Vocabulary.{after_calls, calls_of_caller, drop_more, global_at, histories_keep_the_invariant}
 use Rattle.mk_trace.proofs.Vocabulary.{length-drop, never_behind, ops_of, register_at}
-use Rattle.mk_laws.proofs.Vocabulary.{Bool, List, ℕ, ap, arith, drop, false, get_or, get_or-set_same, length, list_any}
-use Rattle.mk_laws.proofs.Vocabulary.{list_any-append, or_parts, refl, sym, take, [], ◌*◌, ◌++◌, ◌+◌, ◌<◌, ◌∙◌, ◌∷◌}
-use Rattle.mk_laws.proofs.Vocabulary.{◌≡◌}
+use Rattle.mk_heap.proofs.Below.Laws.Vocabulary.{Bool, List, ℕ, ap, arith, drop, false, get_or, get_or-set_same, length}
+use Rattle.mk_heap.proofs.Below.Laws.Vocabulary.{list_any}
+use Rattle.mk_heap.proofs.Below.Laws.Vocabulary.{list_any-append, or_parts, refl, sym, take, [], ◌*◌, ◌++◌, ◌+◌, ◌<◌}
+use Rattle.mk_heap.proofs.Below.Laws.Vocabulary.{◌∙◌, ◌∷◌}
+use Rattle.mk_heap.proofs.Below.Laws.Vocabulary.{◌≡◌}
 use Rattle.mk_trace.proofs.{FreeCalls.is_free, LaterOps.{AreCalled, either_way}, OneCaller.never_behind_all}
 use Rattle.mk_trace.specs.{Ledgers.{FreesItsSlot, FreesSlot}, Grammar.slot_of}
 

@@ -8,9 +8,10 @@ use Rattle.mk_trace.proofs.Vocabulary.{never_granted, placed_at, quarantined_wor
 use Rattle.mk_trace.proofs.Vocabulary.{stands_in, sum_by, sum_by-append, sum_by-cons, unfreed, with_released}
 use Rattle.mk_trace.proofs.{Vocabulary.{words_of_some, world_behind}, FlagSteps.{SameReleased, as_many_behind}}
 use Rattle.mk_trace.proofs.FlagSteps.{is_freed_behind, is_freed_there, others_kept, twins, was_unfreed}
-use Rattle.mk_laws.proofs.Vocabulary.{Bool, List, None, Option, Some, ℕ, arith, cases_lt, false, get_or_past}
-use Rattle.mk_laws.proofs.Vocabulary.{if◌then◌else◌, length, map, not, refl, suc, sym, true, words_made, zero, [], ◌&&◌}
-use Rattle.mk_laws.proofs.{Vocabulary.{◌+◌, ◌||◌, ◌∙◌, ◌∷◌, ◌≡◌, ◌≢◌, ◌≤◌}, FreshWords.sum_filtered}
+use Rattle.mk_heap.proofs.Below.Laws.Vocabulary.{Bool, List, None, Option, Some, ℕ, arith, cases_lt, false, get_or_past}
+use Rattle.mk_heap.proofs.Below.Laws.Vocabulary.{if◌then◌else◌, length, map, not, refl, suc, sym, true, words_made}
+use Rattle.mk_heap.proofs.Below.Laws.Vocabulary.{zero, [], ◌&&◌}
+use Rattle.mk_heap.proofs.Below.Laws.{Vocabulary.{◌+◌, ◌||◌, ◌∙◌, ◌∷◌, ◌≡◌, ◌≢◌, ◌≤◌}, FreshWords.sum_filtered}
 use Rattle.mk_never.specs.Laws.{IsReachable}
 use Rattle.mk_core.specs.NewPlaces.{object_of}
 use Rattle.mk_heap.proofs.Below.Objects.HeldFreed.{held_part, held_sum}

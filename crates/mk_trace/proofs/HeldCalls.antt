@@ -3,9 +3,11 @@ use Rattle.mk_trace.proofs.Vocabulary.{Answer, AreOfOthers, Caller, Config, Cont
 use Rattle.mk_trace.proofs.Vocabulary.{IsHistory, Moment, Op, PassState, Seat, Stage, Step, WordsState, World}
 use Rattle.mk_trace.proofs.Vocabulary.{call_decided, config_of, entry_of, first_host, flagged, has_step, is_grant}
 use Rattle.mk_trace.proofs.Vocabulary.{most_held, pass_for, peaks_of, without_seat, world_behind}
-use Rattle.mk_laws.proofs.Vocabulary.{Bool, List, MeetsAll, Some, ℕ, ap, arith, comes_next, enabled_meets, false}
-use Rattle.mk_laws.proofs.Vocabulary.{false_from_ne_true, list_any, list_any-append, or_from, or_parts, refl, subst}
-use Rattle.mk_laws.proofs.Vocabulary.{sym, true, true≢false, [], ◌&&◌, ◌<◌, ◌∙◌, ◌∷◌, ◌≡◌}
+use Rattle.mk_heap.proofs.Below.Laws.Vocabulary.{Bool, List, MeetsAll, Some, ℕ, ap, arith, comes_next, enabled_meets}
+use Rattle.mk_heap.proofs.Below.Laws.Vocabulary.{false}
+use Rattle.mk_heap.proofs.Below.Laws.Vocabulary.{false_from_ne_true, list_any, list_any-append, or_from, or_parts, refl}
+use Rattle.mk_heap.proofs.Below.Laws.Vocabulary.{subst}
+use Rattle.mk_heap.proofs.Below.Laws.Vocabulary.{sym, true, true≢false, [], ◌&&◌, ◌<◌, ◌∙◌, ◌∷◌, ◌≡◌}
 use Rattle.mk_core.specs.History.{AreEnabledFrom, calls_from}
 use Rattle.mk_heap.specs.{Hosts.with_caller_made, Below.Words.States.all_seats}
 use Rattle.mk_heap.proofs.Below.Words.Seats.{has_all}

@@ -2,9 +2,10 @@
 use Rattle.mk_trace.proofs.Vocabulary.{AreOfOthers, Config, Event, Has, HasAll, IsHistory, Op, PassState, Step, Word}
 use Rattle.mk_trace.proofs.Vocabulary.{event_of, has_step, lacks_append, lacks_one, left, seen_made}
 use Rattle.mk_trace.proofs.OwnPieces.{AreMine, are_mine, mine_parts, none_of_others, others_lack, waiting_lacks}
-use Rattle.mk_laws.proofs.Vocabulary.{Bool, List, None, Option, ℕ, ap, arith, earlier_part_is_history, enabled_in_parts}
-use Rattle.mk_laws.proofs.Vocabulary.{false, refl, subst, sym, [], ◌++◌, ◌∙◌, ◌∷◌, ◌≡◌}
-use Rattle.mk_laws.proofs.{Tallies.{exact_more, tallies_tell}, TallySteps.others_count_nothing}
+use Rattle.mk_heap.proofs.Below.Laws.Vocabulary.{Bool, List, None, Option, ℕ, ap, arith, earlier_part_is_history}
+use Rattle.mk_heap.proofs.Below.Laws.Vocabulary.{enabled_in_parts}
+use Rattle.mk_heap.proofs.Below.Laws.Vocabulary.{false, refl, subst, sym, [], ◌++◌, ◌∙◌, ◌∷◌, ◌≡◌}
+use Rattle.mk_heap.proofs.Below.Laws.{Tallies.{exact_more, tallies_tell}, TallySteps.others_count_nothing}
 use Rattle.mk_core.specs.Counts.{TalliesAreExact}
 use Rattle.mk_heap.proofs.{Below.Objects.Parts.seen_then, MovedHosts.{MovesOn, moves_more, turn_moves}}
 use Rattle.mk_heap.proofs.Below.Words.{Made.made, Seats.others_nobody}

@@ -13,10 +13,12 @@ use Rattle.mk_trace.proofs.{HeldCalls.{is_new, others_grant_none}, OwnPieces.{Ar
 use Rattle.mk_trace.proofs.OwnPieces.{before_turn, before_turn_lacks, giving, has_mine, is_mine, mine_parts}
 use Rattle.mk_trace.proofs.{OwnPieces.{none_of_others, turn_seen, within_is}, FreedMost.one_of_three}
 use Rattle.mk_trace.proofs.{OneCaller.{calls_are_own, none_called}, PeakParts.most_then}
-use Rattle.mk_laws.proofs.Vocabulary.{Bool, List, Option, Some, ℕ, and_parts, ap, append-nil, append_assoc, arith}
-use Rattle.mk_laws.proofs.Vocabulary.{cases_Bool, earlier_part_is_history, enabled_in_parts, false, inl, inr}
-use Rattle.mk_laws.proofs.Vocabulary.{left_append, left_in_parts, list_any, or_from, or_parts, refl, subst, sym, true}
-use Rattle.mk_laws.proofs.Vocabulary.{[], ◌&&◌, ◌++◌, ◌||◌, ◌∙◌, ◌∷◌, ◌≡◌}
+use Rattle.mk_heap.proofs.Below.Laws.Vocabulary.{Bool, List, Option, Some, ℕ, and_parts, ap, append-nil, append_assoc}
+use Rattle.mk_heap.proofs.Below.Laws.Vocabulary.{arith}
+use Rattle.mk_heap.proofs.Below.Laws.Vocabulary.{cases_Bool, earlier_part_is_history, enabled_in_parts, false, inl, inr}
+use Rattle.mk_heap.proofs.Below.Laws.Vocabulary.{left_append, left_in_parts, list_any, or_from, or_parts, refl, subst}
+use Rattle.mk_heap.proofs.Below.Laws.Vocabulary.{sym, true}
+use Rattle.mk_heap.proofs.Below.Laws.Vocabulary.{[], ◌&&◌, ◌++◌, ◌||◌, ◌∙◌, ◌∷◌, ◌≡◌}
 use Rattle.mk_core.proofs.HistoryParts.{calls_in_parts}
 use Rattle.mk_core.specs.History.{own_from, AreEnabledFrom, calls_from, left_from}
 use Rattle.mk_heap.proofs.Below.Objects.GrantParts.{LastIn, last_before, last_then}

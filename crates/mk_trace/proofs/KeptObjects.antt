@@ -8,11 +8,16 @@ use Rattle.mk_trace.proofs.Vocabulary.{one_if, option_map, phase_of, placed_at, 
 use Rattle.mk_trace.proofs.{FoundObjects.{bit_tells_released, cell_by}, NumberLists.{equal_is, filters_agree}}
 use Rattle.mk_trace.proofs.NumberLists.{stands_passes, those_filtered, times_more, unequal_is}
 use Rattle.mk_trace.{proofs.{CountedAges.counted_more, FlagSteps.none_past}, specs.Ledgers.{FreesFlag}}
-use Rattle.mk_laws.proofs.Vocabulary.{Bool, List, None, Option, Some, ℕ, and_from, and_parts, ap, append-nil, arith}
-use Rattle.mk_laws.proofs.Vocabulary.{cases_lt, false, false_from_ne_true, get_or_past, if◌then◌else◌, length}
-use Rattle.mk_laws.proofs.Vocabulary.{list_any-append, map, map-append, not, not-true, or_parts, refl, sym, true}
-use Rattle.mk_laws.proofs.Vocabulary.{true≢false, [], ◌&&◌, ◌++◌, ◌+◌, ◌<◌, ◌==◌, ◌||◌, ◌∙◌, ◌∷◌, ◌≡◌, ◌≢◌, ◌≤◌}
-use Rattle.mk_trace.specs.Ledgers.{AreQuarantinedObjects, aged_object, is_found_gone, is_gone, one_or_none}
+use Rattle.mk_heap.proofs.Below.Laws.Vocabulary.{Bool, List, None, Option, Some, ℕ, and_from, and_parts, ap, append-nil}
+use Rattle.mk_heap.proofs.Below.Laws.Vocabulary.{arith}
+use Rattle.mk_heap.proofs.Below.Laws.Vocabulary.{cases_lt, false, false_from_ne_true, get_or_past, if◌then◌else◌}
+use Rattle.mk_heap.proofs.Below.Laws.Vocabulary.{length}
+use Rattle.mk_heap.proofs.Below.Laws.Vocabulary.{list_any-append, map, map-append, not, not-true, or_parts, refl, sym}
+use Rattle.mk_heap.proofs.Below.Laws.Vocabulary.{true}
+use Rattle.mk_heap.proofs.Below.Laws.Vocabulary.{true≢false, [], ◌&&◌, ◌++◌, ◌+◌, ◌<◌, ◌==◌, ◌||◌, ◌∙◌, ◌∷◌, ◌≡◌, ◌≢◌}
+use Rattle.mk_heap.proofs.Below.Laws.Vocabulary.{◌≤◌}
+use Rattle.mk_trace.proofs.Vocabulary.{AreQuarantinedObjects, option_to_list}
+use Rattle.mk_trace.specs.Ledgers.{aged_object, is_found_gone, is_gone}
 
 -- lists
 
@@ -138,11 +143,11 @@ module _ (c : Config) (es fs : List Event) (x : Option ℕ)
         was = grind (arith, xs, freed)
 
     noted_by : (y : Option ℕ) → x ≡ y
-        → AreObjectsOf c found xs was_kept (objects ++ one_or_none (option_map (freed_object_of c xs) y))
+        → AreObjectsOf c found xs was_kept (objects ++ option_to_list (option_map (freed_object_of c xs) y))
     noted_by None is = grind (arith, xs, was_kept, append-nil, those_alike)
     noted_by (Some k) is = one_noted k is
 
-    pub noted : AreObjectsOf c found xs was_kept (objects ++ one_or_none (option_map (freed_object_of c xs) x))
+    pub noted : AreObjectsOf c found xs was_kept (objects ++ option_to_list (option_map (freed_object_of c xs) x))
     noted = noted_by x refl
 
   -- and after it.

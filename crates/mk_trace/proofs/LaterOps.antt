@@ -5,9 +5,11 @@ use Rattle.mk_trace.proofs.Vocabulary.{Answer, AreAdmitted, Calls, Config, Event
 use Rattle.mk_trace.proofs.Vocabulary.{calls_of_caller, drop_more, flagged, is_refusal, length-append, length-drop}
 use Rattle.mk_trace.proofs.Vocabulary.{never_behind, one_if, ops_of, refused_events, take-append-drop, take_all}
 use Rattle.mk_trace.proofs.Vocabulary.{take_more}
-use Rattle.mk_laws.proofs.Vocabulary.{Bool, List, ℕ, and_parts, ap, append-nil, append_assoc, arith, drop, false}
-use Rattle.mk_laws.proofs.Vocabulary.{get_or, if◌then◌else◌, length, list_any, subst, suc, sym, take, true, zero, []}
-use Rattle.mk_laws.proofs.Vocabulary.{◌++◌, ◌+◌, ◌<◌, ◌||◌, ◌∙◌, ◌∷◌, ◌≡◌, ◌≤◌}
+use Rattle.mk_heap.proofs.Below.Laws.Vocabulary.{Bool, List, ℕ, and_parts, ap, append-nil, append_assoc, arith, drop}
+use Rattle.mk_heap.proofs.Below.Laws.Vocabulary.{false}
+use Rattle.mk_heap.proofs.Below.Laws.Vocabulary.{get_or, if◌then◌else◌, length, list_any, subst, suc, sym, take, true}
+use Rattle.mk_heap.proofs.Below.Laws.Vocabulary.{zero, []}
+use Rattle.mk_heap.proofs.Below.Laws.Vocabulary.{◌++◌, ◌+◌, ◌<◌, ◌||◌, ◌∙◌, ◌∷◌, ◌≡◌, ◌≤◌}
 use Rattle.mk_core.specs.Counts.{is_full_answer}
 use Rattle.mk_trace.proofs.OneCaller.{CallsAll, begins_alike, calls_first, calls_more, full_as_told, next_may_come}
 use Rattle.mk_trace.specs.{Calls.{MayCome, PlaysEvent}, Playing.ops_played}

@@ -6,10 +6,11 @@ use Rattle.mk_trace.proofs.Vocabulary.{SettlesFreed, config_of, ends, freed_obje
 use Rattle.mk_trace.proofs.Vocabulary.{is_under_turn, left, most_held, never_behind, number_freed, objects_kept}
 use Rattle.mk_trace.proofs.{Vocabulary.{option_map, peaks_of, quarantined_words, reserved_words}, KeptPeaks.keeps_on}
 use Rattle.mk_trace.proofs.{PeakParts.last_below, ReleasedAreFreed.ages_counted}
-use Rattle.mk_laws.proofs.Vocabulary.{List, Option, ℕ, ap, arith, false, refl, subst, sym, [], ◌+◌, ◌<◌, ◌∙◌, ◌≡◌, ◌≤◌}
-use Rattle.mk_laws.proofs.Vocabulary.{◌⊎◌}
+use Rattle.mk_heap.proofs.Below.Laws.Vocabulary.{List, Option, ℕ, ap, arith, false, refl, subst, sym, [], ◌+◌, ◌<◌, ◌∙◌}
+use Rattle.mk_heap.proofs.Below.Laws.Vocabulary.{◌≡◌, ◌≤◌}
+use Rattle.mk_heap.proofs.Below.Laws.Vocabulary.{◌⊎◌}
 use Rattle.mk_core.specs.{Allocations.unreleased_storage, History.left_from}
-use Rattle.mk_trace.specs.{Peaks.{HistoryPeaks, found_by_ends, found_by_ends_from, greatest_from}, Ledgers.Notes}
+use Rattle.mk_trace.specs.{Peaks.{found_by_ends, found_by_ends_from, greatest_from}, Ledgers.Notes}
 
 -- The ledger before any event, and what it comes to at the end.
 
@@ -38,10 +39,6 @@ pub ages_of : (trace : Contents) (c : Config) (es : List Event) {fs : List Event
 ages_of trace c es {pairs} same config history h =
     ages_counted history
     (rw (← same) at (rw config at h))
-
-pub peaks_by : (p is : HistoryPeaks) → p.held ≡ is.held → p.quarantined ≡ is.quarantined → p.reserved ≡ is.reserved
-    → p.cycles ≡ is.cycles → p.ages ≡ is.ages → p ≡ is
-peaks_by p is held quarantined reserved cycles ages = grind arith
 
 -- What the ledger keeps over a call, with the looks before it and after it.
 

@@ -1,8 +1,14 @@
 -- Looks of the turn's holder leave the table as it is, but for the turn word, and the allocations.
 use Rattle.mk_trace.proofs.Vocabulary.{Config, Event, PlacedAllocation, Seat, Step, Word, Words, World, has_step}
-use Rattle.mk_trace.{proofs.Vocabulary.{world_behind}, specs.{Calls.LeavesTable, Peaks.greatest_from}}
-use Rattle.mk_laws.proofs.Vocabulary.{Bool, List, ℕ, ap, arith, false, or_parts, refl, true, [], ◌∙◌, ◌∷◌, ◌≡◌}
+use Rattle.mk_trace.{proofs.Vocabulary.{world_behind}, specs.Peaks.greatest_from}
+use Rattle.mk_heap.proofs.Below.Laws.Vocabulary.{Bool, List, ℕ, ap, arith, false, or_parts, refl, true, [], ◌∙◌, ◌∷◌}
+use Rattle.mk_heap.proofs.Below.Laws.Vocabulary.{◌≡◌}
 use Rattle.mk_core.specs.{History.left_from, Words.named_word}
+
+-- All words but the turn word, and the allocations, are as they were.
+pub record LeavesTable (w v : World) : Type 0 where
+  pub allocations : v.allocations ≡ w.allocations
+  pub words : v.now.words ≡ record w.now.words { turn = v.now.words.turn }
 
 -- no step of one who looks at words
 abbrev pub is_no_look : Step → Bool

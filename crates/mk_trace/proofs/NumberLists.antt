@@ -3,9 +3,11 @@ use Rattle.std.proofs.lemmas.List.Sums.{sum_by-set}
 use Rattle.mk_trace.proofs.Vocabulary.{AreThose, PlacedAllocation, and-false, exists_placed, filter, is_quarantined}
 use Rattle.mk_trace.proofs.Vocabulary.{nat_tests, never_granted, one_if, placed_at, sum_by, sum_by-cons, times}
 use Rattle.mk_trace.proofs.FreedWords.{part, sum_alike, weighed}
-use Rattle.mk_laws.proofs.Vocabulary.{Bool, List, ℕ, and_parts, ap, arith, eq-eqb, eqb-true, false, false_from_ne_true}
-use Rattle.mk_laws.proofs.Vocabulary.{get_or-set_other, get_or-set_same, if◌then◌else◌, length, not-true, refl}
-use Rattle.mk_laws.proofs.Vocabulary.{slice_set, suc, true, [], ◌&&◌, ◌++◌, ◌+◌, ◌<◌, ◌==◌, ◌∷◌, ◌≡◌, ◌≤◌}
+use Rattle.mk_heap.proofs.Below.Laws.Vocabulary.{Bool, List, ℕ, and_parts, ap, arith, eq-eqb, eqb-true, false}
+use Rattle.mk_heap.proofs.Below.Laws.Vocabulary.{false_from_ne_true}
+use Rattle.mk_heap.proofs.Below.Laws.Vocabulary.{get_or-set_other, get_or-set_same, if◌then◌else◌, length, not-true}
+use Rattle.mk_heap.proofs.Below.Laws.Vocabulary.{refl}
+use Rattle.mk_heap.proofs.Below.Laws.Vocabulary.{slice_set, suc, true, [], ◌&&◌, ◌++◌, ◌+◌, ◌<◌, ◌==◌, ◌∷◌, ◌≡◌, ◌≤◌}
 
 pub equal_is : (i : ℕ) → (i == i) ≡ true
 equal_is i = eq-eqb i i refl

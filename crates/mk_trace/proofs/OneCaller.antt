@@ -4,10 +4,12 @@ use Rattle.mk_trace.proofs.Vocabulary.{Event, Grows, Has, HasAll, HostState, IsA
 use Rattle.mk_trace.proofs.Vocabulary.{PassState, Seat, WordsState, after_calls, answered, asked, begins_full, calls}
 use Rattle.mk_trace.proofs.Vocabulary.{calls_of_caller, first_host, flagged, has_first, is_refusal, never_behind}
 use Rattle.mk_trace.proofs.{Vocabulary.{pass_for, without_seat}, OwnPieces.all_again}
-use Rattle.mk_laws.proofs.Vocabulary.{Bool, List, ℕ, ap, append_assoc, arith, eq-eqb, false, if◌then◌else◌, length}
-use Rattle.mk_laws.proofs.Vocabulary.{length-map, list_any, list_any-append, map-append, refl, subst, sym, true, []}
-use Rattle.mk_laws.proofs.Vocabulary.{◌++◌, ◌<◌}
-use Rattle.mk_laws.proofs.Vocabulary.{◌==◌, ◌||◌, ◌∙◌, ◌∷◌, ◌≡◌, ◌≤◌}
+use Rattle.mk_heap.proofs.Below.Laws.Vocabulary.{Bool, List, ℕ, ap, append_assoc, arith, eq-eqb, false, if◌then◌else◌}
+use Rattle.mk_heap.proofs.Below.Laws.Vocabulary.{length}
+use Rattle.mk_heap.proofs.Below.Laws.Vocabulary.{length-map, list_any, list_any-append, map-append, refl, subst, sym}
+use Rattle.mk_heap.proofs.Below.Laws.Vocabulary.{true, []}
+use Rattle.mk_heap.proofs.Below.Laws.Vocabulary.{◌++◌, ◌<◌}
+use Rattle.mk_heap.proofs.Below.Laws.Vocabulary.{◌==◌, ◌||◌, ◌∙◌, ◌∷◌, ◌≡◌, ◌≤◌}
 use Rattle.mk_never.proofs.{Later.op_stays, Parts.{admitted_split, after_append}}
 use Rattle.mk_never.specs.{Admitted.IsCaller, NeverHeap.after_op}
 use Rattle.mk_core.specs.Counts.{is_full_answer}

@@ -1,8 +1,9 @@
 -- What a pass may have seen since, and what is seen of a call under the turn.
 use Rattle.std.{proofs.{lemmas.List.append_cancel_right, lemmas.List.Folds.list_all-append}, specs.List.{list_all}}
-use Rattle.mk_laws.proofs.Vocabulary.{Bool, List, Option, Some, and_from, and_parts, ap, append_assoc, arith}
-use Rattle.mk_laws.proofs.Vocabulary.{cases_Bool, enabled_meets, false, is_one_of, not, not-true, or_cases, or_from}
-use Rattle.mk_laws.proofs.Vocabulary.{refl, subst, sym, true, true≢false, [], ◌&&◌, ◌++◌, ◌∙◌, ◌∷◌, ◌≡◌}
+use Rattle.mk_heap.proofs.Below.Laws.Vocabulary.{Bool, List, Option, Some, and_from, and_parts, ap, append_assoc, arith}
+use Rattle.mk_heap.proofs.Below.Laws.Vocabulary.{cases_Bool, enabled_meets, false, is_one_of, not, not-true, or_cases}
+use Rattle.mk_heap.proofs.Below.Laws.Vocabulary.{or_from}
+use Rattle.mk_heap.proofs.Below.Laws.Vocabulary.{refl, subst, sym, true, true≢false, [], ◌&&◌, ◌++◌, ◌∙◌, ◌∷◌, ◌≡◌}
 use Rattle.mk_trace.proofs.Vocabulary.{Answer, Caller, Config, Event, Has, HasAll, Op, PassState, Seat, Step, World}
 use Rattle.mk_trace.proofs.Vocabulary.{event_of, has_first, has_step, is_same_seat, lacks_append, lacks_one}
 use Rattle.mk_trace.proofs.Vocabulary.{seat_exists, seen_made, without_seat, world_behind, ⊎_elim}

@@ -1,14 +1,15 @@
 -- The peaks bound what quarantine costs.
 use Rattle.mk_trace.proofs.Vocabulary.{Config, Event, IsHistory, PlacedAllocation, held_by_allocations, left, peaks_of}
 use Rattle.mk_trace.proofs.{Vocabulary.{quarantined_words, reserved_words}, PeakParts.is_greatest}
-use Rattle.mk_laws.proofs.Vocabulary.{Bool, List, ℕ, arith, earlier_part_is_history, false, if◌then◌else◌, not, refl}
-use Rattle.mk_laws.proofs.Vocabulary.{subst, ◌&&◌, ◌++◌, ◌+◌, ◌≡◌, ◌≤◌}
+use Rattle.mk_heap.proofs.Below.Laws.Vocabulary.{Bool, List, ℕ, arith, earlier_part_is_history, false, if◌then◌else◌}
+use Rattle.mk_heap.proofs.Below.Laws.Vocabulary.{not, refl}
+use Rattle.mk_heap.proofs.Below.Laws.Vocabulary.{subst, ◌&&◌, ◌*◌, ◌++◌, ◌+◌, ◌≡◌, ◌≤◌}
 use Rattle.mk_heap.proofs.Below.Objects.CountedWords.{filtered_in_parts}
 use Rattle.mk_heap.proofs.Below.Objects.LittleHeld.{held_is_little_where_free}
 use Rattle.mk_heap.proofs.Below.Objects.Quarters.{quarantined_is_fresh_or_kept}
-use Rattle.mk_heap.specs.Below.Objects.Bounds.{QuarantineIsBounded, held_after}
+use Rattle.mk_heap.specs.Below.Objects.Bounds.{QuarantineIsBounded, fresh_after, held_after}
 use Rattle.mk_heap.specs.Below.Objects.Bounds.{quarantined_mapped}
-use Rattle.mk_trace.specs.Peaks.{BoundsMeetPeaks, FreshIsQuarterOfPeak}
+use Rattle.mk_trace.specs.Peaks.{PeaksBoundQuarantine}
 
 -- What is quarantined is reserved, or mapped; and what is mapped is fresh, or was freed before the last `begin`.
 
@@ -29,8 +30,9 @@ module _ {c : Config} {es : List Event} (front more : List Event) (h : IsHistory
       let above = (is_greatest c (held_by_allocations c) es).above front more is in
       omega (arith, above, held_is_little_where_free c front first free, h.within_limits.pages.1)
 
-  fresh_below_peak : FreshIsQuarterOfPeak (peaks_of c es) c front
+  fresh_below_peak : 4 * fresh_after c front ≤ (peaks_of c es).held
   fresh_below_peak = omega (arith, bounded.of_held refl front more is free, held_below_peak)
 
-pub bounds_meet_peaks : BoundsMeetPeaks
+pub bounds_meet_peaks : (c : Config) (es : List Event) → IsHistory c es → QuarantineIsBounded false c es
+    → PeaksBoundQuarantine c es (peaks_of c es)
 bounds_meet_peaks c es h bounded = grind (arith, quarantined_is_fresh_or_kept, fresh_below_peak, quarantined_in_parts)

@@ -1,8 +1,9 @@
 -- The greatest measure over a history: over its beginnings, and in two parts.
 use Rattle.mk_trace.proofs.Vocabulary.{Config, Event, PlacedAllocation, Step, World, first_world, greatest, has_step}
 use Rattle.mk_trace.proofs.Vocabulary.{is_grant, left, lets_go, max, nat_tests, world_behind, ⊎_elim}
-use Rattle.mk_laws.proofs.Vocabulary.{Bool, List, ℕ, ap, arith, cases_Bool, false, left_in_parts, nat_le, or_parts}
-use Rattle.mk_laws.proofs.Vocabulary.{refl, subst, sym, true, [], ◌++◌, ◌∙◌, ◌∷◌, ◌≡◌, ◌≤◌}
+use Rattle.mk_heap.proofs.Below.Laws.Vocabulary.{Bool, List, ℕ, ap, arith, cases_Bool, false, left_in_parts, nat_le}
+use Rattle.mk_heap.proofs.Below.Laws.Vocabulary.{or_parts}
+use Rattle.mk_heap.proofs.Below.Laws.Vocabulary.{refl, subst, sym, true, [], ◌++◌, ◌∙◌, ◌∷◌, ◌≡◌, ◌≤◌}
 use Rattle.mk_core.specs.History.{left_from}
 use Rattle.mk_heap.proofs.Below.Objects.GrantParts.{LastIn}
 use Rattle.mk_trace.specs.{Playing.IsGreatest, Peaks.greatest_from}

@@ -4,19 +4,21 @@ use Rattle.std.proofs.lemmas.List.{FromFn.length-range_with_len, Quantifiers.pos
 use Rattle.std.specs.Str.{bytes_eq}
 use Rattle.mk_trace.proofs.Vocabulary.{All, Contents, HeapPages, IsBetween, IsEventOf, IsOfSomeTraceText, IsPlayable}
 use Rattle.mk_trace.proofs.Vocabulary.{LinesSoFar, Ok, TraceEvent, Which, codes, contents_of, events_from}
-use Rattle.mk_trace.proofs.Vocabulary.{header_line_of, length-append, lines_of, nat_tests, nothing_written, read_behind}
-use Rattle.mk_trace.proofs.Vocabulary.{slot_number, text_fault_at, trace_of_lines, type_fault_at, typed_event}
-use Rattle.mk_trace.proofs.Vocabulary.{types_from, with_event, with_trace_line, words_of_line, written_from}
+use Rattle.mk_trace.proofs.Vocabulary.{TraceStop, header_line_of, length-append, lines_of, nat_tests, nothing_written}
+use Rattle.mk_trace.proofs.Vocabulary.{slot_number, text_fault_at, trace_of_lines, typed_event}
+use Rattle.mk_trace.proofs.Vocabulary.{types_from, with_trace_line, words_of_line, written_from}
 use Rattle.mk_trace.proofs.ReadLines.{along_keeps, bound, gone_on, passed_else, then_next, unless_none}
 use Rattle.mk_trace.{proofs.SlotTypes.{length-types_from, range_below, types_among}, specs.declared.lines.Slot.{Slot}}
-use Rattle.mk_laws.proofs.Vocabulary.{Bool, List, None, Option, Some, ℕ, arith, false, get_or, if◌then◌else◌, is_some}
-use Rattle.mk_laws.proofs.Vocabulary.{length, length-map, nat_le, refl, subst, true, [], ◌++◌, ◌+◌, ◌<◌, ◌==◌, ◌∷◌, ◌≡◌}
-use Rattle.mk_laws.proofs.Vocabulary.{◌≤◌}
+use Rattle.mk_heap.proofs.Below.Laws.Vocabulary.{Bool, List, None, Option, Some, ℕ, arith, false, get_or, if◌then◌else◌}
+use Rattle.mk_heap.proofs.Below.Laws.Vocabulary.{is_some}
+use Rattle.mk_heap.proofs.Below.Laws.Vocabulary.{length, length-map, nat_le, refl, subst, true, [], ◌++◌, ◌+◌, ◌<◌}
+use Rattle.mk_heap.proofs.Below.Laws.Vocabulary.{◌==◌, ◌∷◌, ◌≡◌}
+use Rattle.mk_heap.proofs.Below.Laws.Vocabulary.{◌≤◌}
 use Rattle.mk_check.proofs.GrammarLemmas.{at_most-None, passed_then, within-None}
 use Rattle.mk_check.proofs.FaultLemmas.{or-None}
-use Rattle.mk_script.specs.{Lines.{at_most, within}, Operands.{name, number}}
-use Rattle.mk_trace.specs.Lines.{checked_slot, event_line, heap_pages, slot_from, slot_limit, slot_line}
-use Rattle.mk_trace.specs.Grammar.{event_on, on_slot, typed_write, words_at, contents_from, words_of_slots}
+use Rattle.mk_script.specs.{Lines.{at_most, heap_limit, within}, Operands.{◌>>=◌, name, number}}
+use Rattle.mk_trace.specs.Lines.{checked_slot, event_line, ok_unless, slot_line, trace_line_of}
+use Rattle.mk_trace.specs.Grammar.{event_on, on_slot, contents_from, words_of_slots}
 use Rattle.mk_trace.specs.declared.lines.{Action.Action, EventLine.EventLine, Line.Line}
 
 -- The slots of lines are within their limits, and so is the heap of a header.
@@ -32,7 +34,7 @@ one_more : {before : List Slot} (slot found : Slot) → checked_slot before slot
     → AreWithin (before ++ found ∷ [])
 one_more {before} slot found h are =
     let fresh = passed_else (is_some (slot_number before slot.name)) _ _ found h in
-    let is = unless_none (slot_limit (length before + 1) slot.words) slot found fresh.1 in
+    let is = unless_none _ slot found fresh.1 in
     let limits = or-None (at_most (length before + 1) 64 Which.Types) (within 1 slot.words 4096 Which.Words) is.0 in
     let count = at_most-None (length before + 1) 64 Which.Types limits.0 in
     let size = within-None 1 slot.words 4096 Which.Words limits.1 in
@@ -46,12 +48,12 @@ slot_line_more : (before : LinesSoFar) (operands : List (List ℕ)) (given : Lin
     → AreWithin before.slots → AreWithin (with_trace_line before given).slots
 slot_line_more before (word ∷ words ∷ []) given h are =
     let placed = passed_then (length before.events == 0) _ _ given h in
-    let found = bound (slot_from before.slots word words) _ given placed.1 in
+    let named = bound (name word) _ given placed.1 in
+    let counted = bound (number words) _ given named.behind in
+    let slot : Slot = record { name = named.value; words = counted.value } in
+    let found = bound (checked_slot before.slots slot) _ given counted.behind in
     let is : Line.Slot found.value ≡ given = cc in
-    subst (λ (x : Line). AreWithin (with_trace_line before x).slots) is
-    (let named = bound (name word) _ found.value found.is in
-    let counted = bound (number words) _ found.value named.behind in
-    one_more (record { name = named.value; words = counted.value }) found.value counted.behind are)
+    subst (λ (x : Line). AreWithin (with_trace_line before x).slots) is (one_more slot found.value found.is are)
 slot_line_more before _ given h are = absurd cc
 
 by_word : (is_slot : Bool) (before : LinesSoFar) (word : List ℕ) (operands : List (List ℕ)) (given : Line)
@@ -64,7 +66,9 @@ pub record HeapIsWithin (heap : HeapPages) : Type 0 where
   pub pages : IsBetween 1 4096 heap.pages
   pub resident : IsBetween 1 heap.pages heap.resident
 
-heap_within : (pages resident : List ℕ) (heap : HeapPages) → heap_pages pages resident ≡ Ok heap → HeapIsWithin heap
+heap_within : (pages resident : List ℕ) (heap : HeapPages) → (number pages
+    >>= (λ p. number resident >>= (λ r. ok_unless (heap_limit p r) (record { pages = p; resident = r })))) ≡ Ok heap
+    → HeapIsWithin heap
 heap_within pages resident heap h = grind (arith, bound, unless_none, or-None, within-None)
 
 pub header_within : (words : List (List ℕ)) (heap : HeapPages) → header_line_of words ≡ Ok heap → HeapIsWithin heap
@@ -75,7 +79,7 @@ header_within _ heap h = absurd cc
 -- The events of lines are of the slots.
 
 written : (slots : List ℕ) (slot words index value : ℕ) (event : TraceEvent) → slot < length slots
-    → get_or slots slot 0 ≡ words → typed_write slot words index value ≡ Ok event → IsEventOf slots event
+    → get_or slots slot 0 ≡ words → event_on slot words (Action.Write index value) ≡ Ok event → IsEventOf slots event
 written slots slot words index value event inside words_are h = grind (arith, passed_else, nat_tests)
 
 on : (slots : List ℕ) (slot words : ℕ) (action : Action) (event : TraceEvent) → slot < length slots
@@ -88,7 +92,7 @@ numbered slots name None action event is h = absurd cc
 numbered slots name (Some slot) action event is h =
     let no_slot : Slot = record { name = []; words = 0 } in
     let inside : slot < length slots = (position-Some (λ (x : Slot). bytes_eq name x.name) slots slot no_slot is).0 in
-    on (words_of_slots slots) slot (words_at slots slot) action event
+    on (words_of_slots slots) slot (get_or slots slot no_slot).words action event
     (omega (arith, inside, length-map slots (λ (x : Slot). x.words)))
     (get_or-map (λ (x : Slot). x.words) slots slot no_slot 0 inside) h
 
@@ -107,8 +111,8 @@ read : {heap : HeapPages} (written : LinesSoFar) (trace : Contents) → HeapIsWi
 read {heap} written trace pages slots h =
     let some = passed_else (length written.slots == 0) _ _ trace h in
     let found = then_next (events_from written.slots (length written.slots + 2) written.events []) _ trace some.1 in
-    let are = along_keeps type_fault_at (λ events line. typed_event written.slots line) with_event
-    (All (IsEventOf (words_of_slots written.slots)))
+    let are = along_keeps TraceStop.IllTyped (λ events line. typed_event written.slots line)
+    (λ events event. events ++ event ∷ []) (All (IsEventOf (words_of_slots written.slots)))
     (λ before line event holds is. event_more written.slots before line event is holds) (length written.slots + 2)
     written.events [] found.value (All-nil (IsEventOf (words_of_slots written.slots))) found.is in
     let made = contents_from heap.pages heap.resident (words_of_slots written.slots) found.value in
@@ -139,7 +143,8 @@ of_lines [] trace h = absurd cc
 of_lines (first ∷ lines) trace h =
     let header = gone_on (text_fault_at 1) (header_line_of (words_of_line first)) _ trace h in
     let written = then_next (written_from 2 lines nothing_written) _ trace header.behind in
-    let slots = along_keeps text_fault_at read_behind with_trace_line (λ (w : LinesSoFar). AreWithin w.slots)
+    let slots = along_keeps text_fault_at (λ before line. trace_line_of before (words_of_line line)) with_trace_line
+    (λ (w : LinesSoFar). AreWithin w.slots)
     (λ before line given holds is. grind (arith, by_word)) 2 lines nothing_written
     written.value (record { few = omega arith; sizes = All-nil SlotIsWithin }) written.is in
     read written.value trace (header_within (words_of_line first) header.value header.is) slots written.behind

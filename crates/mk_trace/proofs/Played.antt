@@ -1,19 +1,22 @@
 -- What was played so far, with one event more, and at the end.
-use Rattle.mk_trace.proofs.Vocabulary.{AllTurnsAreExact, Answer, Caller, CallerState, Config, Contents, Decided, Event}
+use Rattle.mk_trace.proofs.Vocabulary.{AllTurnsAreExact, Answer, AreNull, Caller, CallerState, Config, Contents}
+use Rattle.mk_trace.proofs.Vocabulary.{Decided, Event}
 use Rattle.mk_trace.proofs.Vocabulary.{Grows, HostState, IsEventOf, IsHistory, IsPlayable, PassState, TraceEvent}
 use Rattle.mk_trace.proofs.Vocabulary.{WordsState, after_calls, answered, asked, begins_full, calls, calls_of_caller}
 use Rattle.mk_trace.proofs.Vocabulary.{config_of, first_host, is_refusal, never_behind, one_if, pass_for}
 use Rattle.mk_trace.proofs.{Vocabulary.{refused_events, take_all, take_more}, LaterOps.{ops-played_more, refused_more}}
 use Rattle.mk_trace.proofs.OneCaller.{as_many, calls_are_own, never_then_calls, none_called}
 use Rattle.mk_trace.proofs.{AdmittedEvents.{EventsAreAdmitted, events_are_admitted}, ExactPlays.play_is_unswept}
-use Rattle.mk_laws.proofs.Vocabulary.{Bool, List, ℕ, ap, arith, false, get_or, if◌then◌else◌, length, list_any}
-use Rattle.mk_laws.proofs.Vocabulary.{map-append, refl, subst, sym, take, [], ◌++◌, ◌+◌, ◌<◌, ◌∙◌, ◌∷◌, ◌≡◌, ◌≤◌}
-use Rattle.mk_laws.proofs.Promises.{histories_keep_all_promises}
+use Rattle.mk_heap.proofs.Below.Laws.Vocabulary.{Bool, List, ℕ, ap, arith, false, get_or, if◌then◌else◌, length}
+use Rattle.mk_heap.proofs.Below.Laws.Vocabulary.{list_any}
+use Rattle.mk_heap.proofs.Below.Laws.Vocabulary.{map-append, refl, subst, sym, take, [], ◌++◌, ◌+◌, ◌<◌, ◌∙◌, ◌∷◌, ◌≡◌}
+use Rattle.mk_heap.proofs.Below.Laws.Vocabulary.{◌≤◌}
+use Rattle.mk_heap.proofs.Below.Laws.Promises.{histories_keep_all_promises}
 use Rattle.mk_core.specs.History.{calls_from}
 use Rattle.mk_heap.specs.{Below.Callers.States.IsAtHome, Hosts.IsWhole}
 use Rattle.mk_heap.proofs.Below.Objects.Bounds.{quarantine_of_one_is_bounded}
 use Rattle.mk_heap.proofs.UnsweptHistories.{unswept_is_precise}
-use Rattle.mk_trace.specs.Calls.{AreNull, HasPlayed, MayBePlayed, PlaysEvent, SameCalls}
+use Rattle.mk_trace.specs.Calls.{HasPlayed, MayBePlayed, PlaysEvent, SameCalls}
 use Rattle.mk_trace.specs.{Playing.{IsPlayed, ops_played}, Grammar.slot_of}
 
 -- Before the first event.

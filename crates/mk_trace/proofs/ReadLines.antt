@@ -3,9 +3,11 @@ use Rattle.std.{proofs.Common.{Bor, Err, Result}, specs.Result.{IfErr, OnOk}}
 use Rattle.mk_trace.proofs.Vocabulary.{Contents, HeapPages, LinesSoFar, Ok, TraceStop, at_drop_more, contents_of}
 use Rattle.mk_trace.proofs.Vocabulary.{header_line_of, length-drop, lines_of, nothing_written, take_all, texts_of}
 use Rattle.mk_trace.proofs.Vocabulary.{trace_of_lines, words_of_line, written_from}
-use Rattle.mk_laws.proofs.Vocabulary.{Bool, List, None, Option, ℕ, ap, append-nil, append_assoc, arith, cond-true, drop}
-use Rattle.mk_laws.proofs.Vocabulary.{false, get_or, if◌then◌else◌, le-leb, length, refl, subst, sym, take, [], ◌++◌}
-use Rattle.mk_laws.proofs.Vocabulary.{◌+◌, ◌-◌, ◌<◌, ◌∙◌, ◌∷◌, ◌≡◌, ◌≢◌, ◌≤◌}
+use Rattle.mk_heap.proofs.Below.Laws.Vocabulary.{Bool, List, None, Option, ℕ, ap, append-nil, append_assoc, arith}
+use Rattle.mk_heap.proofs.Below.Laws.Vocabulary.{cond-true, drop}
+use Rattle.mk_heap.proofs.Below.Laws.Vocabulary.{false, get_or, if◌then◌else◌, le-leb, length, refl, subst, sym, take}
+use Rattle.mk_heap.proofs.Below.Laws.Vocabulary.{[], ◌++◌}
+use Rattle.mk_heap.proofs.Below.Laws.Vocabulary.{◌+◌, ◌-◌, ◌<◌, ◌∙◌, ◌∷◌, ◌≡◌, ◌≢◌, ◌≤◌}
 use Rattle.mk_script.specs.{Operands.◌>>=◌, declared.faults.LineFault.LineFault}
 use Rattle.mk_script.specs.declared.faults.{LineFault.TheVariants.Text, TextKind.TheVariants.Word}
 use Rattle.mk_trace.specs.{Grammar.{along, go_on}, Lines.{event_line_of, ok_unless, slot_line}}

@@ -3,14 +3,18 @@ use Rattle.mk_trace.proofs.Vocabulary.{AreAgesOf, Cell, Config, Event, IsHistory
 use Rattle.mk_trace.proofs.Vocabulary.{age_in_a_word, allocations_by, cell_of_allocation, counted, first_world}
 use Rattle.mk_trace.proofs.Vocabulary.{flight_of, histories_keep_the_invariant, left, length-append, moves_phase}
 use Rattle.mk_trace.proofs.Vocabulary.{nat_tests, never_granted, one_if, phase_of, placed_at, times, with_released}
-use Rattle.mk_laws.proofs.Vocabulary.{Bool, List, ℕ, and_parts, ap, append-nil, append_assoc, arith, cases_Bool}
-use Rattle.mk_laws.proofs.Vocabulary.{cases_lt, changed_at, earlier_part_is_history, enabled_in_parts, false}
-use Rattle.mk_laws.proofs.Vocabulary.{freed_leaves, freed_released, fresh_leaves, has_bit_without, if◌then◌else◌, inl}
-use Rattle.mk_laws.proofs.Vocabulary.{inr, left_more, length, length-map, map, not, refl, released_leaves}
-use Rattle.mk_laws.proofs.Vocabulary.{released_where_left, slice_index, subst, suc, sym, true, true≢false, zero, []}
-use Rattle.mk_laws.proofs.Vocabulary.{◌&&◌, ◌++◌, ◌+◌, ◌<◌, ◌∙◌, ◌∷◌, ◌≡◌}
+use Rattle.mk_heap.proofs.Below.Laws.Vocabulary.{Bool, List, ℕ, and_parts, ap, append-nil, append_assoc, arith}
+use Rattle.mk_heap.proofs.Below.Laws.Vocabulary.{cases_Bool}
+use Rattle.mk_heap.proofs.Below.Laws.Vocabulary.{cases_lt, changed_at, earlier_part_is_history, enabled_in_parts, false}
+use Rattle.mk_heap.proofs.Below.Laws.Vocabulary.{freed_leaves, freed_released, fresh_leaves, has_bit_without}
+use Rattle.mk_heap.proofs.Below.Laws.Vocabulary.{if◌then◌else◌, inl}
+use Rattle.mk_heap.proofs.Below.Laws.Vocabulary.{inr, left_more, length, length-map, map, not, refl, released_leaves}
+use Rattle.mk_heap.proofs.Below.Laws.Vocabulary.{released_where_left, slice_index, subst, suc, sym, true, true≢false}
+use Rattle.mk_heap.proofs.Below.Laws.Vocabulary.{zero, []}
+use Rattle.mk_heap.proofs.Below.Laws.Vocabulary.{◌&&◌, ◌++◌, ◌+◌, ◌<◌, ◌∙◌, ◌∷◌, ◌≡◌}
 use Rattle.mk_core.{proofs.ChangedAllocations.earlier_at, proofs.ChangedAllocations.granted_at, specs.History.left_from}
-use Rattle.mk_laws.proofs.{CyclePhases.AsksPhase, InvariantHistories.allocations_stand, Snapshots.unreleased_cycles}
+use Rattle.mk_heap.proofs.Below.Laws.{CyclePhases.AsksPhase, InvariantHistories.allocations_stand}
+use Rattle.mk_heap.proofs.Below.Laws.Snapshots.{unreleased_cycles}
 use Rattle.mk_trace.{proofs.CountedAges.same_counted, specs.Ledgers.is_gone, specs.Peaks.released_ages}
 
 abbrev pub AreFreed : List PlacedAllocation → Type 0

@@ -1,10 +1,11 @@
 -- What is kept once what was released is let go.
 use Rattle.std.proofs.{lemmas.List.Elements.filter-append, lemmas.List.Sums.{fold-append, sum_by_more}}
 use Rattle.mk_trace.proofs.Vocabulary.{Freed, FreedObject, SettlesFreed, aged, fold, in_a_word, objects_kept}
-use Rattle.mk_trace.proofs.{Vocabulary.{still_kept, sum_by, take_all, take_more, with_one}, NumberLists.unequal_is}
-use Rattle.mk_laws.proofs.Vocabulary.{Bool, List, ℕ, ap, arith, get_or, if◌then◌else◌, length, map, map-append, subst}
-use Rattle.mk_laws.proofs.Vocabulary.{sym, take, [], ◌++◌, ◌+◌, ◌<◌, ◌∙◌, ◌∷◌, ◌≡◌, ◌≤◌}
-use Rattle.mk_trace.specs.Ledgers.{SettlesWhere, ages_let_go, is_freed_among, weighed_anew}
+use Rattle.mk_trace.proofs.Vocabulary.{still_kept, sum_by, take_all, take_more, with_one}
+use Rattle.mk_heap.proofs.Below.Laws.Vocabulary.{Bool, List, ℕ, ap, arith, get_or, if◌then◌else◌, length, map}
+use Rattle.mk_heap.proofs.Below.Laws.Vocabulary.{map-append, subst}
+use Rattle.mk_heap.proofs.Below.Laws.Vocabulary.{sym, take, [], ◌++◌, ◌+◌, ◌<◌, ◌∙◌, ◌∷◌, ◌≡◌, ◌≤◌}
+use Rattle.mk_trace.specs.Ledgers.{ages_let_go, is_freed_among, weighed_anew}
 
 -- Words of kept objects, summed up one by one, where a number above 2^64 - 1 stands as 2^64 - 1.
 
@@ -79,12 +80,14 @@ settles_anew freed shown count told old new found kept at is other all still qua
     let kept_is : kept ≡ still_kept freed (map aged (objects_kept old)) = cc (still, at, all) in
     subst (λ (n : ℕ). SettlesFreed freed n old new) is (record {
       ends = ends;
-      objects = subst (λ (b : Bool). SettlesWhere b freed old new) (sym (unequal_is count old.ends other)) (
-        quarantined
-            ∙ ap (λ (l : List FreedObject). weighed_anew (λ (x : FreedObject). x.storage) l old.quarantined) kept_is,
-        reserved ∙ ap (λ (l : List FreedObject). weighed_anew (λ (x : FreedObject). x.reserved) l old.reserved) kept_is,
-        objects ∙ kept_is,
-        ages ∙ ap (λ (l : List ℕ). fold with_one old.ages.items (ages_let_go l (map aged found))) at
-            ∙ ap (λ (l : List FreedObject). fold with_one old.ages.items (ages_let_go freed (map aged l))) all,
-      );
+      same = λ same. absurd (other same);
+      others = λ _. record {
+        objects = objects ∙ kept_is;
+        quarantined = quarantined ∙ ap (λ (l : List FreedObject). weighed_anew (λ (x : FreedObject). x.storage) l
+            old.quarantined) (sym objects);
+        reserved = reserved ∙ ap (λ (l : List FreedObject). weighed_anew (λ (x : FreedObject). x.reserved) l
+            old.reserved) (sym objects);
+        ages = ages ∙ ap (λ (l : List ℕ). fold with_one old.ages.items (ages_let_go l (map aged found))) at
+            ∙ ap (λ (l : List FreedObject). fold with_one old.ages.items (ages_let_go freed (map aged l))) all;
+      };
     })

@@ -1,11 +1,17 @@
 -- The numbers of slots by their names, put into a map from the last slot to the first.
 use Rattle.std.proofs.{Common.Bor, lemmas.{Iterator.Adapters.position_from-zero, List.at_drop_all}}
 use Rattle.std.{proofs.lemmas.List.Quantifiers.position-Some, specs.Cmp.Lexicographic.nat_list_eq_equiv}
-use Rattle.std.specs.{HashMap.HashMap, List.position_from, Map.lookup, Str.bytes_eq}
-use Rattle.mk_laws.proofs.Vocabulary.{List, Some, ℕ, ap, arith, cond, drop, get_or, length, subst, sym, [], ◌+◌, ◌<◌}
-use Rattle.mk_laws.proofs.Vocabulary.{◌∙◌, ◌≡◌}
+use Rattle.std.specs.{HashMap.{HashMap, get_by}, List.position_from, Map.lookup, Str.bytes_eq}
+use Rattle.mk_heap.proofs.Below.Laws.Vocabulary.{List, Option, Some, ℕ, ap, arith, cond, drop, get_or, length, subst}
+use Rattle.mk_heap.proofs.Below.Laws.Vocabulary.{sym, [], ◌+◌}
+use Rattle.mk_heap.proofs.Below.Laws.Vocabulary.{◌<◌}
+use Rattle.mk_heap.proofs.Below.Laws.Vocabulary.{◌∙◌, ◌≡◌}
 use Rattle.mk_trace.proofs.Vocabulary.{at_drop_more, slot_number}
-use Rattle.mk_trace.specs.{Grammar.{AreSlotNumbers, value_for_name}, declared.lines.Slot.Slot}
+use Rattle.mk_trace.specs.{Grammar.AreSlotNumbers, declared.lines.Slot.Slot}
+
+-- what a map has for a name
+abbrev pub value_for_name : {X S : Type 0} → HashMap (Bor (List ℕ)) X S → List ℕ → Option X
+value_for_name names name = get_by (λ key. bytes_eq name key.now) names
 
 -- the map has the numbers of these slots, of which the first has the number `from`
 abbrev pub AreNumbersFrom : {S : Type 0} → HashMap (Bor (List ℕ)) ℕ S → ℕ → List Slot → Type 0

@@ -3,8 +3,9 @@ use Rattle.std.proofs.lemmas.List.Elements.{All-cons, All-head, All-nil, All-rep
 use Rattle.std.proofs.Math.Seq.{get_or-append_seam}
 use Rattle.mk_trace.proofs.Vocabulary.{All, Contents, IsBetween, Kind, To, config_of, kinds_of, length-append}
 use Rattle.mk_trace.proofs.Vocabulary.{length-replicate, range_with_len, replicate, types_from}
-use Rattle.mk_laws.proofs.Vocabulary.{List, Number as Num, ℕ, ap, append_assoc, arith, length, refl, subst, suc, sym}
-use Rattle.mk_laws.proofs.Vocabulary.{zero, [], ◌++◌, ◌+◌, ◌-◌, ◌<◌, ◌∙◌, ◌∷◌, ◌≡◌, ◌≤◌}
+use Rattle.mk_heap.proofs.Below.Laws.Vocabulary.{List, Number as Num, ℕ, ap, append_assoc, arith, length, refl, subst}
+use Rattle.mk_heap.proofs.Below.Laws.Vocabulary.{suc, sym}
+use Rattle.mk_heap.proofs.Below.Laws.Vocabulary.{zero, [], ◌++◌, ◌+◌, ◌-◌, ◌<◌, ◌∙◌, ◌∷◌, ◌≡◌, ◌≤◌}
 use Rattle.mk_core.specs.Moments.{IsAmong, IsTypeAmong}
 use Rattle.mk_trace.specs.Playing.{slot_type}
 

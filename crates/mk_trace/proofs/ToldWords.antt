@@ -6,16 +6,17 @@ use Rattle.mk_trace.proofs.Vocabulary.{first_world, found, greatest, has_step, h
 use Rattle.mk_trace.proofs.{Vocabulary.{left, seen_made}, FoundByEnds.{ends-append, no_end-cons, none_end}}
 use Rattle.mk_trace.proofs.HeldLooks.{IsApart, Looked, all_lack, behind, exact, first, first_lacks, giving, looked_same}
 use Rattle.mk_trace.proofs.HeldLooks.{looking, looks_alone, mine, of_pass, seen_is, taken_same, taken_seen}
-use Rattle.mk_trace.proofs.LookedTables.{is_no_look, looks_leave, looks_measure, word_left}
+use Rattle.mk_trace.proofs.LookedTables.{LeavesTable, is_no_look, looks_leave, looks_measure, word_left}
 use Rattle.mk_trace.proofs.{EndsInLists.{changes, leaves_then}, ExactPlays.{caller_is_still, look_stays_exact}}
 use Rattle.mk_trace.proofs.{OneCaller.{callers_at_home, same_calls}, OwnPieces.{mine_parts, none_of_others}}
 use Rattle.mk_trace.proofs.PeakParts.{from-append, last_below}
-use Rattle.mk_laws.proofs.Vocabulary.{List, ℕ, ap, append-nil, append_assoc, arith, earlier_part_is_history}
-use Rattle.mk_laws.proofs.Vocabulary.{enabled_in_parts, false, left_in_parts, left_more, refl, subst, sym, [], ◌++◌}
-use Rattle.mk_laws.proofs.Vocabulary.{◌∙◌, ◌∷◌, ◌≡◌}
+use Rattle.mk_heap.proofs.Below.Laws.Vocabulary.{List, ℕ, ap, append-nil, append_assoc, arith, earlier_part_is_history}
+use Rattle.mk_heap.proofs.Below.Laws.Vocabulary.{enabled_in_parts, false, left_in_parts, left_more, refl, subst, sym}
+use Rattle.mk_heap.proofs.Below.Laws.Vocabulary.{[], ◌++◌}
+use Rattle.mk_heap.proofs.Below.Laws.Vocabulary.{◌∙◌, ◌∷◌, ◌≡◌}
 use Rattle.mk_heap.proofs.MovedHosts.{taken_own}
 use Rattle.mk_heap.specs.Ending.{TellsWord}
-use Rattle.mk_trace.specs.Calls.{held_behind, LeavesTable, word_behind}
+use Rattle.mk_trace.specs.Calls.{held_behind, word_behind}
 
 -- With looks alone the most is as it was.
 most_looked : (c : Config) (measure : List PlacedAllocation → ℕ) (es more : List Event)
@@ -101,7 +102,7 @@ module _ {p q : PassState} {x : Word} {n : ℕ} (l : Looked p x n q) where
         same_calls one (earlier_part_is_history c _ (first l ++ behind l) (subst (IsHistory c) (seen_is l) l.history))
         l.history (caller_is_still l host joined);
     leaves = leaves;
-    table = leaves_table q.seen (first l ++ behind l) (seen_is l) (all_lack l is_no_look no_look);
+    words = (leaves_table q.seen (first l ++ behind l) (seen_is l) (all_lack l is_no_look no_look)).words;
     most = λ measure. ap (greatest c measure) (seen_is l)
         ∙ most_looked c measure p.seen (first l ++ behind l) (all_lack l is_no_look no_look);
     exact = look_stays_exact l host joined sweeps;

@@ -1,16 +1,16 @@
 -- The calls of a trace's one caller, and the operations of an event.
 -- Private functions alone cite these words.
 use Rattle.std.specs.{Prelude.{◌≡◌, ℕ, max, Bool, false, List, ◌++◌, Some}, List.list_any}
-use Rattle.mk_never.specs.{declared.operations.Op.Op, NeverHeap.{NeverState, register_at}}
-use Rattle.mk_never.specs.{declared.values.Value.TheVariants.Null, Admitted.{IsAdmitted, AreAdmitted}}
-use Rattle.mk_core.specs.declared.{config.Config.Config, events.{Answer.Answer, Event.Event}}
-use Rattle.mk_core.specs.{declared.events.{Word.Word, Seat.TheVariants.{Caller, Host}}, Words.named_word}
+use Rattle.mk_never.specs.{declared.operations.Op.Op, NeverHeap.register_at, declared.values.Value.TheVariants.Null}
+use Rattle.mk_never.specs.Admitted.{IsAdmitted, AreAdmitted}
+use Rattle.mk_core.specs.{declared.config.Config.Config, declared.events.Answer.Answer, declared.events.Event.Event}
+use Rattle.mk_core.specs.{declared.events.Word.Word, declared.events.Seat.TheVariants.{Caller, Host}, Words.named_word}
 use Rattle.mk_core.specs.{Allocations.{held_by_allocations, PlacedAllocation}, Calls.{Decided, entry_of, asked}}
-use Rattle.mk_core.specs.{Calls.{answered, is_under_turn}, History.{calls, left, never_behind, IsHistory, World}}
+use Rattle.mk_core.specs.{Calls.{answered, is_under_turn}, History.{calls, left, never_behind, IsHistory}}
 use Rattle.mk_heap.specs.{Below.Words.States.{Has, HasAll, has_over, WordsState}, Hosts.HostState, Dispatching.as_told}
 use Rattle.mk_trace.specs.{Peaks.{greatest, LeavesAllocations, EndsTell, IsBetweenCycles}, Playing.{config_of, ops_of}}
 use Rattle.mk_trace.specs.Playing.{begins_full, calls_of_caller, is_refusal, ops_played, refused_events, StayExact}
-use Rattle.mk_trace.specs.{Grammar.Contents, declared.{trace.TraceEvent.TraceEvent, player.Player.Player}}
+use Rattle.mk_trace.specs.{Grammar.Contents, declared.trace.TraceEvent.TraceEvent, declared.player.Player.Player}
 use Rattle.mk_trace.specs.Ledgers.{FlagsBehindCall, QuarantinesMostWhereFreed, Keeps}
 
 -- The heap has one caller, which was made, and whose seat is home in the host's pass, as all others are. What the host
@@ -25,10 +25,6 @@ pub record CallerIsHome (w : WordsState) (h : HostState) : Type 0 where
   pub joined : Has h.pass.seats (Caller 0)
   pub all : HasAll w.config h.pass.seats
   pub before_over : has_over h.pass.seen ≡ false
-
--- The caller's registers are null.
-abbrev pub AreNull : NeverState → Type 0
-AreNull n = (r : ℕ) → register_at n 0 r ≡ Null
 
 -- The operation may be the next one.
 abbrev pub MayCome : Config → List Event → Op → Type 0
@@ -45,10 +41,6 @@ held_behind c es = held_by_allocations c (left c es).allocations
 -- what was held at most
 abbrev pub most_held : Config → List Event → ℕ
 most_held c es = greatest c (held_by_allocations c) es
-
--- What was held meanwhile is no more than before, or than at the end.
-abbrev pub HoldsMostAtEnd : Config → List Event → List Event → Type 0
-HoldsMostAtEnd c es fs = most_held c fs ≡ max (most_held c es) (held_behind c fs)
 
 -- The caller made one call, of this operation, and is told this of its answer.
 pub record Calls (c : Config) (es : List Event) (o : Op) (told : Answer) (fs : List Event) : Type 0 where
@@ -75,31 +67,20 @@ pub record HasPlayed (trace : Contents) (events : List TraceEvent) (refused : �
   pub ops : asked (calls (config_of trace) es)
       ≡ calls_of_caller (ops_played events (answered (calls (config_of trace) es)))
   pub refuses : refused ≡ refused_events events (answered (calls (config_of trace) es))
-  pub clear : AreNull (never_behind (config_of trace) es)
+  pub clear : (r : ℕ) → register_at (never_behind (config_of trace) es) 0 r ≡ Null
 
--- What the host's looks leave as it is.
--- Private functions alone cite these words.
-
--- All words but the turn word, and the allocations
-pub record LeavesTable (w v : World) : Type 0 where
-  pub allocations : v.allocations ≡ w.allocations
-  pub words : v.now.words ≡ record w.now.words { turn = v.now.words.turn }
-
--- The host only looked: no call was made, no cycle began or ended, the table and all measures of the allocations are as
--- they were, and where all turns were exact they are.
+-- The host only looked: no call was made, no cycle began or ended, all words but the turn word and all measures of the
+-- allocations are as they were, and where all turns were exact they are.
 pub record HostOnlyLooks (c : Config) (es fs : List Event) : Type 0 where
   pub calls : SameCalls c es fs
   pub leaves : LeavesAllocations c es fs
-  pub table : LeavesTable (left c es) (left c fs)
+  pub words : (left c fs).now.words ≡ record (left c es).now.words { turn = (left c fs).now.words.turn }
   pub most : (measure : List PlacedAllocation → ℕ) → greatest c measure fs ≡ greatest c measure es
   pub exact : StayExact c es fs
 
 -- the word, after these events
 abbrev pub word_behind : Config → List Event → Word → ℕ
 word_behind c es x = named_word (left c es).now.words x
-
--- What a trace is played with, between two calls of its caller, and all that a call does. Private functions alone cite
--- these words.
 
 -- The caller is home, no cycle is on, the engine is made for the heap's pages, and the ledger tells of the history what
 -- was held at most and what is kept of freed objects.
@@ -110,10 +91,10 @@ pub record IsBetweenCalls {E : Type 0} (made_for : E → ℕ) (w : WordsState) (
   pub held : player.ledger.held ≡ most_held w.config player.host.pass.seen
   pub keeps : Keeps w.config player.host.pass.seen player.ledger.freed
 
--- The caller made one call, and this is what it did.
+-- The caller made one call, and this is what it did. Meanwhile no more was held than before, or than at the end.
 pub record DoesCall (on : Bool) (c : Config) (es : List Event) (o : Op) (told : Answer) (fs : List Event) : Type 0 where
   pub calls : Calls c es o told fs
-  pub held : HoldsMostAtEnd c es fs
+  pub held : most_held c fs ≡ max (most_held c es) (held_behind c fs)
   pub ends : on ≡ false → EndsTell c es fs
   pub beside : is_under_turn o ≡ false → LeavesAllocations c es fs
   pub quarantines : QuarantinesMostWhereFreed c es o fs

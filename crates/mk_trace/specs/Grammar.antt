@@ -3,21 +3,14 @@ use Rattle.std.specs.Prelude.{ℕ, ◌==◌, nat_le, if◌then◌else◌, List, 
 use Rattle.std.specs.{Prelude.{◌++◌, ◌≡◌, length, map}, declared.result.Result.Result, Borrow.Bor}
 use Rattle.std.specs.{HashMap.{HashMap, get_by}, Str.bytes_eq}
 use Rattle.mk_check.specs.declared.typing_faults.TypeKind.{TypeKind}
-use Rattle.mk_trace.specs.declared.lines.{Slot.Slot, Action.Action, EventLine.EventLine}
-use Rattle.mk_trace.specs.declared.trace.TraceEvent.{TraceEvent, TheVariants.{A, K, F, C, W}}
+use Rattle.mk_trace.specs.{declared.lines.Slot.Slot, declared.lines.Action.Action, declared.lines.EventLine.EventLine}
+use Rattle.mk_trace.specs.{declared.trace.TraceEvent.TraceEvent, declared.trace.TraceEvent.TheVariants.{A, K, F, C, W}}
 use Rattle.mk_trace.specs.Lines.{slot_number, LinesSoFar, with_trace_line, trace_line_of, nothing_written}
-use Rattle.mk_trace.specs.{Lines.header_line_of, declared.{faults.TraceStop.TraceStop, lines.Line.Line}}
+use Rattle.mk_trace.specs.{Lines.header_line_of, declared.faults.TraceStop.TraceStop, declared.lines.Line.Line}
 use Rattle.mk_trace.specs.declared.lines.HeapPages.{HeapPages}
-use Rattle.mk_script.specs.declared.faults.LineFault.{LineFault, TheVariants.{Text, Limit}}
+use Rattle.mk_script.specs.{declared.faults.LineFault.LineFault, declared.faults.LineFault.TheVariants.{Text, Limit}}
 use Rattle.mk_script.specs.Grammar.{words_of_line, longest_text, too_long, lines_of}
-use Rattle.mk_script.specs.declared.faults.{TextKind.TextKind, Which.Which}
-
--- a store into a slot's object, or its type fault
-abbrev pub typed_write : ℕ → ℕ → ℕ → ℕ → Result TraceEvent TypeKind
-typed_write slot words index value =
-    if nat_le words index
-    then Err TypeKind.Offset
-    else if index == 0 then Err TypeKind.Kind else Ok (W slot index value)
+use Rattle.mk_script.specs.{declared.faults.TextKind.TextKind, declared.faults.Which.Which}
 
 -- the action on the slot of this number, whose objects have this many words
 abbrev pub event_on : ℕ → ℕ → Action → Result TraceEvent TypeKind
@@ -25,16 +18,15 @@ event_on slot words Action.New = Ok (A slot)
 event_on slot words Action.Link = Ok (K slot)
 event_on slot words Action.Free = Ok (F slot)
 event_on slot words Action.Clear = Ok (C slot)
-event_on slot words (Action.Write index value) = typed_write slot words index value
-
--- how many words the objects of a slot have
-abbrev pub words_at : List Slot → ℕ → ℕ
-words_at slots slot = (get_or slots slot (record { name = []; words = 0 })).words
+event_on slot words (Action.Write index value) =
+    if nat_le words index
+    then Err TypeKind.Offset
+    else if index == 0 then Err TypeKind.Kind else Ok (W slot index value)
 
 -- an event on this slot, or its type fault
 abbrev pub on_slot : List Slot → Option ℕ → Action → Result TraceEvent TypeKind
 on_slot slots None action' = Err TypeKind.NoGlobal
-on_slot slots (Some slot) action' = event_on slot (words_at slots slot) action'
+on_slot slots (Some slot) action' = event_on slot (get_or slots slot (record { name = []; words = 0 })).words action'
 
 -- an event line with its slot's number, or its type fault
 abbrev pub typed_event : List Slot → EventLine → Result TraceEvent TypeKind
@@ -44,10 +36,6 @@ typed_event slots event = on_slot slots (slot_number slots event.slot) event.act
 abbrev pub text_fault_at : ℕ → LineFault → TraceStop
 text_fault_at line (Text kind) = TraceStop.Text line kind
 text_fault_at line (Limit which found) = TraceStop.Limit line which found
-
--- the type fault of this line
-abbrev pub type_fault_at : ℕ → TypeKind → TraceStop
-type_fault_at line kind = TraceStop.IllTyped line kind
 
 -- goes on with what a line gives, or ends with its fault
 abbrev pub go_on : {X Y Fault : Type 0} → (Fault → TraceStop) → Result X Fault → (X → Result Y TraceStop)
@@ -62,22 +50,16 @@ along told read add number [] before = Ok before
 along told read add number (line ∷ lines) before =
     go_on (told number) (read before line) (λ given. along told read add (number + 1) lines (add before given))
 
--- what a line says after the lines before it
-abbrev pub read_behind : LinesSoFar → List ℕ → Result Line LineFault
-read_behind written line = trace_line_of written (words_of_line line)
-
 -- the slots and the events of lines after others
 abbrev pub written_from : ℕ → List (List ℕ) → LinesSoFar → Result LinesSoFar TraceStop
-written_from number lines before = along text_fault_at read_behind with_trace_line number lines before
-
--- one event more
-abbrev pub with_event : List TraceEvent → TraceEvent → List TraceEvent
-with_event events event = events ++ event ∷ []
+written_from number lines before =
+    along text_fault_at (λ written line. trace_line_of written (words_of_line line)) with_trace_line number lines before
 
 -- the events of lines, after others
 abbrev pub events_from : List Slot → ℕ → List EventLine → List TraceEvent → Result (List TraceEvent) TraceStop
 events_from slots number lines before =
-    along type_fault_at (λ events line. typed_event slots line) with_event number lines before
+    along TraceStop.IllTyped (λ events line. typed_event slots line) (λ events event. events ++ event ∷ []) number
+    lines before
 
 -- What a trace says: the pages of its heap and how many of them may be resident, how many words the objects of each
 -- slot have, and what is done with the slots.
@@ -134,29 +116,7 @@ trace_of text =
 abbrev pub IsOfSomeTraceText : Contents → Type 0
 IsOfSomeTraceText contents = (text : List ℕ) × (trace_of text ≡ Ok contents)
 
--- What the reader of lines finds on its way.
--- Private functions alone cite these words.
-
--- a line has a fault, which is told with the line's number
-pub record IsFaultOf {A : Type 0} (number : ℕ) (found : Result A LineFault) (stop : TraceStop) : Type 0 where
-  pub fault : LineFault
-  pub is_fault : found ≡ Err fault
-  pub told : stop ≡ text_fault_at number fault
-
--- a line was read after others
-pub record ReadsTraceLine (before : LinesSoFar) (words : List (List ℕ)) (behind : LinesSoFar) : Type 0 where
-  pub line : Line
-  pub is_line : trace_line_of before words ≡ Ok line
-  pub behind_is : behind ≡ with_trace_line before line
-
--- the heap and the lines of some text whose lines are of the grammar
-abbrev pub IsReadFrom : HeapPages → LinesSoFar → Type 0
-IsReadFrom heap written = (text : List ℕ) × (trace_of text ≡ contents_of heap written)
-
--- what a map has for a name
-abbrev pub value_for_name : {X S : Type 0} → HashMap (Bor (List ℕ)) X S → List ℕ → Option X
-value_for_name names name = get_by (λ key. bytes_eq name key.now) names
-
--- the map has the number of each slot, by its name
+-- The map has the number of each slot, by its name. Private functions alone cite this.
 abbrev pub AreSlotNumbers : {S : Type 0} → HashMap (Bor (List ℕ)) ℕ S → List Slot → Type 0
-AreSlotNumbers numbers slots = (name : List ℕ) → value_for_name numbers name ≡ slot_number slots name
+AreSlotNumbers numbers slots =
+    (name : List ℕ) → get_by (λ key. bytes_eq name key.now) numbers ≡ slot_number slots name

@@ -1,18 +1,18 @@
 -- What is kept of freed objects while a trace is played: which are freed, and how many words were quarantined at most.
 use Rattle.std.specs.Prelude.{◌≡◌, ℕ, ◌+◌, Bool, ◌==◌, List, [], ◌∷◌, if◌then◌else◌, ◌<◌, ◌≤◌, max, true, false, ◌++◌}
-use Rattle.std.specs.Prelude.{length, Option, Some, None, ◌&&◌, nat_lt, not, map, filter, fold, sum_by, slice_index}
-use Rattle.std.specs.List.{list_any}
-use Rattle.mk_never.specs.declared.operations.Op.{Op, TheVariants.Free}
-use Rattle.mk_never.specs.declared.values.Value.{Value, TheVariants.{Null, Num, Ptr}}
+use Rattle.std.specs.Prelude.{length, Option, Some, None, ◌&&◌, ◌≢◌, not, map, filter, fold, sum_by, slice_index}
+use Rattle.std.specs.{List.list_any, Option.{option_map_or, option_to_list}}
+use Rattle.mk_never.specs.{declared.operations.Op.Op, declared.operations.Op.TheVariants.Free}
+use Rattle.mk_never.specs.{declared.values.Value.Value, declared.values.Value.TheVariants.{Null, Num, Ptr}}
 use Rattle.mk_never.specs.NeverHeap.{NeverState, after_calls, allocation_at, global_at, register_at}
 use Rattle.mk_never.specs.Types.{kinds_of, is_large}
 use Rattle.mk_geom.specs.declared.addresses.Cell.{Cell}
-use Rattle.mk_core.specs.declared.{config.Config.Config, events.Event.Event}
+use Rattle.mk_core.specs.{declared.config.Config.Config, declared.events.Event.Event}
 use Rattle.mk_core.specs.Allocations.{PlacedAllocation, placed_at, storage_words, cell_of_allocation}
 use Rattle.mk_core.specs.{History.{left, never_behind}, Words.has_bit, Counts.{ends, in_a_word}, Cycles.is_quarantined}
 use Rattle.mk_trace.specs.{declared.trace.TraceEvent.TraceEvent, Peaks.{greatest, quarantined_words, reserved_words}}
-use Rattle.mk_trace.specs.{Peaks.{age_of, counted, found_by_ends}, Playing.{calls_of_caller, ops_of}, Grammar.slot_of}
-use Rattle.mk_trace.specs.declared.ledger.{Freed.Freed, FreedObject.FreedObject}
+use Rattle.mk_trace.specs.{Peaks.{age_of, counted, found_by_ends, with_one}, Playing.{calls_of_caller, ops_of}}
+use Rattle.mk_trace.specs.{Grammar.slot_of, declared.ledger.Freed.Freed, declared.ledger.FreedObject.FreedObject}
 use Rattle.mk_trace.specs.declared.ledger.Peak.{Peak}
 
 -- 1 if it is so, otherwise 0
@@ -28,8 +28,8 @@ times i (number ∷ numbers) = one_if (number == i) + times i numbers
 abbrev pub AreThose : (ℕ → Bool) → List ℕ → Type 0
 AreThose test numbers = (i : ℕ) → times i numbers ≡ one_if (test i)
 
--- What an operation of the caller frees, and how many words were quarantined and reserved at most.
--- Private functions alone cite these words.
+-- What an operation of the caller frees, and how many words were quarantined and reserved at most. Private functions
+-- alone cite these words.
 
 -- the allocation that the value points to, if it isn't freed yet
 abbrev pub unfreed : NeverState → Value → Option ℕ
@@ -56,14 +56,10 @@ FreesItsSlot n event =
 abbrev pub large_words : Config → PlacedAllocation → ℕ
 large_words c a = if is_large (kinds_of c.types a.ty) then storage_words c a else 0
 
--- words of the allocation, if there is one
-abbrev pub words_of_some : (PlacedAllocation → ℕ) → List PlacedAllocation → Option ℕ → ℕ
-words_of_some words xs None = 0
-words_of_some words xs (Some number) = words (placed_at xs number)
-
 -- what this operation frees, by this measure
 abbrev pub freed_words : Config → (PlacedAllocation → ℕ) → List Event → Op → ℕ
-freed_words c words es o = words_of_some words (left c es).allocations (number_freed (never_behind c es) o)
+freed_words c words es o = option_map_or (λ (number : ℕ). words (placed_at (left c es).allocations number))
+    (number_freed (never_behind c es) o) 0
 
 -- The most meanwhile was before, or where the operation had freed its allocation.
 abbrev pub IsMostWhereFreed : Config → (List PlacedAllocation → ℕ) → (PlacedAllocation → ℕ) → List Event → Op
@@ -117,17 +113,11 @@ age_in_a_word found number = in_a_word (age_of number found)
 
 -- what is noted of it once ends have found these allocations, with its age
 abbrev pub aged_object : Config → List (List PlacedAllocation) → List PlacedAllocation → ℕ → FreedObject
-aged_object c found xs number =
-    record {
-      cell = cell_of_allocation c (placed_at xs number);
-      storage = storage_words c (placed_at xs number);
-      reserved = large_words c (placed_at xs number);
-      age = age_in_a_word found number;
-    }
+aged_object c found xs number = record (freed_object_of c xs number) { age = age_in_a_word found number }
 
 -- after one end more
 abbrev pub aged : FreedObject → FreedObject
-aged x = record { cell = x.cell; storage = x.storage; reserved = x.reserved; age = in_a_word (x.age + 1) }
+aged x = record x { age = in_a_word (x.age + 1) }
 
 -- the freed objects that aren't released
 abbrev pub objects_kept : Freed → List FreedObject
@@ -139,11 +129,6 @@ pub record AreObjectsOf (c : Config) (found : List (List PlacedAllocation)) (xs 
   pub numbers : List ℕ
   pub are : objects ≡ map (aged_object c found xs) numbers
   pub those : AreThose test numbers
-
--- They are those of the quarantined allocations.
-abbrev pub AreQuarantinedObjects : Config → List (List PlacedAllocation) → List PlacedAllocation → List FreedObject
-    → Type 0
-AreQuarantinedObjects c found xs objects = AreObjectsOf c found xs (λ (i : ℕ). is_quarantined (placed_at xs i)) objects
 
 -- It was freed, and is released. (What is no allocation counts as released.)
 abbrev pub is_gone : PlacedAllocation → Bool
@@ -174,7 +159,8 @@ pub record IsPeakOf (c : Config) (measure : List PlacedAllocation → ℕ) (es :
 pub record Keeps (c : Config) (es : List Event) (f : Freed) : Type 0 where
   pub quarantined : IsPeakOf c (quarantined_words c) es f.quarantined
   pub reserved : IsPeakOf c (reserved_words c) es f.reserved
-  pub objects : AreQuarantinedObjects c (found_by_ends c es) (left c es).allocations (objects_kept f)
+  pub objects : AreObjectsOf c (found_by_ends c es) (left c es).allocations
+      (λ (i : ℕ). is_quarantined (placed_at (left c es).allocations i)) (objects_kept f)
   pub ages : AreAgesOf (found_by_ends c es) (left c es).allocations f.ages.items
   pub found : AreFound (found_by_ends c es) (left c es).allocations
   pub ends : f.ends ≡ in_a_word (ends es)
@@ -184,21 +170,11 @@ abbrev pub risen : Peak → ℕ → Peak
 risen peak words =
     record { now = in_a_word (peak.now + words); most = max peak.most (in_a_word (peak.now + words)) }
 
--- the words of an object, 0 if there is none
-abbrev pub some_words : (FreedObject → ℕ) → Option FreedObject → ℕ
-some_words words None = 0
-some_words words (Some object) = words object
-
--- the object, as a list
-abbrev pub one_or_none : Option FreedObject → List FreedObject
-one_or_none None = []
-one_or_none (Some object) = object ∷ []
-
 -- An object was freed, or none.
 pub record Notes (old : Freed) (object : Option FreedObject) (new : Freed) : Type 0 where
-  pub quarantined : new.quarantined ≡ risen old.quarantined (some_words (λ (x : FreedObject). x.storage) object)
-  pub reserved : new.reserved ≡ risen old.reserved (some_words (λ (x : FreedObject). x.reserved) object)
-  pub objects : objects_kept new ≡ objects_kept old ++ one_or_none object
+  pub quarantined : new.quarantined ≡ risen old.quarantined (option_map_or (λ (x : FreedObject). x.storage) object 0)
+  pub reserved : new.reserved ≡ risen old.reserved (option_map_or (λ (x : FreedObject). x.reserved) object 0)
+  pub objects : objects_kept new ≡ objects_kept old ++ option_to_list object
   pub ages : new.ages.items ≡ old.ages.items
   pub ends : new.ends ≡ old.ends
 
@@ -219,32 +195,15 @@ abbrev pub ages_let_go : List ℕ → List FreedObject → List ℕ
 ages_let_go freed objects =
     map (λ (x : FreedObject). x.age) (filter (λ (x : FreedObject). not (is_freed_among freed x.cell)) objects)
 
--- pairs of an age and how many have it, with one more, where a word holds each count
-abbrev pub with_one : List (ℕ × ℕ) → ℕ → List (ℕ × ℕ)
-with_one [] age = (age, 1) ∷ []
-with_one (pair ∷ pairs) age =
-    if age == pair.0
-    then (age, in_a_word (pair.1 + 1)) ∷ pairs
-    else if nat_lt age pair.0 then (age, 1) ∷ pair ∷ pairs else pair ∷ with_one pairs age
+-- What is still freed after one end more is kept, and the ages of the others are counted.
+pub record LetsGo (freed : List ℕ) (old new : Freed) : Type 0 where
+  pub objects : objects_kept new ≡ still_kept freed (map aged (objects_kept old))
+  pub quarantined : new.quarantined ≡ weighed_anew (λ (x : FreedObject). x.storage) (objects_kept new) old.quarantined
+  pub reserved : new.reserved ≡ weighed_anew (λ (x : FreedObject). x.reserved) (objects_kept new) old.reserved
+  pub ages : new.ages.items ≡ fold with_one old.ages.items (ages_let_go freed (map aged (objects_kept old)))
 
--- No cycle ended.
-abbrev pub is_count_same : ℕ → Freed → Bool
-is_count_same count f = count == f.ends
-
--- What the ledger does after a call in which a cycle ended, or none did.
-abbrev pub SettlesWhere : Bool → List ℕ → Freed → Freed → Type 0
-SettlesWhere true freed old new =
-    (new.quarantined ≡ old.quarantined) × (new.reserved ≡ old.reserved) × (objects_kept new ≡ objects_kept old)
-    × (new.ages.items ≡ old.ages.items)
-SettlesWhere false freed old new =
-    (new.quarantined ≡ weighed_anew (λ (x : FreedObject). x.storage) (still_kept freed (map aged (objects_kept old)))
-    old.quarantined)
-    × (new.reserved ≡ weighed_anew (λ (x : FreedObject). x.reserved) (still_kept freed (map aged (objects_kept old)))
-    old.reserved)
-    × (objects_kept new ≡ still_kept freed (map aged (objects_kept old)))
-    × (new.ages.items ≡ fold with_one old.ages.items (ages_let_go freed (map aged (objects_kept old))))
-
--- What was released is let go, and its ages are counted, where this many cycles have ended.
+-- What was released is let go, where this many cycles have ended and one was after the last look.
 pub record SettlesFreed (freed : List ℕ) (count : ℕ) (old new : Freed) : Type 0 where
   pub ends : new.ends ≡ count
-  pub objects : SettlesWhere (is_count_same count old) freed old new
+  pub same : count ≡ old.ends → new ≡ old
+  pub others : count ≢ old.ends → LetsGo freed old new

@@ -1,7 +1,8 @@
 -- What a line of a trace's text says, after those before it, or its first fault: of form and place, numbers and names,
 -- slots that are declared twice, limits.
 use Rattle.std.specs.Prelude.{ℕ, ◌+◌, ◌==◌, if◌then◌else◌, List, [], ◌∷◌, ◌++◌, length, is_some, Option, Some, None, Ok}
-use Rattle.std.specs.{Prelude.Err, declared.result.Result.Result, List.position, Str.bytes_eq, Option.option_or}
+use Rattle.std.specs.{Prelude.{Err, ok_or}, declared.result.Result.Result, List.position, Str.bytes_eq}
+use Rattle.std.specs.Option.{option_or}
 use Rattle.mk_script.specs.{declared.faults.LineFault.LineFault, declared.faults.LineFault.TheVariants.Text}
 use Rattle.mk_script.specs.{Lines.{at_most, heap_limit, within}, Operands.{◌>>=◌, name, number}}
 use Rattle.mk_script.specs.{declared.faults.TextKind.TextKind, declared.faults.Which.Which}
@@ -29,50 +30,35 @@ abbrev pub ok_unless : {A : Type 0} → Option LineFault → A → Result A Line
 ok_unless None x = Ok x
 ok_unless (Some fault) x = Err fault
 
--- line 1: `trace PAGES RESIDENT`
-
--- the pages of the first line
-abbrev pub heap_pages : List ℕ → List ℕ → Result HeapPages LineFault
-heap_pages pages resident =
-    number pages >>= (λ p. number resident >>= (λ r. ok_unless (heap_limit p r) (record { pages = p; resident = r })))
-
--- what the first line says
+-- what the first line says: `trace PAGES RESIDENT`
 abbrev pub header_line_of : List (List ℕ) → Result HeapPages LineFault
 header_line_of (word ∷ pages ∷ resident ∷ []) =
-    if bytes_eq word (codes "trace") then heap_pages pages resident else Err (Text TextKind.Header)
+    if bytes_eq word (codes "trace")
+    then number pages
+    >>= (λ p. number resident >>= (λ r. ok_unless (heap_limit p r) (record { pages = p; resident = r })))
+    else Err (Text TextKind.Header)
 header_line_of words = Err (Text TextKind.Header)
-
--- `slot S WORDS`, before the first event
 
 -- Slots are numbered from 0, in the order of their lines.
 abbrev pub slot_number : List Slot → List ℕ → Option ℕ
 slot_number slots name' = position (λ (slot : Slot). bytes_eq name' slot.name) slots
-
--- the limit that is passed by a slot of this many words, as the one of this number, counted from 1
-abbrev pub slot_limit : ℕ → ℕ → Option LineFault
-slot_limit count words = option_or (at_most count 64 Which.Types) (within 1 words 4096 Which.Words)
 
 -- the slot, if its name and size are allowed
 abbrev pub checked_slot : List Slot → Slot → Result Slot LineFault
 checked_slot before slot =
     if is_some (slot_number before slot.name)
     then Err (Text TextKind.Twice)
-    else ok_unless (slot_limit (length before + 1) slot.words) slot
+    else ok_unless
+    (option_or (at_most (length before + 1) 64 Which.Types) (within 1 slot.words 4096 Which.Words)) slot
 
--- what a `slot` line says
-abbrev pub slot_from : List Slot → List ℕ → List ℕ → Result Slot LineFault
-slot_from before slot words =
-    name slot >>= (λ s. number words >>= (λ n. checked_slot before (record { name = s; words = n })))
-
--- the same, if it is in its place
+-- what `slot S WORDS` says, before the first event
 abbrev pub slot_line : LinesSoFar → List (List ℕ) → Result Line LineFault
 slot_line before (slot ∷ words ∷ []) =
     if length before.events == 0
-    then slot_from before.slots slot words >>= (λ checked. Ok (Line.Slot checked))
+    then name slot >>= (λ s. number words >>= (λ n. checked_slot before.slots (record { name = s; words = n })
+    >>= (λ checked. Ok (Line.Slot checked))))
     else Err (Text TextKind.Word)
 slot_line before operands = Err (Text TextKind.Word)
-
--- `a S`, `k S`, `f S`, `c S` and `w S i N`, after the first slot
 
 -- the event with this letter
 abbrev pub plain_action : List ℕ → Option Action
@@ -82,30 +68,19 @@ plain_action word =
     if bytes_eq word (codes "f") then Some Free else
     if bytes_eq word (codes "c") then Some Clear else None
 
--- what an event line of one slot says
-abbrev pub with_action : Option Action → List ℕ → Result EventLine LineFault
-with_action None slot = Err (Text TextKind.Word)
-with_action (Some action) slot = name slot >>= (λ s. Ok (record { slot = s; action = action }))
-
--- the same, by its first word
-abbrev pub plain_event : List ℕ → List ℕ → Result EventLine LineFault
-plain_event word slot = with_action (plain_action word) slot
-
--- what a `w` line says
-abbrev pub write_event : List ℕ → List ℕ → List ℕ → List ℕ → Result EventLine LineFault
-write_event word slot index value =
+-- what `a S`, `k S`, `f S`, `c S` or `w S i N` says by itself
+abbrev pub event_line_of : List ℕ → List (List ℕ) → Result EventLine LineFault
+event_line_of word (slot ∷ []) =
+    ok_or (plain_action word) (Text TextKind.Word)
+    >>= (λ action'. name slot >>= (λ s. Ok (record { slot = s; action = action' })))
+event_line_of word (slot ∷ index ∷ value ∷ []) =
     if bytes_eq word (codes "w")
     then name slot
     >>= (λ s. number index >>= (λ i. number value >>= (λ n. Ok (record { slot = s; action = Write i n }))))
     else Err (Text TextKind.Word)
-
--- what an event line says by itself
-abbrev pub event_line_of : List ℕ → List (List ℕ) → Result EventLine LineFault
-event_line_of word (slot ∷ []) = plain_event word slot
-event_line_of word (slot ∷ index ∷ value ∷ []) = write_event word slot index value
 event_line_of word operands = Err (Text TextKind.Word)
 
--- the same, if it is in its place
+-- the same, after the first slot
 abbrev pub event_line : LinesSoFar → List ℕ → List (List ℕ) → Result Line LineFault
 event_line before word operands =
     if length before.slots == 0

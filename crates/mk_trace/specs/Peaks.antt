@@ -1,30 +1,25 @@
 -- The peaks of a history: how much was held, quarantined and reserved at most, how many cycles ended, and through how
 -- many of their ends freed objects stayed.
-use Rattle.std.specs.Prelude.{ℕ, ◌+◌, max, Bool, ◌&&◌, nat_lt, ◌==◌, if◌then◌else◌, List, [], ◌∷◌, filter, fold, map}
-use Rattle.std.specs.{Prelude.{sum_by, ◌*◌, ◌≤◌, false, ◌≡◌, ◌⊎◌, ◌<◌, ◌++◌, length}, List.flat_map, Fmt.decimal}
+use Rattle.std.specs.Prelude.{ℕ, ◌+◌, max, ◌&&◌, nat_lt, ◌==◌, if◌then◌else◌, List, [], ◌∷◌, filter, fold, sum_by, ◌*◌}
+use Rattle.std.specs.{Prelude.{◌≤◌, ◌≡◌, ◌⊎◌, ◌<◌, ◌++◌, length}, List.flat_map, Fmt.decimal}
 use Rattle.mk_never.specs.Types.{kinds_of, is_large}
 use Rattle.mk_core.specs.Allocations.{PlacedAllocation, placed_at, storage_words, held_by_allocations}
 use Rattle.mk_core.specs.{Counts.{ends, in_a_word}, Cycles.{is_end, is_quarantined}, History.{World, first_world}}
-use Rattle.mk_core.specs.{History.{world_behind, left, IsHistory}, declared.config.Config.Config}
-use Rattle.mk_core.specs.{declared.events.Event.Event, Words.phase_of}
-use Rattle.mk_heap.specs.Below.Objects.Bounds.{QuarantineIsBounded, WhereTurnIsFree, fresh_after, kept_mapped}
+use Rattle.mk_core.specs.{History.{world_behind, left}, declared.config.Config.Config, declared.events.Event.Event}
+use Rattle.mk_core.specs.Words.{phase_of}
+use Rattle.mk_heap.specs.Below.Objects.Bounds.{WhereTurnIsFree, fresh_after, kept_mapped}
 use Rattle.mk_script.specs.Canonical.{line_text}
 use Rattle.mk_trace.specs.declared.peaks.Peaks.{Peaks}
 use lib.Chars.{codes}
 
--- the storage of the freed and unreleased allocations, and of the large ones among them, whose addresses are reserved
-
--- the words of freed objects that aren't released
+-- the storage of the freed and unreleased allocations
 abbrev pub quarantined_words : Config → List PlacedAllocation → ℕ
 quarantined_words c xs = sum_by (storage_words c) (filter is_quarantined xs)
 
--- it is such an object, and large
-abbrev pub is_reserved : Config → PlacedAllocation → Bool
-is_reserved c a = is_quarantined a && is_large (kinds_of c.types a.ty)
-
--- the words of those
+-- that of the large ones among them, whose addresses are reserved
 abbrev pub reserved_words : Config → List PlacedAllocation → ℕ
-reserved_words c xs = sum_by (storage_words c) (filter (is_reserved c) xs)
+reserved_words c xs =
+    sum_by (storage_words c) (filter (λ a. is_quarantined a && is_large (kinds_of c.types a.ty)) xs)
 
 -- the greatest measure of the allocations that a beginning of the events leaves
 unfoldable pub greatest_from : Config → World → (List PlacedAllocation → ℕ) → List Event → ℕ
@@ -64,17 +59,17 @@ released_ages found number (a ∷ xs) =
     then in_a_word (age_of number found) ∷ released_ages found (number + 1) xs
     else released_ages found (number + 1) xs
 
--- pairs of an age and how many have it, ascending, with one more
-abbrev pub with_age : List (ℕ × ℕ) → ℕ → List (ℕ × ℕ)
-with_age [] age = (age, 1) ∷ []
-with_age (pair ∷ pairs) age =
+-- pairs of an age and how many have it, ascending, with one more, where a word holds each count
+abbrev pub with_one : List (ℕ × ℕ) → ℕ → List (ℕ × ℕ)
+with_one [] age = (age, 1) ∷ []
+with_one (pair ∷ pairs) age =
     if age == pair.0
-    then (age, pair.1 + 1) ∷ pairs
-    else if nat_lt age pair.0 then (age, 1) ∷ pair ∷ pairs else pair ∷ with_age pairs age
+    then (age, in_a_word (pair.1 + 1)) ∷ pairs
+    else if nat_lt age pair.0 then (age, 1) ∷ pair ∷ pairs else pair ∷ with_one pairs age
 
 -- how many there are of each age, least age first
 abbrev pub counted : List ℕ → List (ℕ × ℕ)
-counted ages = map (λ (pair : ℕ × ℕ). (pair.0, in_a_word pair.1)) (fold with_age [] ages)
+counted ages = fold with_one [] ages
 
 -- What a history alone says. A number above 2^64 - 1 stands there as 2^64 - 1.
 pub record HistoryPeaks : Type 0 where
@@ -95,26 +90,12 @@ peaks_of c es =
       ages = counted (released_ages (found_by_ends c es) 0 (left c es).allocations);
     }
 
--- What was freed since the last `begin` is at most a quarter of the peak of held words.
-abbrev pub FreshIsQuarterOfPeak : HistoryPeaks → Config → List Event → Type 0
-FreshIsQuarterOfPeak peaks c es = 4 * fresh_after c es ≤ peaks.held
-
+-- Whenever nobody has the turn, what was freed since the last `begin` is at most a quarter of the peak of held words.
 -- So all that is quarantined is at most such a quarter, what is reserved, and what was freed before the last `begin`.
-abbrev pub QuarantineIsQuarterOfPeak : HistoryPeaks → Config → List Event → Type 0
-QuarantineIsQuarterOfPeak peaks c es =
-    4 * quarantined_words c (left c es).allocations
-    ≤ peaks.held + 4 * (reserved_words c (left c es).allocations + kept_mapped c (left c es).allocations)
-
--- Whenever nobody has the turn, what is fresh is at most a quarter of the peak.
 pub record PeaksBoundQuarantine (c : Config) (es : List Event) (peaks : HistoryPeaks) : Type 0 where
-  pub fresh : WhereTurnIsFree (FreshIsQuarterOfPeak peaks) c es
-  pub quarantined : WhereTurnIsFree (QuarantineIsQuarterOfPeak peaks) c es
-
--- It is so in each history whose quarantine is bounded, with calls that end the cycles that they begin.
-abbrev pub BoundsMeetPeaks : Type 0
-BoundsMeetPeaks =
-    (c : Config) (es : List Event) → IsHistory c es → QuarantineIsBounded false c es
-    → PeaksBoundQuarantine c es (peaks_of c es)
+  pub fresh : WhereTurnIsFree (λ c es. 4 * fresh_after c es ≤ peaks.held) c es
+  pub quarantined : WhereTurnIsFree (λ c es. 4 * quarantined_words c (left c es).allocations
+      ≤ peaks.held + 4 * (reserved_words c (left c es).allocations + kept_mapped c (left c es).allocations)) c es
 
 -- No cycle is on.
 abbrev pub IsBetweenCycles : Config → List Event → Type 0
@@ -155,20 +136,16 @@ pub record LeavesAllocations (c : Config) (es fs : List Event) : Type 0 where
   pub count : ends fs ≡ ends es
   pub allocations : (left c fs).allocations ≡ (left c es).allocations
 
--- the lines of the peaks, but for ages, as words
-abbrev pub lines_of_counts : Peaks → List (List (List ℕ))
-lines_of_counts peaks =
+-- the lines of the peaks, but for ages
+abbrev pub text_of_counts : Peaks → List ℕ
+text_of_counts peaks = flat_map line_text (
     (codes "events" ∷ decimal peaks.events ∷ []) ∷
     (codes "refused" ∷ decimal peaks.refused ∷ []) ∷
     (codes "held" ∷ decimal peaks.held ∷ []) ∷
     (codes "quarantined" ∷ decimal peaks.quarantined ∷ []) ∷
     (codes "reserved" ∷ decimal peaks.reserved ∷ []) ∷
     (codes "cycles" ∷ decimal peaks.cycles ∷ []) ∷
-    []
-
--- their text
-abbrev pub text_of_counts : Peaks → List ℕ
-text_of_counts peaks = flat_map line_text (lines_of_counts peaks)
+    [])
 
 -- an age, and how many have it
 abbrev pub text_of_ages : List (ℕ × ℕ) → List ℕ

@@ -2,19 +2,19 @@
 -- the slots.
 use Rattle.std.specs.Prelude.{◌≡◌, ℕ, ◌+◌, ◌-◌, Bool, true, false, ◌&&◌, if◌then◌else◌, List, [], ◌∷◌, ◌++◌, length}
 use Rattle.std.specs.{Prelude.{map, replicate, take, drop, ◌<◌, ◌≤◌, get_or, All}, List.{list_any, range_with_len}}
-use Rattle.mk_never.specs.declared.types.Kind.{Kind, TheVariants.{Num, To}}
-use Rattle.mk_never.specs.declared.operations.Op.{Op, TheVariants.{New, Free, SetNum, SetPtr}}
+use Rattle.mk_never.specs.{declared.types.Kind.Kind, declared.types.Kind.TheVariants.{Num, To}}
+use Rattle.mk_never.specs.{declared.operations.Op.Op, declared.operations.Op.TheVariants.{New, Free, SetNum, SetPtr}}
 use Rattle.mk_never.specs.{declared.operations.Op.TheVariants.{Clear, GetGlobal, SetGlobal}, NeverHeap.Call}
-use Rattle.mk_core.specs.declared.{config.Config.Config, events.{Answer.Answer, Event.Event}}
-use Rattle.mk_core.specs.declared.events.Seat.{Seat, TheVariants.{Caller, Host}}
+use Rattle.mk_core.specs.{declared.config.Config.Config, declared.events.Answer.Answer, declared.events.Event.Event}
+use Rattle.mk_core.specs.{declared.events.Seat.Seat, declared.events.Seat.TheVariants.{Caller, Host}}
 use Rattle.mk_core.specs.{Counts.is_full_answer, Calls.{asked, answered}, History.{is_same_seat, calls, left}}
 use Rattle.mk_core.specs.{Allocations.PlacedAllocation, Moments.{IsBetween, IsWithinLimits}}
-use Rattle.mk_laws.specs.{Releases.CyclesArePrecise, Promises.KeepsAllPromises}
+use Rattle.mk_heap.specs.Below.Laws.{Releases.CyclesArePrecise, Promises.KeepsAllPromises}
 pub use Rattle.mk_check.specs.Feed.{is_refusal}
 use Rattle.mk_heap.specs.{Below.Objects.TurnCycles.{TurnsOfAreExact, is_of_cycle}, Hosts.IsWhole}
 use Rattle.mk_heap.specs.{Below.Objects.Bounds.QuarantineIsBounded, Unswept.{IsUnswept, SeatSweepsNothing}}
-use Rattle.mk_trace.specs.declared.trace.TraceEvent.{TraceEvent, TheVariants.{A, K, F, C, W}}
-use Rattle.mk_trace.specs.{declared.peaks.Peaks.Peaks, Peaks.{HistoryPeaks, peaks_of}, Grammar.{Contents, slot_of}}
+use Rattle.mk_trace.specs.{declared.trace.TraceEvent.TraceEvent, declared.trace.TraceEvent.TheVariants.{A, K, F, C, W}}
+use Rattle.mk_trace.specs.{declared.peaks.Peaks.Peaks, Peaks.peaks_of, Grammar.{Contents, slot_of}}
 use Rattle.mk_heap.specs.Hosts as report
 
 -- The type of a slot's objects: a pointer to such an object, and numbers.
@@ -102,22 +102,15 @@ pub record IsPlayed (trace : Contents) (es : List Event) : Type 0 where
 abbrev pub history_of : Peaks → List Event
 history_of peaks = report.history_of peaks.report
 
--- what of the peaks a history alone says
-abbrev pub history_peaks : Peaks → HistoryPeaks
-history_peaks peaks =
-    record {
-      held = peaks.held;
-      quarantined = peaks.quarantined;
-      reserved = peaks.reserved;
-      cycles = peaks.cycles;
-      ages = peaks.ages.items;
-    }
-
 -- The peaks of a trace whose playing made this history.
 pub record ArePeaks (trace : Contents) (es : List Event) (peaks : Peaks) : Type 0 where
   pub events : peaks.events ≡ length trace.events
   pub refused : peaks.refused ≡ refused_events trace.events (answered (calls (config_of trace) es))
-  pub of_history : history_peaks peaks ≡ peaks_of (config_of trace) es
+  pub held : peaks.held ≡ (peaks_of (config_of trace) es).held
+  pub quarantined : peaks.quarantined ≡ (peaks_of (config_of trace) es).quarantined
+  pub reserved : peaks.reserved ≡ (peaks_of (config_of trace) es).reserved
+  pub cycles : peaks.cycles ≡ (peaks_of (config_of trace) es).cycles
+  pub ages : peaks.ages.items ≡ (peaks_of (config_of trace) es).ages
 
 -- What the turns of the caller and of the host do with cycles while a trace is played.
 -- Private functions alone cite these words.

@@ -4,8 +4,8 @@ ghost use Rattle.mk_script.specs.Grammar.{texts_of};
 ghost use Rattle.mk_trace.specs.declared.lines.Slot.{Slot};
 ghost use Rattle.mk_trace.specs.Lines as spec;
 
-use crate::lines::{EventLine, Line, Slot, WORD, event, name, number, slot_limit};
-use mk_script::{LineFault, Name, TextKind};
+use crate::lines::{EventLine, Line, Slot, WORD, event, name, number};
+use mk_script::{LineFault, Name, TextKind, Which, at_most, within};
 use std::alloc::{AllocError, Global};
 use std::marker::Model;
 
@@ -66,14 +66,17 @@ impl Draft {
     fn slot_line(&self, operands: &[&[u8]]) -> Result<Line, LineFault>
         ensures { result ≡ spec.slot_line self.now (texts_of operands.now) }
     {
-        let [name, words] = operands else {
+        let [slot, words] = operands else {
             return Err(WORD);
         };
         if !self.events.is_empty() {
             return Err(WORD);
         }
-        let slot = slot(&self.slots, name, words)?;
-        Ok(Line::Slot(slot))
+        let slot = Slot {
+            name: name(slot)?,
+            words: number(words)?,
+        };
+        Ok(Line::Slot(checked_slot(&self.slots, slot)?))
     }
 
     fn event_line(&self, word: &[u8], operands: &[&[u8]]) -> Result<Line, LineFault>
@@ -105,15 +108,6 @@ pub fn slot_number(slots: &[Slot], name: &Name) -> Option<usize>
     slots.iter().position(|slot| name.is(&slot.name))
 }
 
-/// The slot that two words say, where it may stand after these.
-fn slot(before: &[Slot], word: &[u8], words: &[u8]) -> Result<Slot, LineFault>
-    ensures { result ≡ spec.slot_from before.now word.now words.now }
-{
-    let name = name(word)?;
-    let words = number(words)?;
-    checked_slot(before, Slot { name, words })
-}
-
 /// The slot, where it may stand after these.
 fn checked_slot(slots: &[Slot], slot: Slot) -> Result<Slot, LineFault>
     ensures { result ≡ spec.checked_slot slots.now slot }
@@ -121,7 +115,8 @@ fn checked_slot(slots: &[Slot], slot: Slot) -> Result<Slot, LineFault>
     if slot_number(slots, &slot.name).is_some() {
         return Err(LineFault::Text(TextKind::Twice));
     }
-    match slot_limit(slots.len() as u64 + 1, slot.words) {
+    let count = at_most(slots.len() as u64 + 1, 64, Which::Types);
+    match count.or(within(1, slot.words, 4096, Which::Words)) {
         None => Ok(slot),
         Some(fault) => Err(fault),
     }

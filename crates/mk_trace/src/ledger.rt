@@ -3,7 +3,7 @@
 
 ghost use Rattle.std.specs.Prelude.{◌≡◌, ◌<◌, [], nat_le, not, sum_by, if◌then◌else◌, OnOk};
 ghost use Rattle.mk_core.specs.Counts.{in_a_word};
-ghost use Rattle.mk_trace.specs.Ledgers.{Notes, aged, objects_kept, risen, weighed_anew, with_one};
+ghost use Rattle.mk_trace.specs.{Ledgers.{Notes, aged, objects_kept, risen, weighed_anew}, Peaks.with_one};
 
 use mk_geom::Cell;
 use mk_never::NoMemory;

@@ -1,10 +1,11 @@
 //! The lines of a trace's text, by their words.
-ghost use Rattle.std.specs.Prelude.{◌≡◌, ◌∷◌};
+ghost use Rattle.std.specs.Prelude.{◌≡◌, ◌∷◌, []};
 ghost use Rattle.mk_script.specs.Operands as operands;
 ghost use Rattle.mk_script.specs.Grammar.{texts_of};
 ghost use Rattle.mk_trace.specs.Lines as spec;
+ghost use lib.Chars.{codes};
 
-use mk_script::{LineFault, Name, TextKind, Which, at_most, heap_limit, parse_number, within};
+use mk_script::{LineFault, Name, TextKind, heap_limit, parse_number};
 
 /// `trace PAGES RESIDENT`
 #[derive(Clone, Copy)]
@@ -80,7 +81,7 @@ pub fn header(words: &[&[u8]]) -> Result<HeapPages, LineFault>
 }
 
 fn heap_pages(pages: &[u8], resident: &[u8]) -> Result<HeapPages, LineFault>
-    ensures { result ≡ spec.heap_pages pages.now resident.now }
+    ensures { result ≡ spec.header_line_of (codes "trace" ∷ pages.now ∷ resident.now ∷ []) }
 {
     let pages = number(pages)?;
     let resident = number(resident)?;
@@ -102,7 +103,7 @@ pub fn event(word: &[u8], operands: &[&[u8]]) -> Result<EventLine, LineFault>
 }
 
 fn plain_event(word: &[u8], slot: &[u8]) -> Result<EventLine, LineFault>
-    ensures { result ≡ spec.plain_event word.now slot.now }
+    ensures { result ≡ spec.event_line_of word.now (slot.now ∷ []) }
 {
     let Some(action) = plain_action(word) else {
         return Err(WORD);
@@ -129,7 +130,7 @@ fn plain_action(word: &[u8]) -> Option<Action>
 }
 
 fn write_event(word: &[u8], slot: &[u8], index: &[u8], value: &[u8]) -> Result<EventLine, LineFault>
-    ensures { result ≡ spec.write_event word.now slot.now index.now value.now }
+    ensures { result ≡ spec.event_line_of word.now (slot.now ∷ index.now ∷ value.now ∷ []) }
 {
     if word != b"w".as_slice() {
         return Err(WORD);
@@ -141,11 +142,4 @@ fn write_event(word: &[u8], slot: &[u8], index: &[u8], value: &[u8]) -> Result<E
         slot,
         action: Action::Write { index, value },
     })
-}
-
-/// The limit that is passed by a slot of this many words, as the one of this number, counted from 1.
-pub fn slot_limit(count: u64, words: u64) -> Option<LineFault>
-    ensures { result ≡ spec.slot_limit count words }
-{
-    at_most(count, 64, Which::Types).or(within(1, words, 4096, Which::Words))
 }

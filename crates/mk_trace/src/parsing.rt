@@ -1,8 +1,7 @@
 //! The reader.
-ghost use Rattle.std.specs.Prelude.{◌≡◌, ◌≢◌, ◌≤◌, ◌<◌, ◌+◌, ◌^◌, List, length, MatchResult, Ok, Err, IfOk, IfErr};
-ghost use Rattle.mk_script.specs.Grammar.{words_of_line, texts_of, lines_of};
-ghost use Rattle.mk_trace.specs.{Grammar.written_from, Lines.{nothing_written, header_line_of, trace_line_of}};
-ghost use Rattle.mk_trace.specs.Grammar.{IsFaultOf, ReadsTraceLine, IsReadFrom, trace_of, contents_of};
+ghost use Rattle.std.specs.Prelude.{◌≡◌, ◌≢◌, ◌≤◌, ◌<◌, ◌+◌, ◌^◌, ℕ, List, length, Ok, Err, IfOk, IfErr};
+ghost use Rattle.mk_script.specs.Grammar.{texts_of, lines_of};
+ghost use Rattle.mk_trace.specs.{Grammar.{written_from, trace_of, contents_of}, Lines.nothing_written};
 ghost use Rattle.mk_trace.specs.Grammar as spec;
 
 use crate::draft::Draft;
@@ -29,22 +28,13 @@ pub fn parse_trace(alloc: Global, bytes: &[u8]) -> Result<Trace, TraceStop>
             kind: TextKind::Header,
         });
     };
-    let heap = read_header(alloc, first)?;
+    let words = split_words(alloc, first)?;
+    let heap = match header(&words) {
+        Ok(heap) => heap,
+        Err(fault) => return Err(TraceStop::at_line(1, fault)),
+    };
     let draft = read_lines(alloc, lines)?;
     at_end(alloc, heap, &draft)
-}
-
-/// Line 1.
-fn read_header(alloc: Global, line: &[u8]) -> Result<HeapPages, TraceStop>
-    ensures heap { IfOk result (λ heap. header_line_of (words_of_line line.now) ≡ Ok heap) }
-    ensures fault { IfErr result (λ stop. stop ≢ TraceStop.NoMemory
-        → IsFaultOf 1 (header_line_of (words_of_line line.now)) stop) }
-{
-    let words = split_words(alloc, line)?;
-    match header(&words) {
-        Ok(heap) => Ok(heap),
-        Err(fault) => Err(TraceStop::at_line(1, fault)),
-    }
 }
 
 /// The lines after the first.
@@ -57,31 +47,18 @@ fn read_lines(alloc: Global, lines: &[&[u8]]) -> Result<Draft, TraceStop>
     let mut draft = Draft::new(alloc);
     let mut words = Vec::new(alloc);
     for (index, line) in lines.iter().enumerate() {
-        read_line(index as u64 + 2, &mut draft, &mut words, line)?;
+        replace_words(&mut words, line)?;
+        match draft.line(&words) {
+            Ok(line) => draft.push(line)?,
+            Err(fault) => return Err(TraceStop::at_line(index as u64 + 2, fault)),
+        }
     }
     Ok(draft)
 }
 
-/// Reads a line of this number after those of the draft. Its words take the place of those of another.
-fn read_line<'a>(
-    number: u64,
-    draft: &mut Draft,
-    words: &mut Vec<&'a [u8]>,
-    line: &'a [u8],
-) -> Result<(), TraceStop>
-    ensures { MatchResult result (λ _. ReadsTraceLine draft.old (words_of_line line.now) draft.new)
-        (λ stop. stop ≢ TraceStop.NoMemory → IsFaultOf number (trace_line_of draft.old (words_of_line line.now)) stop) }
-{
-    replace_words(words, line)?;
-    match draft.line(words) {
-        Ok(line) => Ok(draft.push(line)?),
-        Err(fault) => Err(TraceStop::at_line(number, fault)),
-    }
-}
-
 /// The trace, where all lines are of the grammar.
 fn at_end(alloc: Global, heap: HeapPages, draft: &Draft) -> Result<Trace, TraceStop>
-    requires { IsReadFrom heap draft.now }
+    requires { (text : List ℕ) × (trace_of text ≡ contents_of heap draft.now) }
     ensures trace { IfOk result (λ trace. contents_of heap draft.now ≡ Ok trace) }
     ensures fault { IfErr result (λ stop. stop ≢ TraceStop.NoMemory → contents_of heap draft.now ≡ Err stop) }
 {

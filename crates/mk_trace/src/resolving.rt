@@ -77,19 +77,15 @@ fn event_on(slot: u64, words: u64, action: Action) -> Result<TraceEvent, TypeKin
         Action::Link => Ok(TraceEvent::K(slot)),
         Action::Free => Ok(TraceEvent::F(slot)),
         Action::Clear => Ok(TraceEvent::C(slot)),
-        Action::Write { index, value } => write_event(slot, words, index, value),
+        Action::Write { index, value } => {
+            if index >= words {
+                return Err(TypeKind::Offset);
+            }
+            // Word 0 isn't a number.
+            if index == 0 {
+                return Err(TypeKind::Kind);
+            }
+            Ok(TraceEvent::W { slot, index, value })
+        }
     }
-}
-
-/// A write of a number, which word 0 isn't.
-fn write_event(slot: u64, words: u64, index: u64, value: u64) -> Result<TraceEvent, TypeKind>
-    ensures { result ≡ typing.typed_write slot words index value }
-{
-    if index >= words {
-        return Err(TypeKind::Offset);
-    }
-    if index == 0 {
-        return Err(TypeKind::Kind);
-    }
-    Ok(TraceEvent::W { slot, index, value })
 }

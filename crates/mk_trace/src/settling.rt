@@ -1,7 +1,8 @@
 //! What a call has freed and released is noted.
 ghost use Rattle.std.specs.Prelude.{◌≡◌, ◌∷◌, ◌++◌, [], fold, map, if◌then◌else◌, IfOk, OnOk};
 ghost use Rattle.mk_core.specs.{Counts.{ends, in_a_word}, History.left};
-ghost use Rattle.mk_trace.specs.{Calls.CallerIsHome, Ledgers.{SettlesFreed, aged, ages_let_go, still_kept, with_one}};
+ghost use Rattle.mk_trace.specs.{Calls.CallerIsHome, Ledgers.{SettlesFreed, aged, ages_let_go, still_kept}};
+ghost use Rattle.mk_trace.specs.Peaks.{with_one};
 ghost use Rattle.mk_trace.specs.Calls.{HostOnlyLooks};
 
 use crate::ledger::{Freed, FreedObject, count_age};

@@ -5,7 +5,7 @@ use Rattle.std.proofs.lemmas.List.{replicate-append-replicate, set-append_left, 
 use Rattle.mk_sweep.proofs.Below.Laws.Vocabulary.{List, ℕ, ap, arith, cases_lt, get_or_past, inl, inr, length}
 use Rattle.mk_sweep.proofs.Below.Laws.Vocabulary.{slice_index_or, slice_set, suc, sym, zero, [], ◌++◌, ◌+◌, ◌-◌, ◌<◌}
 use Rattle.mk_sweep.proofs.Below.Laws.Vocabulary.{◌∙◌, ◌∷◌, ◌≡◌, ◌≤◌}
-use Rattle.mk_why.specs.Searching.{completed}
+use Rattle.mk_why.specs.LazyTables.{completed}
 
 -- what is read with another word for the rest
 pub read_with : {A : Type 0} → (xs : List A) (i : ℕ) {rest other x : A} → rest ≡ other → x ≡ slice_index_or xs i rest

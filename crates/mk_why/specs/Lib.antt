@@ -1,4 +1,5 @@
 pub mod Below
 pub mod Chains
+pub mod LazyTables
 pub mod Searching
 pub mod Stops

@@ -1,8 +1,8 @@
 -- The search for chains, breadth first, and the entries that are made of them. `Why` cites `IsTold`, and what its state
 -- says; only private functions cite the other words.
-use Rattle.std.specs.Prelude.{ℕ, ◌-◌, List, ◌++◌, length, replicate, ◌≡◌, ◌+◌, ◌*◌, ◌/◌, ◌%◌, ◌<◌, ◌≤◌, nat_lt}
-use Rattle.std.specs.Prelude.{if◌then◌else◌, true, false, slice_index, slice_index_or, Option, Some, None, [], ◌∷◌, map}
-use Rattle.std.specs.{Prelude.⊤, List.{Contains, Sorted.IsStrictlyIncreasing}}
+use Rattle.std.specs.Prelude.{ℕ, ◌-◌, List, ◌++◌, length, ◌≡◌, ◌+◌, ◌*◌, ◌/◌, ◌%◌, ◌<◌, ◌≤◌, nat_lt, if◌then◌else◌}
+use Rattle.std.specs.Prelude.{true, false, slice_index, slice_index_or, Option, Some, None, [], ◌∷◌, map, ⊤}
+use Rattle.std.specs.{List.Contains, List.Sorted.IsStrictlyIncreasing}
 use Rattle.mk_geom.specs.{Storages.IsWordOf, Addresses.address_of}
 use Rattle.mk_core.specs.{declared.{config.Config.Config, events.Word.Word}, Allocations.{placed_at, storage_of}}
 use Rattle.mk_core.specs.{Allocations.storage_words, Cycles.{is_scanned_allocation, PointsIntoAllocation}}
@@ -12,15 +12,6 @@ use Rattle.mk_why.specs.{Stops.{base_at, view_by}, declared.found.Way.TheVariant
 use Rattle.mk_why.specs.declared.kept.Root.{Root, TheVariants.{Global, Register}}
 use Rattle.mk_why.specs.{declared.tables.Tables.Tables, Chains.{IsChain, IsLink, IsRoot, word_of_root, IsEntryOf}}
 use Rattle.mk_why.specs.{Chains.is_kept, declared.{found.Storage.Storage, kept.Kept.Kept}}
-
--- The entries, and what those have that were never set.
-pub record TableState (A : Type 0) : Type 0 where
-  pub items : List A
-  pub rest : A
-
--- these entries, and after them the rest, up to a size
-abbrev pub completed : {A : Type 0} → List A → A → ℕ → List A
-completed entries rest size = entries ++ replicate (size - length entries) rest
 
 -- what a table has for a heap word
 abbrev pub entry_at : {A : Type 0} → List (Option A) → ℕ → Option A

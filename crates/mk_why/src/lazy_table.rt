@@ -18,7 +18,7 @@ pub(crate) struct LazyTable<T: Copy> {
 
 impl<T: Copy> Model for LazyTable<T> {
     ghost use Rattle.std.specs.Prelude.{◌≤◌, length, vec_capacity};
-    ghost use Rattle.mk_why.specs.Searching.{TableState, completed};
+    ghost use Rattle.mk_why.specs.LazyTables.{TableState, completed};
 
     ghost Value = { TableState T };
 

@@ -1,5 +1,6 @@
 use Rattle.mk_alloc.proofs.{SeekingTurns.{still_needs, tried_then}, OneCycles.{none_runs_one, none_then_one}}
-use Rattle.mk_alloc.proofs.{UnsweptTurns.part_then, rooms.make_room.Goals as goal}
+use Rattle.mk_alloc.proofs.UnsweptTurns.{part_then}
+use Rattle.mk_alloc.proofs.rooms.make_room.Goals as goal
 
 pub returns-then-placed-clause-one : goal.returns-then-placed-clause-one
 returns-then-placed-clause-one g c = none_runs_one c.place_behind_older-turn.ensures.begins

@@ -1,7 +1,8 @@
 use Rattle.mk_alloc.proofs.{Vocabulary.{Misfits, ap, cycle_ended, ◌∙◌, Holding}, OneCycles.{begin_then_ends, ends_none}}
 use Rattle.mk_alloc.proofs.{SeekingTurns.{misfits_begun, still_needs, tried_then}, UnsweptTurns.left_keeps}
 use Rattle.mk_alloc.proofs.{FinishedCycles.{begun_and_finished, never_by_none}, SaidCloses.begin_says_none}
-use Rattle.mk_alloc.proofs.{rooms.place_behind_cycle.Goals.After-begin_cycle, rooms.place_behind_cycle.Goals as goal}
+use Rattle.mk_alloc.proofs.rooms.place_behind_cycle.Goals.{After-begin_cycle}
+use Rattle.mk_alloc.proofs.rooms.place_behind_cycle.Goals as goal
 
 -- the cycle that begins
 begun : (g : _) (c : After-begin_cycle g) → Misfits c.args.turn.pass c.begin_cycle.new.turn.pass

@@ -1,7 +1,8 @@
 use Rattle.mk_alloc.proofs.OneCycles.{ends_none, looks_begins_none, none_then_none}
 use Rattle.mk_alloc.proofs.SeekingTurns.{misfits_seen, phase_seen, seen_at, still_needs, tried_then}
 use Rattle.mk_alloc.proofs.{UnsweptTurns.{kinds_keep, kinds_then}, Vocabulary.{Misfits, SeesNone, arith, is_begin}}
-use Rattle.mk_alloc.proofs.{Vocabulary.{refl, sym, ◌∙◌}, rooms.place_behind_older.Goals as goal}
+use Rattle.mk_alloc.proofs.Vocabulary.{refl, sym, ◌∙◌}
+use Rattle.mk_alloc.proofs.rooms.place_behind_older.Goals as goal
 use Rattle.mk_alloc.proofs.rooms.place_behind_older.Goals.{After-is_cycle_on-is_on}
 
 -- the look at the phase

@@ -2,7 +2,7 @@ use Rattle.mk_caller.proofs.Below.Laws.Vocabulary.{Page, ap, false, sym, ◌∙�
 use Rattle.mk_alloc.proofs.{ObjectVocabulary.{now_of, option_map}, FoundPlaces.{cell_is_there, cell_told}}
 use Rattle.mk_alloc.proofs.seeking.free_cell.Goals as goal
 use Rattle.mk_alloc.proofs.seeking.free_cell.Goals.{After-lowest_free}
-use Rattle.mk_books.specs.KnownPages.{free_cell_on}
+use Rattle.mk_core.specs.Below.Books.KnownPages.{free_cell_on}
 
 -- the lowest free cell by the used word is that of the page
 told : (c : After-lowest_free) → option_map (λ index. record { page = c.args.page; index = index; carve = false })

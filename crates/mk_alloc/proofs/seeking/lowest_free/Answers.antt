@@ -1,7 +1,7 @@
 use Rattle.std.{proofs.Common.w64, proofs.Math.Nat.div-le_self, specs.Bool.then_some, specs.Int.trailing_ones}
 use Rattle.mk_caller.proofs.Below.Laws.Vocabulary.{ap, nat_lt, sym, ◌∙◌}
 use Rattle.mk_alloc.proofs.seeking.lowest_free.Goals as goal
-use Rattle.mk_books.proofs.UsedBitLemmas.{first_where-bits_of}
+use Rattle.mk_core.proofs.Below.Books.UsedBitLemmas.{first_where-bits_of}
 
 pub returns : goal.returns
 returns c =

@@ -1,6 +1,6 @@
 use Rattle.mk_caller.proofs.Below.Laws.Vocabulary.{Header, arith, false, subst, sym, word_of, ℕ}
 use Rattle.mk_caller.specs.Below.Words.TurnSteps.{MayStoreHeads, StoresHeads}
-use Rattle.mk_books.specs.KnownPages.{run_word}
+use Rattle.mk_core.specs.Below.Books.KnownPages.{run_word}
 use Rattle.mk_alloc.proofs.WipedRuns.{may_unmap_all, unmapped_all, unmaps_to}
 use Rattle.mk_alloc.proofs.unmapping.unmap_run.Goals as goal
 

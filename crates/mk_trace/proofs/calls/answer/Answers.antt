@@ -1,4 +1,4 @@
-use Rattle.mk_laws.proofs.Vocabulary.{arith, sym, ◌∙◌}
+use Rattle.mk_heap.proofs.Below.Laws.Vocabulary.{arith, sym, ◌∙◌}
 use Rattle.mk_trace.proofs.{LedgerCalls.{ends_over, held_beside, keeps_behind, keeps_beside}, ExactPlays.exact_over}
 use Rattle.mk_trace.proofs.calls.answer.Goals as goal
 

@@ -1,7 +1,7 @@
 use Rattle.mk_trace.proofs.{Vocabulary.{HostState, PassState}, ExactPlays.call_stays_exact}
 use Rattle.mk_trace.proofs.OneCaller.{joined_home, made_admits, made_alone, made_exists, made_seats}
 use Rattle.mk_trace.proofs.{FreedCalls.call_does, JoinedCalls.Joined, calls.call.Goals.After-join_caller}
-use Rattle.mk_laws.proofs.Vocabulary.{ap, arith, ◌∙◌}
+use Rattle.mk_heap.proofs.Below.Laws.Vocabulary.{ap, arith, ◌∙◌}
 use Rattle.mk_trace.proofs.calls.call.Goals as goal
 
 pub answer_to-answer-requires-clause-may : goal.answer_to-answer-requires-clause-may

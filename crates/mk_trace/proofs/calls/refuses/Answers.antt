@@ -1,7 +1,7 @@
 use Rattle.std.proofs.lemmas.List.{get_or_default}
 use Rattle.mk_trace.proofs.{Vocabulary.Op, LaterOps.{called_all, called_first, called_one_more, may_come_now}}
 use Rattle.mk_trace.proofs.{FewEvents.few_later, FreedSlots.frees_now}
-use Rattle.mk_laws.proofs.Vocabulary.{Bool, List, ap, arith, false, get_or, ◌||◌, ◌∙◌}
+use Rattle.mk_heap.proofs.Below.Laws.Vocabulary.{Bool, List, ap, arith, false, get_or, ◌||◌, ◌∙◌}
 use Rattle.mk_never.specs.declared.operations.Op.TheVariants.{New}
 use Rattle.mk_trace.proofs.calls.refuses.Goals as goal
 

@@ -1,5 +1,5 @@
 use Rattle.mk_trace.{proofs.{Vocabulary.{StayExact, ends}, LaterOps.AreCalled}, specs.Calls.{IsBetweenCalls}}
-use Rattle.mk_laws.proofs.Vocabulary.{◌+◌, ◌≤◌}
+use Rattle.mk_heap.proofs.Below.Laws.Vocabulary.{◌+◌, ◌≤◌}
 use Rattle.mk_trace.proofs.calls.refuses.Given as goal
 
 -- the first operation was called, and this many of those after it

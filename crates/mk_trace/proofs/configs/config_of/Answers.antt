@@ -1,5 +1,5 @@
 use Rattle.mk_trace.proofs.{Vocabulary.IsWithinLimits, Playable.is_playable, SlotTypes.config_is}
-use Rattle.mk_laws.proofs.Vocabulary.{length, refl, subst}
+use Rattle.mk_heap.proofs.Below.Laws.Vocabulary.{length, refl, subst}
 use Rattle.mk_trace.proofs.configs.config_of.Goals as goal
 
 pub slot_globals-requires : goal.slot_globals-requires

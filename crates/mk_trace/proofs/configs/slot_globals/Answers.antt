@@ -1,4 +1,5 @@
-use Rattle.mk_laws.proofs.Vocabulary.{List, ℕ, ap, append_assoc, arith, length, sym, [], ◌++◌, ◌+◌, ◌-◌, ◌∙◌, ◌∷◌}
+use Rattle.mk_heap.proofs.Below.Laws.Vocabulary.{List, ℕ, ap, append_assoc, arith, length, sym, [], ◌++◌, ◌+◌, ◌-◌, ◌∙◌}
+use Rattle.mk_heap.proofs.Below.Laws.Vocabulary.{◌∷◌}
 use Rattle.mk_trace.proofs.{Vocabulary.{length-append, range_with_len}, SlotTypes.range_more}
 use Rattle.mk_trace.proofs.configs.slot_globals.Goals as goal
 

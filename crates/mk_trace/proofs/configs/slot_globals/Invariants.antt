@@ -1,4 +1,4 @@
-use Rattle.mk_laws.proofs.Vocabulary.{length, ◌++◌, ◌-◌, ◌≡◌}
+use Rattle.mk_heap.proofs.Below.Laws.Vocabulary.{length, ◌++◌, ◌-◌, ◌≡◌}
 use Rattle.mk_trace.proofs.Vocabulary.{range_with_len}
 use Rattle.mk_trace.proofs.configs.slot_globals.Given as goal
 

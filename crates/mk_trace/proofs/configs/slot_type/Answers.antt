@@ -1,6 +1,6 @@
 use Rattle.std.proofs.lemmas.List.{replicate_more}
 use Rattle.mk_trace.proofs.Vocabulary.{Kind, To, replicate}
-use Rattle.mk_laws.proofs.Vocabulary.{List, Number as Num, ℕ, ap, arith, [], ◌++◌, ◌-◌, ◌<◌, ◌∙◌, ◌∷◌, ◌≤◌}
+use Rattle.mk_heap.proofs.Below.Laws.Vocabulary.{List, Number as Num, ℕ, ap, arith, [], ◌++◌, ◌-◌, ◌<◌, ◌∙◌, ◌∷◌, ◌≤◌}
 use Rattle.mk_trace.proofs.configs.slot_type.Goals as goal
 
 pub loop-word-preserved : goal.loop-word-preserved

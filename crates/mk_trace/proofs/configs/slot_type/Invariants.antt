@@ -1,5 +1,5 @@
 use Rattle.mk_trace.proofs.Vocabulary.{To, replicate}
-use Rattle.mk_laws.proofs.Vocabulary.{Number as Num, ◌-◌, ◌∷◌, ◌≡◌, ◌≤◌}
+use Rattle.mk_heap.proofs.Below.Laws.Vocabulary.{Number as Num, ◌-◌, ◌∷◌, ◌≡◌, ◌≤◌}
 use Rattle.mk_trace.proofs.configs.slot_type.Given as goal
 
 -- a pointer, and a number for each word so far

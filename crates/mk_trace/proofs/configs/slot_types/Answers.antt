@@ -1,5 +1,5 @@
 use Rattle.std.proofs.lemmas.List.{at_drop_all}
-use Rattle.mk_laws.proofs.Vocabulary.{List, ap, append-nil, append_assoc, drop, sym, [], ◌++◌, ◌+◌, ◌∙◌, ◌∷◌}
+use Rattle.mk_heap.proofs.Below.Laws.Vocabulary.{List, ap, append-nil, append_assoc, drop, sym, [], ◌++◌, ◌+◌, ◌∙◌, ◌∷◌}
 use Rattle.mk_trace.proofs.Vocabulary.{Kind, at_drop_more, types_from}
 use Rattle.mk_trace.proofs.configs.slot_types.Goals as goal
 

@@ -1,5 +1,5 @@
 use Rattle.mk_trace.proofs.Vocabulary.{types_from}
-use Rattle.mk_laws.proofs.Vocabulary.{drop, ◌++◌, ◌≡◌}
+use Rattle.mk_heap.proofs.Below.Laws.Vocabulary.{drop, ◌++◌, ◌≡◌}
 use Rattle.mk_trace.proofs.configs.slot_types.Given as goal
 
 -- the types so far, and those of the slots that are left

@@ -1,4 +1,4 @@
-use Rattle.mk_laws.proofs.Vocabulary.{length, ◌<◌}
+use Rattle.mk_heap.proofs.Below.Laws.Vocabulary.{length, ◌<◌}
 use Rattle.mk_trace.proofs.{Vocabulary.rules, CountedAges.set_there}
 use Rattle.mk_trace.proofs.ledger.count_age.Goals as goal
 

@@ -1,5 +1,5 @@
 use Rattle.mk_trace.proofs.Vocabulary.{with_one}
-use Rattle.mk_laws.proofs.Vocabulary.{drop, take, ◌++◌, ◌≡◌}
+use Rattle.mk_heap.proofs.Below.Laws.Vocabulary.{drop, take, ◌++◌, ◌≡◌}
 use Rattle.mk_trace.proofs.ledger.count_age.Given as goal
 
 -- all ages so far are less

@@ -1,5 +1,5 @@
 use Rattle.mk_trace.proofs.{Vocabulary.FreedObject, SettledLedgers.{all_summed, total_more}}
-use Rattle.mk_laws.proofs.Vocabulary.{◌∙◌}
+use Rattle.mk_heap.proofs.Below.Laws.Vocabulary.{◌∙◌}
 use Rattle.mk_trace.proofs.ledger.totals_of.Goals as goal
 
 pub loop-object-preserved : goal.loop-object-preserved

@@ -1,5 +1,5 @@
 use Rattle.mk_trace.proofs.Vocabulary.{FreedObject, in_a_word, sum_by}
-use Rattle.mk_laws.proofs.Vocabulary.{take, ◌≡◌}
+use Rattle.mk_heap.proofs.Below.Laws.Vocabulary.{take, ◌≡◌}
 use Rattle.mk_trace.proofs.ledger.totals_of.Given as goal
 
 -- those of the objects so far

@@ -1,4 +1,4 @@
-use Rattle.mk_laws.proofs.Vocabulary.{arith, sym}
+use Rattle.mk_heap.proofs.Below.Laws.Vocabulary.{arith, sym}
 use Rattle.mk_trace.proofs.ReadLines.{no_event}
 use Rattle.mk_trace.proofs.lines.event.Goals as goal
 

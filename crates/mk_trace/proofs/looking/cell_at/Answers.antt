@@ -1,5 +1,5 @@
 use Rattle.mk_trace.proofs.Vocabulary.{WordsState, cell_at, header_at, is_heap_address, left}
-use Rattle.mk_laws.proofs.Vocabulary.{ℕ, ap, false, subst, ◌∙◌, ◌≡◌}
+use Rattle.mk_heap.proofs.Below.Laws.Vocabulary.{ℕ, ap, false, subst, ◌∙◌, ◌≡◌}
 use Rattle.mk_trace.proofs.FoundCells.{cell_found, nothing_found}
 use Rattle.mk_trace.proofs.looking.cell_at.Goals as goal
 

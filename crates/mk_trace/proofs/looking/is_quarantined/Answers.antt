@@ -1,4 +1,4 @@
-use Rattle.mk_laws.proofs.Vocabulary.{arith}
+use Rattle.mk_heap.proofs.Below.Laws.Vocabulary.{arith}
 use Rattle.mk_trace.proofs.FoundCells.{none_freed_there, quarantine_tells}
 use Rattle.mk_trace.proofs.looking.is_quarantined.Goals as goal
 

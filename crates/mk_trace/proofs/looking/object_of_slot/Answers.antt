@@ -1,5 +1,5 @@
 use Rattle.mk_trace.proofs.Vocabulary.{HostOnlyLooks, left, nat_tests, pointed_cell}
-use Rattle.mk_laws.proofs.Vocabulary.{arith, slice_index, ◌≡◌}
+use Rattle.mk_heap.proofs.Below.Laws.Vocabulary.{arith, slice_index, ◌≡◌}
 use Rattle.mk_trace.proofs.FoundCells.{cell_within, freed_looked, freed_object, header_looked, looks_twice, no_object}
 use Rattle.mk_trace.proofs.FoundCells.{pointed_looked, unfreed_object}
 use Rattle.mk_trace.proofs.looking.object_of_slot.Goals.{After-cell_at, After-is_quarantined}

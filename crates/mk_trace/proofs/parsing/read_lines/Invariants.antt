@@ -1,5 +1,5 @@
 use Rattle.mk_trace.proofs.Vocabulary.{nothing_written, texts_of, written_from}
-use Rattle.mk_laws.proofs.Vocabulary.{drop, ◌+◌, ◌≡◌}
+use Rattle.mk_heap.proofs.Below.Laws.Vocabulary.{drop, ◌+◌, ◌≡◌}
 use Rattle.mk_trace.proofs.parsing.read_lines.Given as goal
 
 -- the lines that are left decide

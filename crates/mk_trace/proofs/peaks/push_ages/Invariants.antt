@@ -1,5 +1,5 @@
 use Rattle.std.specs.String.{string_bytes}
-use Rattle.mk_laws.proofs.Vocabulary.{drop, ◌++◌, ◌≡◌}
+use Rattle.mk_heap.proofs.Below.Laws.Vocabulary.{drop, ◌++◌, ◌≡◌}
 use Rattle.mk_trace.specs.Peaks.{text_of_ages}
 use Rattle.mk_trace.proofs.peaks.push_ages.Given as goal
 

@@ -1,5 +1,5 @@
 use Rattle.std.specs.{Fmt.decimal, String.string_bytes}
-use Rattle.mk_laws.proofs.Vocabulary.{[], ◌∷◌}
+use Rattle.mk_heap.proofs.Below.Laws.Vocabulary.{[], ◌∷◌}
 use Rattle.mk_trace.proofs.{Vocabulary.codes, ReadLines.{on_ok, six_lines}}
 use Rattle.mk_script.specs.Canonical.{line_text}
 use Rattle.mk_trace.proofs.peaks.push_counts.Goals as goal

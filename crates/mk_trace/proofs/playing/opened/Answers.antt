@@ -1,5 +1,5 @@
 use Rattle.mk_trace.proofs.Vocabulary.{CallerIsHome, Config, HostState, WordsState}
-use Rattle.mk_laws.proofs.Vocabulary.{ap, ◌∙◌}
+use Rattle.mk_heap.proofs.Below.Laws.Vocabulary.{ap, ◌∙◌}
 use Rattle.mk_trace.proofs.{HeldCalls.opened_empty, OneCaller.first_home, Played.first_seats, Played.joined_first}
 use Rattle.mk_trace.proofs.playing.opened.Goals as goal
 

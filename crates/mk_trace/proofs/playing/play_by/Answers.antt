@@ -1,6 +1,6 @@
 use Rattle.mk_trace.proofs.Vocabulary.{AllTurnsAreExact, Config, quarantined_words, reserved_words}
-use Rattle.mk_laws.proofs.Vocabulary.{ap, arith, length, subst, sym, ◌∙◌}
-use Rattle.mk_trace.proofs.LedgerCalls.{ages_of, first_held, first_idle, first_keeps, most_of, peaks_by}
+use Rattle.mk_heap.proofs.Below.Laws.Vocabulary.{ap, arith, length, subst, sym, ◌∙◌}
+use Rattle.mk_trace.proofs.LedgerCalls.{ages_of, first_held, first_idle, first_keeps, most_of}
 use Rattle.mk_trace.proofs.Played.{closed, refused_at}
 use Rattle.mk_trace.proofs.{ExactPlays.first_exact, FewEvents.none_ended, HeldCalls.most_told, OneCaller.home_joined}
 use Rattle.mk_trace.proofs.playing.play_by.Goals as goal
@@ -29,13 +29,14 @@ returns-clause-peaks g c =
     record {
       events = ap length c.events.ensures.events;
       refused = refused_at _ c.close-report.ensures.history c.in_ok-refused.ensures.played;
-      of_history =
-          peaks_by _ _ (most_told trace d es _ c.held_at_most-held.result c.close-report.ensures.history at
-          (c.held_at_most-held.ensures.same ∙ c.in_ok-refused.ensures.between.held) c.held_at_most-held.ensures.fits)
-          (most_of trace d quarantined_words es _ _ c.close-report.ensures.history at keeps.quarantined.most)
-          (most_of trace d reserved_words es _ _ c.close-report.ensures.history at keeps.reserved.most)
-          c.close-report.ensures.counts.cycles
-          (ages_of trace d es c.close-report.ensures.history at (played g c).whole.history keeps.ages);
+      held =
+          most_told trace d es _ c.held_at_most-held.result c.close-report.ensures.history at
+          (c.held_at_most-held.ensures.same ∙ c.in_ok-refused.ensures.between.held) c.held_at_most-held.ensures.fits;
+      quarantined =
+          most_of trace d quarantined_words es _ _ c.close-report.ensures.history at keeps.quarantined.most;
+      reserved = most_of trace d reserved_words es _ _ c.close-report.ensures.history at keeps.reserved.most;
+      cycles = c.close-report.ensures.counts.cycles;
+      ages = ages_of trace d es c.close-report.ensures.history at (played g c).whole.history keeps.ages;
     }
 
 pub play_events-requires-clause-between : goal.play_events-requires-clause-between

@@ -3,7 +3,7 @@ use Rattle.mk_trace.proofs.{Vocabulary.{A, IsEventOf, IsPlayable}, FewEvents.few
 use Rattle.mk_trace.proofs.Played.{event_at, may_be_played, next_played, null_between, one_counted, played_all}
 use Rattle.mk_trace.proofs.{Played.{played_first, slot_is_global, still_few}, FreedSlots.frees_its_slot}
 use Rattle.mk_trace.proofs.{Playable.is_playable, playing.play_events.Goals.In-loop-event}
-use Rattle.mk_laws.proofs.Vocabulary.{arith, get_or, refl}
+use Rattle.mk_heap.proofs.Below.Laws.Vocabulary.{arith, get_or, refl}
 use Rattle.mk_trace.proofs.playing.play_events.Goals as goal
 
 -- Before an event: the trace is playable, the event is one of its, and a history came before.

@@ -1,5 +1,5 @@
 use Rattle.mk_trace.{proofs.Vocabulary.{StayExact, ends}, specs.{Calls.HasPlayed, Calls.IsBetweenCalls}}
-use Rattle.mk_laws.proofs.Vocabulary.{take, ◌*◌, ◌≤◌}
+use Rattle.mk_heap.proofs.Below.Laws.Vocabulary.{take, ◌*◌, ◌≤◌}
 use Rattle.mk_trace.proofs.playing.play_events.Given as goal
 
 -- this many events were played

@@ -1,4 +1,4 @@
-use Rattle.mk_laws.proofs.Vocabulary.{ap, length, sym, ◌<◌, ◌∙◌}
+use Rattle.mk_heap.proofs.Below.Laws.Vocabulary.{ap, length, sym, ◌<◌, ◌∙◌}
 use Rattle.mk_trace.proofs.{Vocabulary.{rules, slot_number}, SlotNumbers.number_within, resolving.event.Goals.In-Some}
 use Rattle.mk_trace.proofs.resolving.event.Goals as goal
 

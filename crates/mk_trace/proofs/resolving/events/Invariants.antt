@@ -1,5 +1,5 @@
 use Rattle.mk_trace.proofs.Vocabulary.{events_from}
-use Rattle.mk_laws.proofs.Vocabulary.{drop, [], ◌+◌, ◌≡◌}
+use Rattle.mk_heap.proofs.Below.Laws.Vocabulary.{drop, [], ◌+◌, ◌≡◌}
 use Rattle.mk_trace.proofs.resolving.events.Given as goal
 
 -- the lines that are left decide

@@ -1,4 +1,4 @@
-use Rattle.mk_laws.proofs.Vocabulary.{arith, ◌-◌}
+use Rattle.mk_heap.proofs.Below.Laws.Vocabulary.{arith, ◌-◌}
 use Rattle.mk_trace.proofs.SlotNumbers.{all_put, none_put, one_more}
 use Rattle.mk_trace.proofs.resolving.slot_numbers.Goals as goal
 

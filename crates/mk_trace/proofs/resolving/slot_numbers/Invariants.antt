@@ -1,4 +1,4 @@
-use Rattle.mk_laws.proofs.Vocabulary.{drop}
+use Rattle.mk_heap.proofs.Below.Laws.Vocabulary.{drop}
 use Rattle.mk_trace.proofs.SlotNumbers.{AreNumbersFrom}
 use Rattle.mk_trace.proofs.resolving.slot_numbers.Given as goal
 

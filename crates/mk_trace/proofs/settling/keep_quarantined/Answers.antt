@@ -1,6 +1,6 @@
 use Rattle.mk_trace.proofs.{Vocabulary.left, SettledLedgers.{ages_all, ages_more, kept_all, kept_more}}
 use Rattle.mk_trace.proofs.FoundCells.{freed_looked, looks_twice}
-use Rattle.mk_laws.proofs.Vocabulary.{◌∙◌}
+use Rattle.mk_heap.proofs.Below.Laws.Vocabulary.{◌∙◌}
 use Rattle.mk_trace.proofs.settling.keep_quarantined.Goals as goal
 
 pub loop-object-preserved : goal.loop-object-preserved

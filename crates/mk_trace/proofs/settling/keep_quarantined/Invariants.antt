@@ -1,5 +1,5 @@
 use Rattle.mk_trace.proofs.Vocabulary.{CallerIsHome, HostOnlyLooks, aged, fold, left, still_kept, with_one}
-use Rattle.mk_laws.proofs.Vocabulary.{map, take, ◌≡◌}
+use Rattle.mk_heap.proofs.Below.Laws.Vocabulary.{map, take, ◌≡◌}
 use Rattle.mk_trace.specs.Ledgers.{ages_let_go}
 use Rattle.mk_trace.proofs.settling.keep_quarantined.Given as goal
 

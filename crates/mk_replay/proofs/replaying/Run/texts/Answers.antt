@@ -1,6 +1,6 @@
-use Rattle.mk_replay.proofs.Vocabulary.{AreFirstTexts, IsPlayerOf, config_of, rules, served_to}
+use Rattle.mk_replay.proofs.Vocabulary.{IsPlayerOf, config_of, rules, served_to}
 use Rattle.mk_laws.proofs.Vocabulary.{ℕ, get_or, length, subst, sym, ◌<◌, ◌≡◌}
-use Rattle.mk_replay.{proofs.RunLaws.texts_push, specs.Replays.IsReplayedText}
+use Rattle.mk_replay.{proofs.RunLaws.{AreFirstTexts, texts_push}, specs.Replays.IsReplayedText}
 use Rattle.mk_replay.proofs.replaying.Run.texts.Goals as goal
 
 pub loop-player-preserved : goal.loop-player-preserved
@@ -17,8 +17,7 @@ loop-player-preserved c = record {
       let t = c.in_ok-text.ensures program es n is in
       subst (AreFirstTexts program es) (sym c.in_ok-push.ensures.items)
       (texts_push texts c.in_ok-text.text (c.loop-player.invariant.texts program es h)
-      (subst (λ (i : ℕ). IsReplayedText program es i c.in_ok-text.text.bytes.items c.in_ok-text.text.ops
-      c.in_ok-text.text.refused) (sym c.loop-player.invariant.count) t));
+      (subst (λ (i : ℕ). IsReplayedText program es i c.in_ok-text.text) (sym c.loop-player.invariant.count) t));
 }
 
 pub returns : goal.returns

@@ -1,4 +1,4 @@
-use Rattle.mk_replay.proofs.Vocabulary.{AreFirstTexts, ArePlayersOf, Event, Item}
+use Rattle.mk_replay.proofs.{Vocabulary.{ArePlayersOf, Event, Item}, RunLaws.AreFirstTexts}
 use Rattle.mk_laws.proofs.Vocabulary.{List, length, ◌≡◌}
 use Rattle.mk_replay.proofs.replaying.Run.texts.Given as goal
 

@@ -1,6 +1,6 @@
 use Rattle.std.proofs.Common.{replicate, take}
 use Rattle.mk_sweep.proofs.Below.Laws.Vocabulary.{List, ap, arith, length, ◌++◌, ◌-◌, ◌<◌, ◌≡◌, ◌≤◌}
-use Rattle.mk_why.{proofs.LazyTables.{completed_length, set_past, set_within}, specs.Searching.{TableState}}
+use Rattle.mk_why.{proofs.LazyTables.{completed_length, set_past, set_within}, specs.LazyTables.{TableState}}
 use Rattle.mk_why.proofs.lazy_table.LazyTable.set.Goals as goal
 
 pub returns-then-len-place-clause-items : goal.returns-then-len-place-clause-items
