@@ -96,6 +96,26 @@ fn take_answer(
     take_any_answer(alloc, feed, counts, answer)
 }
 
+/// Answers an operation that was put off, as `take_answer` does. Mostly it was done, which is told before all else.
+#[inline(always)]
+fn take_late_answer(
+    alloc: Global,
+    feed: &mut Feed,
+    counts: &mut Counts,
+    answer: Answer,
+) -> Result<(), NoMemory>
+    requires waiting { IsWaiting feed.old }
+    requires room { CountsHaveRoom counts.old }
+    ensures takes { OnOk result
+        (ScriptTakesAnswer answer (script_of feed.old counts.old) (script_of feed.new counts.new)) }
+    ensures nearer { OnOk result (work_left feed.new < work_left feed.old) }
+{
+    if let Answer::Done = answer {
+        return take_answer(alloc, feed, counts, Answer::Done);
+    }
+    take_any_answer(alloc, feed, counts, answer)
+}
+
 /// The text of a script so far.
 fn text_of(alloc: Global, feed: &Feed, counts: Counts) -> Result<Text, NoMemory>
     ensures bytes { (program : List Item) (k : ℕ) (answers : List Answer)
@@ -147,12 +167,17 @@ pub fn run_script<E: Engine, P: Pace, R: Threads + Wait + Sync>(
         let instruction = counts.ops;
         pace.before(k, instruction);
         // Matched here and not by `answer_to`, so that each kind of answer goes on to the script by a way of its own.
-        let answer = match answer_at_once(caller, op) {
-            Some(answer) => answer,
-            None => answer_put_off(rt, caller, &mut engine, op),
-        };
-        pace.answered(k, instruction);
-        take_answer(alloc, &mut feed, &mut counts, answer)?;
+        match answer_at_once(caller, op) {
+            Some(answer) => {
+                pace.answered(k, instruction);
+                take_answer(alloc, &mut feed, &mut counts, answer)?;
+            }
+            None => {
+                let answer = answer_put_off(rt, caller, &mut engine, op);
+                pace.answered(k, instruction);
+                take_late_answer(alloc, &mut feed, &mut counts, answer)?;
+            }
+        }
     }
     text_of(alloc, &feed, counts)
 }

@@ -2,8 +2,9 @@ use Rattle.mk_laws.proofs.Vocabulary.{ap, arith, subst, sym, [], ◌∙◌, ◌�
 use Rattle.mk_run.proofs.Vocabulary.{IsChecked, PassState, StaysAdmitted, answers_in, keeps_then, rules}
 use Rattle.mk_run.proofs.ScriptCalls.{asked_stays_admitted, exists_on, follows_now, has_room, refused_within, runs_on}
 use Rattle.mk_run.proofs.{ScriptCalls.seat_is, AtOnceOrLater.{IsAnsweredAs, answered_at_once, answered_later}}
-use Rattle.mk_run.proofs.scripts.run_script.Goals.{In-None, In-Some, Joined-answer_at_once, in-None}
-use Rattle.mk_run.{proofs.scripts.run_script.Goals.{in-Some-answer_at_once}, specs.Running.{script_of}}
+use Rattle.mk_run.proofs.scripts.run_script.Goals.{After-answer_put_off-answer, In-None, In-Some}
+use Rattle.mk_run.proofs.scripts.run_script.Goals.{In-Some-answer_at_once}
+use Rattle.mk_run.specs.Running.{script_of}
 use Rattle.mk_heap.proofs.{Below.Objects.UnsweptTurns.keeps_still, Dispatched.{put_off_waits, stays_admitted_after}}
 use Rattle.mk_heap.proofs.Dispatched.{then_seen}
 use Rattle.mk_run.proofs.scripts.run_script.Goals as goal
@@ -26,23 +27,24 @@ pub answer_at_once-requires-clause-admitted : goal.answer_at_once-requires-claus
 answer_at_once-requires-clause-admitted g c =
     next_admitted g (goal.at.answer_at_once-requires-clause-admitted g c).In-Some
 
--- the operation is answered, at once or later
-joined : (g : _) (c : Joined-answer_at_once g)
+-- The operation is answered at once,
+at_once : (g : _) (c : In-Some-answer_at_once g)
     → IsAnsweredAs g.E.Engine.ways
     c.instructions.caller.pass
-    c.in-Some.op c.match-answer_at_once.answer c.match-answer_at_once.caller
-joined g c =
-    let q = c.answer_at_once.new.caller in
+    c.in-Some.op c.in-Some-answer_at_once.answer c.answer_at_once.new.caller
+at_once g c =
     let now = c.answer_at_once.ensures in
-    elim c.match-answer_at_once.branch [
-      | in-Some-answer_at_once w ↦
-          rw (w.caller-is, w.answer-is)
-          (answered_at_once q now.home w.in-Some-answer_at_once.ensures.answers now.beside)
-      | in-None w ↦
-          let later = w.answer_put_off-answer in
-          rw (w.caller-is, w.answer-is) (answered_later q later.new.caller w.in-None.ensures.put_off
-          later.ensures.home later.ensures.answers later.ensures.keeps)
-    ]
+    answered_at_once c.answer_at_once.new.caller now.home c.in-Some-answer_at_once.ensures.answers now.beside
+
+-- or later.
+later : (g : _) (c : After-answer_put_off-answer g)
+    → IsAnsweredAs g.E.Engine.ways
+    c.instructions.caller.pass
+    c.in-Some.op c.answer_put_off-answer.result c.answer_put_off-answer.new.caller
+later g c =
+    let done = c.answer_put_off-answer in
+    answered_later c.answer_at_once.new.caller done.new.caller c.in-None.ensures.put_off done.ensures.home
+    done.ensures.answers done.ensures.keeps
 
 -- what the pass is where an operation was put off
 put_off : (g : _) (c : In-None g)
@@ -79,42 +81,88 @@ take_answer-requires-clause-room g c =
     record { well_typed = known.well_typed; of_some_text = known.of_some_text } in
     has_room c.instructions.feed c.instructions.counts checked c.instructions.invariant.running.fed
 
+pub take_late_answer-requires-clause-room : goal.take_late_answer-requires-clause-room
+take_late_answer-requires-clause-room g c =
+    let known = c.program-well_typed.ensures in
+    let checked : IsChecked c.args.program.now =
+    record { well_typed = known.well_typed; of_some_text = known.of_some_text } in
+    has_room c.instructions.feed c.instructions.counts checked c.instructions.invariant.running.fed
+
+pub instructions-preserved-in-Continue-1 : goal.instructions-preserved-in-Continue-1
+instructions-preserved-in-Continue-1 g c =
+    let p = c.args.caller.now.pass in
+    let q = c.instructions.caller.pass in
+    let program = c.args.program.now in
+    let k = c.args.k in
+    let i = c.instructions.invariant in
+    let run = i.running in
+    let seat = seat_is p k run.is (c.instructions.caller.in_order i.home) c.requires.number in
+    let next = sym (c.in-Some.ensures.next program k (answers_in p.table.config k q.seen) run.fed.feed) in
+    let now = c.answer_at_once.ensures in
+    let j = answered_at_once c.answer_at_once.new.caller now.home c.in-Some-answer_at_once.ensures.answers now.beside in
+    let on = runs_on run seat c.in-Some.op next (script_of c.take_answer.new.feed c.take_answer.new.counts) j.answers
+    c.in_ok-take_answer-in-Some-answer_at_once.ensures.takes in
+    record {
+      home = j.home;
+      running = on;
+      made_for = i.made_for;
+      refused = refused_within on.fed;
+      keeps = keeps_then run.is i.keeps j.keeps;
+    }
+
 pub instructions-preserved : goal.instructions-preserved
 instructions-preserved g c =
     let p = c.args.caller.now.pass in
     let q = c.instructions.caller.pass in
     let program = c.args.program.now in
     let k = c.args.k in
-    let run = c.instructions.invariant.running in
-    let j = joined g (goal.at.instructions-preserved g c).Joined-answer_at_once in
-    let after = script_of c.take_answer.new.feed c.take_answer.new.counts in
-    let on = runs_on run
-    (seat_is p k run.is (c.instructions.caller.in_order c.instructions.invariant.home) c.requires.number) c.in-Some.op
-    (sym (c.in-Some.ensures.next program k (answers_in p.table.config k q.seen) run.fed.feed)) after j.answers
-    c.in_ok-take_answer.ensures.takes in
+    let i = c.instructions.invariant in
+    let run = i.running in
+    let seat = seat_is p k run.is (c.instructions.caller.in_order i.home) c.requires.number in
+    let next = sym (c.in-Some.ensures.next program k (answers_in p.table.config k q.seen) run.fed.feed) in
+    let done = c.answer_put_off-answer in
+    let j = answered_later c.answer_at_once.new.caller done.new.caller c.in-None.ensures.put_off done.ensures.home
+    done.ensures.answers done.ensures.keeps in
+    let on = runs_on run seat c.in-Some.op next
+    (script_of c.take_late_answer.new.feed c.take_late_answer.new.counts) j.answers
+    c.in_ok-take_late_answer-in-None.ensures.takes in
     record {
       home = j.home;
       running = on;
-      made_for = elim c.match-answer_at_once.branch [
-        | in-Some-answer_at_once w ↦ rw w.engine-is c.instructions.invariant.made_for
-        | in-None w ↦ cc (w.engine-is, w.answer_put_off-answer.ensures.made_for, c.instructions.invariant.made_for)
-      ];
+      made_for = done.ensures.made_for ∙ i.made_for;
       refused = refused_within on.fed;
-      keeps = keeps_then run.is c.instructions.invariant.keeps j.keeps;
+      keeps = keeps_then run.is i.keeps j.keeps;
     }
 
-pub returns-in_err-take_answer : goal.returns-in_err-take_answer
-returns-in_err-take_answer g c =
+pub returns-in_err-take_answer-in-Some-answer_at_once : goal.returns-in_err-take_answer-in-Some-answer_at_once
+returns-in_err-take_answer-in-Some-answer_at_once g c =
     let p = c.args.caller.now.pass in
-    let q = c.instructions.caller.pass in
     let program = c.args.program.now in
     let k = c.args.k in
     let run = c.instructions.invariant.running in
-    let j = joined g (goal.at.returns-in_err-take_answer g c).Joined-answer_at_once in
-    let r = c.match-answer_at_once.caller.pass in
+    let j = at_once g (goal.at.returns-in_err-take_answer-in-Some-answer_at_once g c).In-Some-answer_at_once in
     record {
       home = j.home;
-      pass = then_seen p q r run.is j.answers.is;
+      pass = then_seen p c.instructions.caller.pass c.answer_at_once.new.caller.pass run.is j.answers.is;
+      follows =
+          follows_now run
+          (seat_is p k run.is (c.instructions.caller.in_order c.instructions.invariant.home) c.requires.number)
+          c.in-Some.op (sym (c.in-Some.ensures.next program k _ run.fed.feed)) j.answers;
+      ends = search rules;
+      text = search rules;
+      keeps = keeps_then run.is c.instructions.invariant.keeps j.keeps;
+    }
+
+pub returns-in_err-take_late_answer-in-None : goal.returns-in_err-take_late_answer-in-None
+returns-in_err-take_late_answer-in-None g c =
+    let p = c.args.caller.now.pass in
+    let program = c.args.program.now in
+    let k = c.args.k in
+    let run = c.instructions.invariant.running in
+    let j = later g (goal.at.returns-in_err-take_late_answer-in-None g c).After-answer_put_off-answer in
+    record {
+      home = j.home;
+      pass = then_seen p c.instructions.caller.pass c.answer_put_off-answer.new.caller.pass run.is j.answers.is;
       follows =
           follows_now run
           (seat_is p k run.is (c.instructions.caller.in_order c.instructions.invariant.home) c.requires.number)
