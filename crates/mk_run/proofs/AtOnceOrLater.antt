@@ -1,5 +1,5 @@
 -- An operation is answered at once, or it is put off and answered later.
-use Rattle.mk_laws.proofs.Vocabulary.{Answer, Bool, Op, true, ◌≡◌}
+use Rattle.mk_heap.proofs.Below.Laws.Vocabulary.{Answer, Bool, Op, true, ◌≡◌}
 use Rattle.mk_run.proofs.Vocabulary.{Answers, CallerState, PassKeeps, PassState, StaysBeside}
 use Rattle.mk_heap.specs.Below.Cycles.EngineLaw.{Ways}
 use Rattle.mk_heap.{proofs.Dispatched.{beside_keeps, put_off_keeps, put_off_then}, specs.Dispatching.IsPutOff}

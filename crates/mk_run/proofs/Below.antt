@@ -5,3 +5,4 @@ pub use Rattle.mk_heap.proofs.Below.Cycles as Cycles
 pub use Rattle.mk_heap.proofs.Below.Objects as Objects
 pub use Rattle.mk_heap.proofs as Heaps
 pub use Rattle.mk_check.proofs as Checks
+pub use Rattle.mk_heap.proofs.Below.Laws as Laws

@@ -1,10 +1,13 @@
 -- The history of a run keeps all promises, and its texts are all that is printed of it.
 use Rattle.std.proofs.{Common.{slice_get, take_all}, lemmas.Bool.Decides.nat_tests}
 use Rattle.std.specs.List.{flat_map, range_with_len}
-use Rattle.mk_laws.proofs.Vocabulary.{Answer, Bool, Caller, Config, Decided, Event, List, Op, Some, ℕ, ap, arith, asked}
-use Rattle.mk_laws.proofs.Vocabulary.{calls, length, refl, seat_exists, subst, suc, sym, true, [], ◌++◌, ◌+◌, ◌<◌, ◌==◌}
-use Rattle.mk_laws.proofs.{Vocabulary.{◌∙◌, ◌∷◌, ◌≡◌}, Promises.histories_keep_all_promises}
-use Rattle.mk_laws.{proofs.Waiting.{resting_calls_are_admitted}, specs.Waiting.{CallsInFlightAreAdmitted}}
+use Rattle.mk_heap.proofs.Below.Laws.Vocabulary.{Answer, Bool, Caller, Config, Decided, Event, List, Op, Some, ℕ, ap}
+use Rattle.mk_heap.proofs.Below.Laws.Vocabulary.{arith, asked}
+use Rattle.mk_heap.proofs.Below.Laws.Vocabulary.{calls, length, refl, seat_exists, subst, suc, sym, true, [], ◌++◌, ◌+◌}
+use Rattle.mk_heap.proofs.Below.Laws.Vocabulary.{◌<◌, ◌==◌}
+use Rattle.mk_heap.proofs.Below.Laws.{Vocabulary.{◌∙◌, ◌∷◌, ◌≡◌}, Promises.histories_keep_all_promises}
+use Rattle.mk_heap.proofs.Below.Laws.Waiting.{resting_calls_are_admitted}
+use Rattle.mk_heap.specs.Below.Laws.Waiting.{CallsInFlightAreAdmitted}
 use Rattle.mk_run.proofs.Vocabulary.{IsRunOf, IsScript, IsWhole, Item, Outcome, Text, answers_in, config_of, feed}
 use Rattle.mk_run.{proofs.Vocabulary.{slice_get_within}, specs.Headline.{cycles_go_on}}
 use Rattle.mk_check.{proofs.GivenAnswers.{serves}, specs.Feed.{ended_calls, text_behind}}

@@ -1,7 +1,8 @@
 -- The host makes the scripts' callers, and joins them.
 use Rattle.std.proofs.Common.{IsOk, OnOk, Result, slice_get}
-use Rattle.mk_laws.proofs.Vocabulary.{Bool, Caller, Config, Event, List, Seat, Some, ℕ, ap, arith, length, subst, suc}
-use Rattle.mk_laws.proofs.Vocabulary.{sym, zero, [], ◌++◌, ◌+◌, ◌<◌, ◌∷◌, ◌≡◌, ◌≤◌, ◌⊎◌}
+use Rattle.mk_heap.proofs.Below.Laws.Vocabulary.{Bool, Caller, Config, Event, List, Seat, Some, ℕ, ap, arith, length}
+use Rattle.mk_heap.proofs.Below.Laws.Vocabulary.{subst, suc}
+use Rattle.mk_heap.proofs.Below.Laws.Vocabulary.{sym, zero, [], ◌++◌, ◌+◌, ◌<◌, ◌∷◌, ◌≡◌, ◌≤◌, ◌⊎◌}
 use Rattle.mk_run.proofs.Vocabulary.{AreTextsFrom, EndsScript, FollowsScript, Grows, Has, HasJoined, HostState, IfOk}
 use Rattle.mk_run.proofs.Vocabulary.{IsScript, IsTextOf, Item, PassState, Text, WordsState, answers_in, has_first}
 use Rattle.mk_run.proofs.Vocabulary.{has_left, script_names, slice_get_within, with_joined, ⊎_elim}

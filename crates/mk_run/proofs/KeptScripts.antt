@@ -1,8 +1,10 @@
 -- What an engine keeps to in the steps of the scripts' callers and of the host, up to the whole run.
-use Rattle.mk_laws.proofs.Vocabulary.{At, Bool, Caller, Config, Event, Host, IsHistory, List, Marker, Seat, ℕ, arith}
-use Rattle.mk_laws.proofs.Vocabulary.{enabled_in_parts, enabled_meets, false, group_of, is_open_to, length}
-use Rattle.mk_laws.proofs.Vocabulary.{ltb-true, refl, seat_exists, subst, sym, through, true, true≢false, [], ◌++◌, ◌+◌}
-use Rattle.mk_laws.proofs.Vocabulary.{◌∙◌, ◌∷◌, ◌≡◌, ◌≤◌}
+use Rattle.mk_heap.proofs.Below.Laws.Vocabulary.{At, Bool, Caller, Config, Event, Host, IsHistory, List, Marker, Seat}
+use Rattle.mk_heap.proofs.Below.Laws.Vocabulary.{ℕ, arith}
+use Rattle.mk_heap.proofs.Below.Laws.Vocabulary.{enabled_in_parts, enabled_meets, false, group_of, is_open_to, length}
+use Rattle.mk_heap.proofs.Below.Laws.Vocabulary.{ltb-true, refl, seat_exists, subst, sym, through, true, true≢false, []}
+use Rattle.mk_heap.proofs.Below.Laws.Vocabulary.{◌++◌, ◌+◌}
+use Rattle.mk_heap.proofs.Below.Laws.Vocabulary.{◌∙◌, ◌∷◌, ◌≡◌, ◌≤◌}
 use Rattle.mk_run.proofs.Vocabulary.{CallerState, Grows, Has, IsAtHome, IsFirstPass, IsScript, IsWhole, Item, PassKeeps}
 use Rattle.mk_run.proofs.Vocabulary.{PassState, WordsState, config_of, has_first, script_names, ⊎_elim}
 use Rattle.mk_core.specs.History.{AreOfOthers, AreEnabledFrom}
@@ -13,7 +15,7 @@ use Rattle.mk_heap.specs.Unswept.{IsUnswept}
 use Rattle.mk_heap.proofs.UnsweptSeats.{first_sweeps, others_on as others_sweep_on, seat_on as seat_sweeps_on}
 use Rattle.mk_heap.proofs.UnsweptHistories.{none_sweeps, markers_sweep}
 use Rattle.mk_run.proofs.JoinedScripts.{same_or_later}
-use Rattle.mk_laws.proofs.Vocabulary.{Step, inl, inr, left, ◌⊎◌}
+use Rattle.mk_heap.proofs.Below.Laws.Vocabulary.{Step, inl, inr, left, ◌⊎◌}
 use Rattle.mk_heap.proofs.Below.Objects.{FinishedCycles.finished_append, SaidCloses.said_append}
 use Rattle.mk_run.specs.Keeping.{RunKeeps, ScriptsKeep, SeatKeeps, by_seat}
 use Rattle.mk_run.specs.Keeping.{BeginsAreFinished, ClosesAreSaid}

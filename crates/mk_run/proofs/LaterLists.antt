@@ -1,7 +1,8 @@
 -- What a script has done stands where the list goes on by events of others than its caller.
 use Rattle.std.proofs.Common.{count_by}
-use Rattle.mk_laws.proofs.Vocabulary.{Answer, Bool, Caller, Config, Event, List, Seat, ℕ, ap, calls, length, sym, []}
-use Rattle.mk_laws.proofs.Vocabulary.{◌∙◌, ◌∷◌, ◌≡◌}
+use Rattle.mk_heap.proofs.Below.Laws.Vocabulary.{Answer, Bool, Caller, Config, Event, List, Seat, ℕ, ap, calls, length}
+use Rattle.mk_heap.proofs.Below.Laws.Vocabulary.{sym, []}
+use Rattle.mk_heap.proofs.Below.Laws.Vocabulary.{◌∙◌, ◌∷◌, ◌≡◌}
 use Rattle.mk_run.proofs.Vocabulary.{EndsScript, FollowsScript, Grows, Has, IsTextOf, Item, Text, answers_in, calls_by}
 use Rattle.mk_run.proofs.{Vocabulary.{feed, has_first, is_refusal, others_own}, ScriptCalls.{same_answers, still_noted}}
 use Rattle.mk_heap.proofs.{Below.Objects.ExactTurns.stay_exact_behind_others, Below.Callers.OwnSteps.others_add_none}

@@ -1,6 +1,6 @@
 -- Scripts that are over stay so as markers are joined.
 use Rattle.std.proofs.lemmas.Result.{IfOk-weaker}
-use Rattle.mk_laws.proofs.Vocabulary.{Bool, Caller, Host, IsHistory, List, arith, subst, ℕ, ◌∙◌, ◌≡◌}
+use Rattle.mk_heap.proofs.Below.Laws.Vocabulary.{Bool, Caller, Host, IsHistory, List, arith, subst, ℕ, ◌∙◌, ◌≡◌}
 use Rattle.mk_run.proofs.Vocabulary.{AreTextsFrom, CallersAreStill, HostState, IsOver, Item, WordsState, config_of}
 use Rattle.mk_run.proofs.WholeRuns.{all_callers_home, all_callers_joined, still_follows_on, still_texts}
 use Rattle.mk_run.{proofs.LaterLists.{of_one}, specs.declared.marking.Done.{Done}}

@@ -2,9 +2,11 @@
 use Rattle.std.proofs.{Common.{All, ap₂, count_by}, lemmas.List.{length-map, length-replicate}}
 use Rattle.std.proofs.lemmas.List.{Elements.{All-cons, All-nil}, Sums.sum_by-cons}
 use Rattle.std.specs.{List.{flat_map, range_with_len}, Prelude.zero}
-use Rattle.mk_laws.proofs.Vocabulary.{Answer, Bool, Config, Event, List, ℕ, ap, arith, asked, calls, if◌then◌else◌}
-use Rattle.mk_laws.proofs.Vocabulary.{length, map, refl, subst, suc, sym, true, [], ◌++◌, ◌+◌, ◌*◌, ◌<◌, ◌∙◌, ◌∷◌, ◌≡◌}
-use Rattle.mk_laws.proofs.Promises.{histories_keep_all_promises}
+use Rattle.mk_heap.proofs.Below.Laws.Vocabulary.{Answer, Bool, Config, Event, List, ℕ, ap, arith, asked, calls}
+use Rattle.mk_heap.proofs.Below.Laws.Vocabulary.{if◌then◌else◌}
+use Rattle.mk_heap.proofs.Below.Laws.Vocabulary.{length, map, refl, subst, suc, sym, true, [], ◌++◌, ◌+◌, ◌*◌, ◌<◌, ◌∙◌}
+use Rattle.mk_heap.proofs.Below.Laws.Vocabulary.{◌∷◌, ◌≡◌}
+use Rattle.mk_heap.proofs.Below.Laws.Promises.{histories_keep_all_promises}
 use Rattle.mk_never.specs.{Admitted.AreAdmitted, NeverHeap.{Call, NeverState, after_op}, declared.values.Value.Value}
 use Rattle.mk_never.{proofs.Later.op_stays, specs.declared.operations.Reply.Reply}
 use Rattle.mk_core.specs.History.{bases_of, left, never_first, answer_of, answers_of}

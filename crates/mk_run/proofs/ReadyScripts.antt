@@ -1,7 +1,8 @@
 -- Scripts that are ready: the first of them and those after it, and one more after all.
 use Rattle.std.proofs.Common.{slice_get}
-use Rattle.mk_laws.proofs.Vocabulary.{Config, List, Some, ℕ, arith, length, refl, subst, suc, sym, zero, [], ◌++◌, ◌+◌}
-use Rattle.mk_laws.proofs.Vocabulary.{◌∷◌, ◌≡◌}
+use Rattle.mk_heap.proofs.Below.Laws.Vocabulary.{Config, List, Some, ℕ, arith, length, refl, subst, suc, sym, zero, []}
+use Rattle.mk_heap.proofs.Below.Laws.Vocabulary.{◌++◌, ◌+◌}
+use Rattle.mk_heap.proofs.Below.Laws.Vocabulary.{◌∷◌, ◌≡◌}
 use Rattle.mk_run.proofs.Vocabulary.{AreReadyFrom, IsReadyScript, Item}
 use Rattle.mk_run.specs.declared.ready.ReadyScript.{ReadyScript}
 

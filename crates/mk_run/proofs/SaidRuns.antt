@@ -1,5 +1,5 @@
 -- What engines say at each close, for runs whose host has an engine of the scripts' kind, or one around such an engine.
-use Rattle.mk_laws.proofs.Vocabulary.{Config, Event, List, Seat, World, ap, left, refl, through}
+use Rattle.mk_heap.proofs.Below.Laws.Vocabulary.{Config, Event, List, Seat, World, ap, left, refl, through}
 use Rattle.mk_run.proofs.Vocabulary.{⊎_elim}
 use Rattle.mk_heap.proofs.Below.Words.Doing.{does_nothing}
 use Rattle.mk_heap.specs.Below.{Objects.TurnCycles.{IsFinishedAtOnce, IsSaid}, Words.States.PassState}

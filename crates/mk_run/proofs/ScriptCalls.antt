@@ -1,9 +1,12 @@
 -- A script's caller makes one call more, and what is known then.
 use Rattle.std.proofs.{Common.length-append, lemmas.List.Sums.{count_by-le-length, sum_by_push}}
-use Rattle.mk_laws.proofs.Vocabulary.{Answer, Bool, Caller, Config, Decided, Event, IsAdmitted, IsHistory, List, Op}
-use Rattle.mk_laws.proofs.Vocabulary.{Seat, Some, ℕ, ap, arith, asked, caller_number, calls, entry_of, if◌then◌else◌}
-use Rattle.mk_laws.proofs.Vocabulary.{length, map, map-append, never_behind, refl, subst, sym, [], ◌++◌, ◌+◌, ◌<◌, ◌==◌}
-use Rattle.mk_laws.proofs.Vocabulary.{◌∙◌, ◌∷◌, ◌≡◌, ◌≤◌}
+use Rattle.mk_heap.proofs.Below.Laws.Vocabulary.{Answer, Bool, Caller, Config, Decided, Event, IsAdmitted, IsHistory}
+use Rattle.mk_heap.proofs.Below.Laws.Vocabulary.{List, Op}
+use Rattle.mk_heap.proofs.Below.Laws.Vocabulary.{Seat, Some, ℕ, ap, arith, asked, caller_number, calls, entry_of}
+use Rattle.mk_heap.proofs.Below.Laws.Vocabulary.{if◌then◌else◌}
+use Rattle.mk_heap.proofs.Below.Laws.Vocabulary.{length, map, map-append, never_behind, refl, subst, sym, [], ◌++◌, ◌+◌}
+use Rattle.mk_heap.proofs.Below.Laws.Vocabulary.{◌<◌, ◌==◌}
+use Rattle.mk_heap.proofs.Below.Laws.Vocabulary.{◌∙◌, ◌∷◌, ◌≡◌, ◌≤◌}
 use Rattle.mk_run.proofs.Vocabulary.{Answers, FollowsScript, IsChecked, IsFedWith, IsHomePass, IsScript, Item}
 use Rattle.mk_run.proofs.Vocabulary.{PassState, StaysAdmitted, answers_in, calls_by, config_of, feed, is_refusal}
 use Rattle.mk_run.{proofs.Vocabulary.{next_op, script_names}, specs.declared.scripts.Counts.{Counts}}

@@ -1,9 +1,13 @@
 -- In a run whose marks sweeps make, and in which no marker steps, each cycle releases what isn't swept.
-use Rattle.mk_laws.proofs.Vocabulary.{At, Bool, Config, Event, IsHistory, List, Releasing, Seat, Step, ℕ, and_parts, ap}
-use Rattle.mk_laws.proofs.Vocabulary.{append_assoc, arith, before_close, false, if◌then◌else◌}
-use Rattle.mk_laws.proofs.Vocabulary.{is_begin, is_close, is_release, left, list_any, not, or_parts, placed_at, refl}
-use Rattle.mk_laws.proofs.Vocabulary.{subst, sym, through, true, true≢false, [], ◌&&◌, ◌++◌, ◌||◌, ◌∙◌, ◌∷◌, ◌≡◌}
-use Rattle.mk_laws.{proofs.CyclePhases.{begin_is}, specs.Releases.{through_release}}
+use Rattle.mk_heap.proofs.Below.Laws.Vocabulary.{At, Bool, Config, Event, IsHistory, List, Releasing, Seat, Step, ℕ}
+use Rattle.mk_heap.proofs.Below.Laws.Vocabulary.{and_parts, ap}
+use Rattle.mk_heap.proofs.Below.Laws.Vocabulary.{append_assoc, arith, before_close, false, if◌then◌else◌}
+use Rattle.mk_heap.proofs.Below.Laws.Vocabulary.{is_begin, is_close, is_release, left, list_any, not, or_parts}
+use Rattle.mk_heap.proofs.Below.Laws.Vocabulary.{placed_at, refl}
+use Rattle.mk_heap.proofs.Below.Laws.Vocabulary.{subst, sym, through, true, true≢false, [], ◌&&◌, ◌++◌, ◌||◌, ◌∙◌, ◌∷◌}
+use Rattle.mk_heap.proofs.Below.Laws.Vocabulary.{◌≡◌}
+use Rattle.mk_heap.proofs.Below.Laws.CyclePhases.{begin_is}
+use Rattle.mk_heap.specs.Below.Laws.Releases.{through_release}
 use Rattle.mk_core.specs.{Cycles.{IsInSnapshot}, History.is_same_seat}
 use Rattle.mk_heap.specs.{Below.Objects.TurnCycles.IsFinishedAtOnce, Hosts.MarkersAreBelow}
 use Rattle.mk_heap.specs.Below.Cycles.BeginCycle.{CyclesHoldGatesFirst, are_own_of, leaves_begun, only_holds}

@@ -1,6 +1,7 @@
 -- A run of all scripts, when the heap is closed.
-use Rattle.mk_laws.proofs.Vocabulary.{Bool, Caller, Config, Event, List, ℕ, arith, subst, sym, true, [], ◌+◌, ◌∙◌, ◌∷◌}
-use Rattle.mk_laws.proofs.Vocabulary.{◌≡◌, ◌≤◌}
+use Rattle.mk_heap.proofs.Below.Laws.Vocabulary.{Bool, Caller, Config, Event, List, ℕ, arith, subst, sym, true, [], ◌+◌}
+use Rattle.mk_heap.proofs.Below.Laws.Vocabulary.{◌∙◌, ◌∷◌}
+use Rattle.mk_heap.proofs.Below.Laws.Vocabulary.{◌≡◌, ◌≤◌}
 use Rattle.mk_run.proofs.Vocabulary.{AreTextsFrom, CallersAreStill, EndsScript, FollowsScript, Grows, HasCallers}
 use Rattle.mk_run.proofs.Vocabulary.{HasJoined, HostComesLast, HostState, IsRunOf, IsScript, IsTextOf, IsWhole, Item}
 use Rattle.mk_run.proofs.Vocabulary.{Outcome, Text, WordsState, config_of, slice_get_within}

@@ -7,3 +7,4 @@ pub use Rattle.mk_why.specs as Chains
 pub use Rattle.mk_heap.specs.Below.Objects as Objects
 pub use Rattle.mk_heap.specs as Heaps
 pub use Rattle.mk_check.specs as Checks
+pub use Rattle.mk_heap.specs.Below.Laws as Laws

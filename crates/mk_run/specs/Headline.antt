@@ -2,8 +2,8 @@
 use Rattle.std.specs.{Prelude.{◌≡◌, ℕ, Bool, true, false, List, length, nat_lt, count_by}, List.flat_map}
 use Rattle.mk_core.specs.{declared.events.{Event.Event, Seat.TheVariants.Caller}, Calls.asked}
 use Rattle.mk_core.specs.{History.{calls, left}, declared.{config.Config.Config, events.Answer.Answer}}
-use Rattle.mk_laws.specs.{Releases.CyclesArePrecise, Promises.{AtEachMoment, KeepsAllPromises}}
-use Rattle.mk_laws.specs.Waiting.{NobodyWaitsInARing}
+use Rattle.mk_heap.specs.Below.Laws.{Releases.CyclesArePrecise, Promises.{AtEachMoment, KeepsAllPromises}}
+use Rattle.mk_heap.specs.Below.Laws.Waiting.{NobodyWaitsInARing}
 use Rattle.mk_script.specs.declared.items.Item.{Item}
 use Rattle.mk_check.specs.{Declarations.config_of, Feed.{feed, has_ended, answers_given, output, is_refusal}}
 use Rattle.mk_check.specs.{Laws.{AreNotedBy, IsScript}, declared.text.Text.Text, Observed.{ObservedRun, told_to}}

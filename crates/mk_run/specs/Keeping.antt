@@ -3,7 +3,7 @@ use Rattle.std.specs.Prelude.{◌≡◌, ◌≤◌, ℕ, false, List, [], ◌⊎
 use Rattle.mk_core.specs.declared.{config.Config.Config, events.{Event.Event, Seat.Seat}}
 use Rattle.mk_core.specs.{Allocations.placed_at, declared.events.Seat.TheVariants.{Caller, Host}, History.{World, left}}
 use Rattle.mk_core.specs.Cycles.{At, IsInSnapshot, Releasing, before_close, is_begin, is_close, through}
-use Rattle.mk_laws.specs.Releases.{through_release}
+use Rattle.mk_heap.specs.Below.Laws.Releases.{through_release}
 use Rattle.mk_heap.specs.{Below.Cycles.BeginCycle.AreBegun, Below.Cycles.EngineLaw.Ways}
 use Rattle.mk_heap.specs.Below.Objects.TurnCycles.{AreFinishedAtOnce, AreSaidAtCloses, IsFinishedAtOnce, IsSaid}
 use Rattle.mk_heap.specs.{Unswept.SeatSweepsNothing, Below.Words.States.PassState}

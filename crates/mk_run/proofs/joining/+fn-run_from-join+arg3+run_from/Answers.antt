@@ -1,4 +1,4 @@
-use Rattle.mk_laws.proofs.Vocabulary.{Caller, Config, Host, ap, arith, length, subst, sym, ◌+◌, ◌∙◌, ◌≡◌}
+use Rattle.mk_heap.proofs.Below.Laws.Vocabulary.{Caller, Config, Host, ap, arith, length, subst, sym, ◌+◌, ◌∙◌, ◌≡◌}
 use Rattle.mk_run.proofs.Vocabulary.{AreReadyFrom, Grows, HasMade, HostState, IsFirstPass, IsReadyScript, IsScript}
 use Rattle.mk_run.{proofs.Vocabulary.{has_left, rules, script_names, with_joined}, specs.Joining.{AreJoined, HasRun}}
 use Rattle.mk_run.proofs.{JoinedScripts.{one_joined, texts_joined}, KeptScripts.{none_joined, script_joined}}

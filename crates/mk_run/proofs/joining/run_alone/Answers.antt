@@ -1,4 +1,4 @@
-use Rattle.mk_laws.proofs.Vocabulary.{ap, arith, ◌∙◌}
+use Rattle.mk_heap.proofs.Below.Laws.Vocabulary.{ap, arith, ◌∙◌}
 use Rattle.mk_run.proofs.{Vocabulary.PassState, JoinedScripts.{follows_at_first, no_answers}, KeptScripts.script_keeps}
 use Rattle.mk_run.proofs.joining.run_alone.Goals as goal
 

@@ -1,4 +1,4 @@
-use Rattle.mk_laws.proofs.Vocabulary.{Caller, Host}
+use Rattle.mk_heap.proofs.Below.Laws.Vocabulary.{Caller, Host}
 use Rattle.mk_run.proofs.{KeptScripts.{others_on, scripts_on}, LaterLists.of_one}
 use Rattle.mk_run.proofs.MarkersBeside.{all_joined, over_joined}
 use Rattle.mk_heap.proofs.LastTurns.{last_turns_joined}

@@ -1,5 +1,5 @@
 use Rattle.std.proofs.lemmas.Result.{IfOk-weaker}
-use Rattle.mk_laws.proofs.Vocabulary.{Host, ap, arith, subst, sym, ◌∙◌, ◌≡◌}
+use Rattle.mk_heap.proofs.Below.Laws.Vocabulary.{Host, ap, arith, subst, sym, ◌∙◌, ◌≡◌}
 use Rattle.mk_run.proofs.Vocabulary.{AreTextsFrom, Has, HasJoined, HostState}
 use Rattle.mk_run.proofs.WholeRuns.{all_callers_home, all_callers_joined, still_joined, still_texts}
 use Rattle.mk_run.proofs.KeptScripts.{host_on, scripts_on, unseen_keeps}

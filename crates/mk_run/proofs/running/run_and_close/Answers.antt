@@ -1,4 +1,4 @@
-use Rattle.mk_laws.proofs.Vocabulary.{ℕ, arith, subst, ◌∙◌, ◌≡◌}
+use Rattle.mk_heap.proofs.Below.Laws.Vocabulary.{ℕ, arith, subst, ◌∙◌, ◌≡◌}
 use Rattle.mk_run.proofs.{Vocabulary.{AreTextsFrom, config_of}, KeptScripts.{run_is_begun, run_is_finished}}
 use Rattle.mk_run.proofs.{KeptScripts.{run_is_said, run_is_unswept}, WholeRuns.is_run}
 use Rattle.mk_heap.{proofs.LastOvers.{run_ends_with_cycle}, specs.Hosts.{MarkersAreBelow, history_of}}

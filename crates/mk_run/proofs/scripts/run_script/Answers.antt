@@ -1,4 +1,4 @@
-use Rattle.mk_laws.proofs.Vocabulary.{ap, arith, subst, sym, [], ◌∙◌, ◌∷◌, ◌≡◌}
+use Rattle.mk_heap.proofs.Below.Laws.Vocabulary.{ap, arith, subst, sym, [], ◌∙◌, ◌∷◌, ◌≡◌}
 use Rattle.mk_run.proofs.Vocabulary.{IsChecked, PassState, StaysAdmitted, answers_in, keeps_then, rules}
 use Rattle.mk_run.proofs.ScriptCalls.{asked_stays_admitted, exists_on, follows_now, has_room, refused_within, runs_on}
 use Rattle.mk_run.proofs.{ScriptCalls.seat_is, AtOnceOrLater.{IsAnsweredAs, answered_at_once, answered_later}}

@@ -1,4 +1,4 @@
-use Rattle.mk_laws.proofs.Vocabulary.{true, ◌≡◌, ◌≤◌}
+use Rattle.mk_heap.proofs.Below.Laws.Vocabulary.{true, ◌≡◌, ◌≤◌}
 use Rattle.mk_check.specs.Feeding.{work_left}
 use Rattle.mk_run.{proofs.{ScriptCalls.IsRunning, Vocabulary.PassKeeps}, specs.Running.{script_of}}
 use Rattle.mk_run.proofs.scripts.run_script.Given as goal

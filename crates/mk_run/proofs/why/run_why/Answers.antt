@@ -1,5 +1,5 @@
 use Rattle.mk_heap.proofs.LastOvers.{ends_weaker}
-use Rattle.mk_laws.proofs.Vocabulary.{refl}
+use Rattle.mk_heap.proofs.Below.Laws.Vocabulary.{refl}
 use Rattle.mk_run.proofs.{KeptScripts.same_by_seat, ObservedRuns.printed_runs_can_be_observed, Vocabulary.config_of}
 use Rattle.mk_run.proofs.SaidRuns.{finished_by_inner, said_by_inner}
 use Rattle.mk_why.specs.Searching.{WhyState}

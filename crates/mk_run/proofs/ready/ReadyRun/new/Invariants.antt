@@ -1,5 +1,5 @@
 use Rattle.std.proofs.Common.{slice_get}
-use Rattle.mk_laws.proofs.Vocabulary.{Some, length, ◌+◌, ◌≡◌}
+use Rattle.mk_heap.proofs.Below.Laws.Vocabulary.{Some, length, ◌+◌, ◌≡◌}
 use Rattle.mk_run.proofs.Vocabulary.{IsReadyScript}
 use Rattle.mk_run.proofs.ready.ReadyRun.new.Given as goal
 
