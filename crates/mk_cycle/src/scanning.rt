@@ -113,7 +113,7 @@ fn scan_from(
 
 /// Looks at the words of a group of a gray cell, from this one on, which are on this page of the cell, and marks what
 /// they point into. Few groups have a word that points into the heap.
-#[inline(never)]
+#[inline(always)]
 fn scan_words(
     table: Table,
     stop: &mut Stopped,
