@@ -1,2 +1,6 @@
-//! What stands on this crate finds here the crates below it.
-pub use mk_run::lower::heaps;
+//! What stands on this crate finds here what it needs of the crates below it.
+
+/// What a test makes wait, and a program doesn't.
+pub mod heaps {
+    pub use mk_run::lower::heaps::{NoPace, Pace};
+}

@@ -1,2 +1,6 @@
-//! What stands on this crate finds here the crates below it.
-pub use mk_sweep as sweeps;
+//! What stands on this crate finds here what it needs of the crates below it.
+
+/// The engine that marks by a sweep.
+pub mod sweeps {
+    pub use mk_sweep::SweepEngine;
+}
