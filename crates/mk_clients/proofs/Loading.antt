@@ -16,7 +16,7 @@ use Rattle.mk_heap.specs.Below.Callers.States.{Admits, caller_of_pass, never_of,
 use Rattle.mk_heap.specs.Below.Callers.{Called.Called, declared.refusals.Refusal.Refusal}
 use Rattle.mk_heap.specs.Below.Words.States.{PassState}
 use Rattle.mk_clients.proofs.Between.{at_once, before, between, never_later, never_there, none_between, picked, place}
-use Rattle.mk_clients.{proofs.Between.{same_config, same_number}, specs.Clients.{IsOnlyStore, is_store}}
+use Rattle.mk_clients.{proofs.Between.{same_config, same_number}, specs.Clients.{IsOnlyCall, is_store}}
 
 -- Calls that don't store store to no word.
 stores_nothing : (n : NeverState) (k : ℕ) (o : Op) (number at : ℕ) → is_store o ≡ false → StoresTo n k o number at → ⊥
@@ -116,7 +116,7 @@ module _ {p0 p1 p2 : PassState} (x i n loaded : ℕ) (lt : x < 8)
       subst (λ (v : Value). target_of n2 v i ≡ WordOf stored_to.number stored_to.at) (sym register)
       (same_word n1 n2 (register_at n1 k x) i stored_to (subst (λ (v : Value). Word n2 v i) register loaded_from))
 
-  pub load_gives : IsOnlyStore p0 x i n p2 → loaded ≡ n
+  pub load_gives : IsOnlyCall is_store p0 (Op.SetNum x i n) p2 → loaded ≡ n
   load_gives only =
       let none = none_between set (at_once p1) get is_store p2.seen [] (sym (append-nil p2.seen)) refl only in
       let ad = (admitted_there set).0 in
@@ -134,7 +134,7 @@ module _ {p0 p1 p2 : PassState} (x i n loaded : ℕ) (lt : x < 8)
 -- So a load that comes to a number gives the one that was stored.
 pub loads_stored : {p q : PassState} (r : PassState) (x i n : ℕ) → x < 8 → Called p (Op.SetNum x i n) Answer.Done q
     → (loaded : Result ℕ Refusal) → IfOk loaded (λ m. Called q (Op.GetNum x i) (Answer.Num m) r)
-    → IfOk loaded (λ m. IsOnlyStore p x i n r → m ≡ n)
+    → IfOk loaded (λ m. IsOnlyCall is_store p (Op.SetNum x i n) r → m ≡ n)
 loads_stored r x i n lt set (Ok m) get = load_gives x i n m lt set get
 loads_stored r x i n lt set (Err e) get = tt
 

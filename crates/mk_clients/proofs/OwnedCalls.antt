@@ -1,6 +1,7 @@
 -- A number that is owned, along a history: other callers' calls keep it, and the caller's own are answered by it.
 use Rattle.std.proofs.Common.{IfOk, OnOk, Result}
-use Rattle.mk_laws.proofs.Vocabulary.{Answer, AreAdmitted, Config, Decided, Event, IsHistory, Kind, List, NeverState}
+use Rattle.mk_laws.proofs.Vocabulary.{Answer, AreAdmitted, AreOfOthers, Caller, Config, Decided, Event, IsHistory, Kind}
+use Rattle.mk_laws.proofs.Vocabulary.{List, NeverState}
 use Rattle.mk_laws.proofs.Vocabulary.{Number, Op, Some, Step, ℕ, admitted_in_parts, answer_of, ap, append-nil}
 use Rattle.mk_laws.proofs.Vocabulary.{append_assoc, arith, asked, bases_of, calls_from, entry_of, false, kinds_of, left}
 use Rattle.mk_laws.proofs.Vocabulary.{never_behind, never_in_parts, refl, subst, sym, [], ◌++◌, ◌∙◌, ◌∷◌, ◌≡◌}
@@ -9,7 +10,7 @@ use Rattle.mk_heap.proofs.Below.Objects.Vocabulary.{event_of, others_add_none, o
 use Rattle.mk_heap.proofs.Below.Objects.OneCalls.{OneCall, before_call, one_call, through_call}
 use Rattle.mk_heap.proofs.Below.Objects.Decisions.{none_by, own_more}
 use Rattle.mk_clients.proofs.Owned.{HasStored, KeepsNumber, access_admitted, keeps_by_others, load_replies, new_owns}
-use Rattle.mk_clients.{proofs.Owned.{store_leaves, store_replies}, specs.Owned.{OwnedNumbersStay}}
+use Rattle.mk_clients.proofs.Owned.{store_leaves, store_replies}
 use Rattle.mk_clients.specs.Owned.{store_then_load, HasNumber, OwnsNumber, OwnsNumberIn, number_owned}
 use Rattle.mk_heap.specs.Below.Callers.Called.{Called, IsDecidedIn, FindsGateHeld}
 use Rattle.mk_heap.specs.Below.{Callers.States.{Admits, never_of}, Words.declared.call_steps.Held.Held}
@@ -132,7 +133,9 @@ pub may_load : (p : PassState) (d : ℕ) → OwnsNumber p d → Admits p (Op.Get
 may_load p d owns = grind (arith, access_admitted)
 
 -- Events of others keep it.
-pub owned_numbers_stay : OwnedNumbersStay
+pub owned_numbers_stay : (p : PassState) (more : List Event) (d : ℕ) → IsHistory p.table.config (p.seen ++ more)
+    → AreOfOthers (Caller (caller_of_pass p) ∷ []) more → OwnsNumber p d
+    → HasNumber (record p { seen = p.seen ++ more }) d (number_owned p d)
 owned_numbers_stay p more d h others owns =
     let c : Config = p.table.config in
     let keeps = kept p.seen more h (own_more c (caller_of_pass p) p.seen more []

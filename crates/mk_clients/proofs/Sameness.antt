@@ -10,7 +10,7 @@ use Rattle.mk_heap.specs.Below.Callers.States.{Admits, caller_of_pass, never_of,
 use Rattle.mk_heap.specs.Below.{Callers.Called.{Called, IsAnswered}, Words.States.PassState}
 use Rattle.mk_clients.proofs.Between.{at_once, before, between, decided, never_later, never_there, none_between, place}
 use Rattle.mk_clients.proofs.{Between.same_config, Globals.{calls_keep, set_gives}}
-use Rattle.mk_clients.specs.Clients.{HasSeenAllOf, IsOnlySetter, TakesOut, is_set_of}
+use Rattle.mk_clients.specs.Clients.{HasSeenAllOf, IsOnlyCall, TakesOut, is_set_of}
 
 pub same_is : (p : PassState) (x y : ℕ) → value_of p x ≡ value_of p y → is_same (value_of p x) (value_of p y) ≡ true
 same_is p x y e = same_from_equal (value_of p x) (value_of p y) e
@@ -54,7 +54,7 @@ module _ {p0 p1 r1 p2 p3 : PassState} (d g r : ℕ) (word : ℕ) (a : Answer) (o
   n1 = never_behind c (before set later get)
 
   -- The register that is loaded holds what the other one held.
-  pub got : IsOnlySetter p0 g r p3 → value_of p2 d ≡ value_of p0 r
+  pub got : IsOnlyCall (is_set_of g) p0 (Op.SetGlobal g r) p3 → value_of p2 d ≡ value_of p0 r
   got only =
       value_left get d may.in_range.0
       ∙ set_same (never_behind r1.table.config (r1.seen ++ get.decided.before)) (caller_of_pass r1) d _
@@ -76,7 +76,8 @@ module _ {p0 p1 r1 p2 p3 : PassState} (d g r : ℕ) (word : ℕ) (a : Answer) (o
 
 through_global : {p0 p1 p2 p3 : PassState} (d g r : ℕ) (word : ℕ) (a : Answer) (o : Op) → Admits p0 (Op.SetGlobal g r)
     → d < 8 → d ≢ r → Called p0 (Op.SetGlobal g r) Answer.Done p1 → Called p1 (Op.GetGlobal d g) (Answer.Word word) p2
-    → Called p2 o a p3 → IsOnlySetter p0 g r p3 → is_same (value_of p2 r) (value_of p2 d) ≡ true
+    → Called p2 o a p3 → IsOnlyCall (is_set_of g) p0 (Op.SetGlobal g r) p3
+    → is_same (value_of p2 r) (value_of p2 d) ≡ true
 through_global {p0} {p1} {p2} d g r word a o ad lt ne set get last only =
     let may = may_get d g r ad lt set in
     same_is p2 r d (kept d g r word a o ad may set (at_once p1) get last r ad.in_range.1 ne
@@ -100,7 +101,8 @@ told (Err e) b is h = tt
 pub told_of_global : (p0 p1 p2 p3 : PassState) (x : Result Bool Held) (d g r : ℕ) → Admits p0 (Op.SetGlobal g r) → d < 8
     → d ≢ r → Called p0 (Op.SetGlobal g r) Answer.Done p1 → IsAnswered p1 (Op.GetGlobal d g) p2 → IfOk x
     (λ s. Called p2 (Op.Same r d) (Answer.Num (one_if s)) p3) → IfOk x
-    (λ s. s ≡ is_same (value_of p2 r) (value_of p2 d)) → IfOk x (λ s. IsOnlySetter p0 g r p3 → s ≡ true)
+    (λ s. s ≡ is_same (value_of p2 r) (value_of p2 d))
+    → IfOk x (λ s. IsOnlyCall (is_set_of g) p0 (Op.SetGlobal g r) p3 → s ≡ true)
 told_of_global p0 p1 p2 p3 (Ok s) d g r ad lt ne set get last is = λ only. is
     ∙ through_global d g r get.word (Answer.Num (one_if s)) (Op.Same r d) ad lt ne set get.called last only
 told_of_global p0 p1 p2 p3 (Err e) d g r ad lt ne set get last is = tt

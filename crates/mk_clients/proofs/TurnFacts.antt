@@ -115,7 +115,7 @@ miss_leaves {p} {q} {j} a not_held h i lt two = elim (cases_eq i j) [
 ]
 
 pub settled : {p : PassState} → MayGiveBack p → Settled p
-settled x = record { seat = x.seat; phase = x.phase; freed = x.freed; held = x.held; fresh = x.fresh }
+settled x = x.settled
 
 pub given_back : {p : PassState} → Settled p → NoneHeld p → MayGiveBack p
 given_back x h = grind (arith, all_from, ne_eqb)

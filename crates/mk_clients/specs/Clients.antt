@@ -9,8 +9,8 @@ use Rattle.mk_core.specs.{Counts.TalliesAreTidy, Words.phase_of, Conditions.{has
 use Rattle.mk_core.specs.{Moments.{none_is_held, outside, is_held}, MarkingConditions.is_attending}
 use Rattle.mk_core.specs.{TurnConditions.held_by_pages, declared.events.Step.Step}
 use Rattle.mk_core.specs.declared.events.Answer.TheVariants.{Done}
-use Rattle.mk_heap.specs.Below.Words.{Steps.{marker_in, register_of}, States.{PassState, now_of, call_of}}
-use Rattle.mk_heap.specs.Below.Callers.{States.{caller_of_pass, value_of, Admits}, Called.Called}
+use Rattle.mk_heap.specs.{Below.Words.Steps.{marker_in, register_of}, Below.Words.States.{PassState, now_of, call_of}}
+use Rattle.mk_heap.specs.{Below.Callers.States.{caller_of_pass, value_of, Admits}, Below.Callers.Called.Called}
 
 -- a caller's pass, with no call in flight
 pub record IsCallers (p : PassState) : Type 0 where
@@ -24,14 +24,18 @@ pub record IsHosts (p : PassState) : Type 0 where
   pub seat : p.seat ≡ Host
   pub free : host_has_turn p.table.config (now_of p) ≡ false
 
--- The host's turn, which may be given back.
-pub record MayGiveBack (p : PassState) : Type 0 where
+-- what `give` asks of the host's turn but for the gates
+pub record Settled (p : PassState) : Type 0 where
   pub seat : p.seat ≡ Host
-  pub gates : none_is_held p.table.config.callers (now_of p).words ≡ true
   pub phase : has_phase (phase_of (now_of p).words) Step.Give ≡ true
   pub freed : (now_of p).seats.holding.freed ≡ None
   pub held : (now_of p).words.held ≡ held_by_pages (now_of p).words
   pub fresh : (now_of p).words.fresh ≡ (now_of p).fresh_words
+
+-- The host's turn, which may be given back.
+pub record MayGiveBack (p : PassState) : Type 0 where
+  pub settled : Settled p
+  pub gates : none_is_held p.table.config.callers (now_of p).words ≡ true
 
 -- The operation is admitted, whatever comes after what the pass has seen.
 abbrev pub StaysAdmitted : PassState → Op → Type 0
@@ -63,14 +67,6 @@ pub record PointsWell (p : PassState) (q i : ℕ) : Type 0 where
   pub least : 65536 ≤ register_of p q
   pub word : heap_word_at (register_of p q) + i < 64 * p.table.config.pages
 
--- what `give` asks of the host's turn but for the gates
-pub record Settled (p : PassState) : Type 0 where
-  pub seat : p.seat ≡ Host
-  pub phase : has_phase (phase_of (now_of p).words) Step.Give ≡ true
-  pub freed : (now_of p).seats.holding.freed ≡ None
-  pub held : (now_of p).words.held ≡ held_by_pages (now_of p).words
-  pub fresh : (now_of p).words.fresh ≡ (now_of p).fresh_words
-
 -- The gates of the callers below this one are held, and those of the others aren't.
 pub record HoldsBelow (p : PassState) (end : ℕ) : Type 0 where
   pub held : (i : ℕ) → i < end → is_held (now_of p).words i ≡ true
@@ -85,15 +81,22 @@ abbrev pub is_set_of : ℕ → Op → Bool
 is_set_of g (Op.SetGlobal x p) = x == g
 is_set_of g _ = false
 
--- those of a history
-abbrev pub setters : PassState → ℕ → List Event → List Decided
-setters p g es = filter (λ (x : Decided). is_set_of g x.op) (calls p.table.config es)
+-- The operation may store to an allocation's word.
+abbrev pub is_store : Op → Bool
+is_store (Op.SetNum q i n) = true
+is_store (Op.SetPtr q i p) = true
+is_store (Op.CasPtr q i p r) = true
+is_store _ = false
 
--- After what the pass had seen its caller's own call is the only one that set the global.
-abbrev pub IsOnlySetter : PassState → ℕ → ℕ → PassState → Type 0
-IsOnlySetter p g r q =
-    setters p g q.seen ≡ setters p g p.seen
-    ++ record { caller = caller_of_pass p; op = Op.SetGlobal g r; answer = Done } ∷ []
+-- the calls among these events whose operations pass the test
+abbrev pub calls_that : (Op → Bool) → PassState → List Event → List Decided
+calls_that test p es = filter (λ (x : Decided). test x.op) (calls p.table.config es)
+
+-- After what the pass had seen this call of its caller, answered Done, is the only one that passes the test.
+abbrev pub IsOnlyCall : (Op → Bool) → PassState → Op → PassState → Type 0
+IsOnlyCall test p o q =
+    calls_that test p q.seen
+    ≡ calls_that test p p.seen ++ record { caller = caller_of_pass p; op = o; answer = Done } ∷ []
 
 -- The latter pass has seen all that the former has, as where the host joined that one and split off this one.
 pub record HasSeenAllOf (p q : PassState) : Type 0 where
@@ -106,21 +109,4 @@ pub record HasSeenAllOf (p q : PassState) : Type 0 where
 abbrev pub TakesOut : PassState → ℕ → ℕ → Bool → PassState → Type 0
 TakesOut b g x same q =
     (p0 p1 : PassState) (r : ℕ) → Admits p0 (Op.SetGlobal g r) → Called p0 (Op.SetGlobal g r) Done p1
-    → HasSeenAllOf p1 b → IsOnlySetter p0 g r q → value_of b x ≡ value_of p0 r → same ≡ true
-
--- The operation may store to an allocation's word.
-abbrev pub is_store : Op → Bool
-is_store (Op.SetNum q i n) = true
-is_store (Op.SetPtr q i p) = true
-is_store (Op.CasPtr q i p r) = true
-is_store _ = false
-
--- the calls among these events that store
-abbrev pub store_calls : PassState → List Event → List Decided
-store_calls p es = filter (λ (x : Decided). is_store x.op) (calls p.table.config es)
-
--- After what the pass had seen its caller's own `set_num` is the only call that may have stored.
-abbrev pub IsOnlyStore : PassState → ℕ → ℕ → ℕ → PassState → Type 0
-IsOnlyStore p x i n q =
-    store_calls p q.seen ≡ store_calls p p.seen
-    ++ record { caller = caller_of_pass p; op = Op.SetNum x i n; answer = Done } ∷ []
+    → HasSeenAllOf p1 b → IsOnlyCall (is_set_of g) p0 (Op.SetGlobal g r) q → value_of b x ≡ value_of p0 r → same ≡ true

@@ -1,23 +1,18 @@
 -- A number that is a caller's own: no other caller can get to its object, whatever other seats do.
-use Rattle.std.specs.Prelude.{◌≡◌, ℕ, ◌+◌, ◌*◌, ◌<◌, ◌≤◌, false, length, slice_index_or, Bool, List, [], ◌∷◌, ◌++◌}
-use Rattle.mk_never.specs.declared.values.Value.{Value, TheVariants.{Null, Ptr}}
+use Rattle.std.specs.Prelude.{◌≡◌, ℕ, ◌+◌, ◌*◌, ◌<◌, ◌≤◌, false, length, slice_index_or, Bool, List, [], ◌∷◌}
+use Rattle.mk_never.specs.{declared.values.Value.Value, declared.values.Value.TheVariants.{Null, Ptr}}
 use Rattle.mk_never.specs.{Admitted.{IsCaller, IsNumber}, NeverHeap.{words_of, NeverState, allocation_at, global_at}}
 use Rattle.mk_never.specs.{NeverHeap.{number_of as number_in, register_at, word_at}, Laws.LeadsTo, Types.kinds_of}
-use Rattle.mk_never.specs.declared.{types.Kind.TheVariants.Num as Number, operations.Op.Op}
-use Rattle.mk_core.specs.{Calls.Decided, declared.events.{Answer.Answer, Event.Event}}
-use Rattle.mk_core.specs.{declared.events.Seat.TheVariants.Caller, History.{AreOfOthers, IsHistory}}
-use Rattle.mk_heap.specs.Below.{Words.States.PassState, Callers.States.{never_of, caller_of_pass, value_of}}
-use Rattle.mk_heap.specs.Below.{Callers.States.IsIdleCaller, Objects.TurnCalls.IsAnsweredFull}
+use Rattle.mk_never.specs.{declared.types.Kind.TheVariants.Num as Number, declared.operations.Op.Op}
+use Rattle.mk_core.specs.{Calls.Decided, declared.events.Answer.Answer}
+use Rattle.mk_heap.specs.{Below.Words.States.PassState, Below.Callers.States.{never_of, caller_of_pass, value_of}}
+use Rattle.mk_heap.specs.{Below.Callers.States.IsIdleCaller, Below.Objects.TurnCalls.IsAnsweredFull}
 use Rattle.mk_clients.specs.declared.outcomes.Unfinished.{Unfinished}
 
--- The register, among those of all callers, is one of this caller's eight.
-abbrev pub IsRegisterOf : ℕ → ℕ → Type 0
-IsRegisterOf k j = (8 * k ≤ j) × (j < 8 * k + 8)
-
--- Registers of the caller may lead to the allocation, and nothing else does: no register of another caller, no global
--- and no word of the heap.
+-- The caller's eight registers, among those of all, may lead to the allocation, and nothing else does: no register of
+-- another caller, no global and no word of the heap.
 pub record IsKnownToAlone (n : NeverState) (k number : ℕ) : Type 0 where
-  pub registers : (j : ℕ) → LeadsTo (slice_index_or n.registers j Null) number → IsRegisterOf k j
+  pub registers : (j : ℕ) → LeadsTo (slice_index_or n.registers j Null) number → (8 * k ≤ j) × (j < 8 * k + 8)
   pub globals : (g : ℕ) → LeadsTo (global_at n g) number → ⊥
   pub words : (from place : ℕ) → LeadsTo (word_at n from place) number → ⊥
 
@@ -39,9 +34,7 @@ abbrev pub number_behind : NeverState → Value → ℕ
 number_behind n (Ptr number ty offset) = number_in (word_at n number offset)
 number_behind n _ = 0
 
--- After all that the pass has seen its caller owns a number, by this register; and which number that is.
-
--- Register d has a number of its caller's own.
+-- After all that the pass has seen register d has a number of its caller's own.
 abbrev pub OwnsNumber : PassState → ℕ → Type 0
 OwnsNumber p d = OwnsNumberIn (never_of p) (caller_of_pass p) d
 
@@ -88,10 +81,3 @@ store_then_load k d n =
 -- an object is made first
 abbrev pub new_store_load : ℕ → ℕ → ℕ → ℕ → List Decided
 new_store_load k d ty n = record { caller = k; op = Op.New d ty false; answer = Answer.Done } ∷ store_then_load k d n
-
--- Events of others: of other callers, of markers, and of the host.
-abbrev pub OwnedNumbersStay : Type 0
-OwnedNumbersStay =
-    (p : PassState) (more : List Event) (d : ℕ) → IsHistory p.table.config (p.seen ++ more)
-    → AreOfOthers (Caller (caller_of_pass p) ∷ []) more → OwnsNumber p d
-    → HasNumber (record p { seen = p.seen ++ more }) d (number_owned p d)

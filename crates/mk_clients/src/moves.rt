@@ -3,7 +3,7 @@ ghost use Rattle.std.specs.Prelude.{◌≡◌, ◌≢◌, ◌<◌, IfOk, true, [
 ghost use Rattle.mk_never.specs.declared.operations.Op.TheVariants as op;
 ghost use Rattle.mk_core.specs.declared.events.Seat.TheVariants.{Caller as OfCaller, Host};
 ghost use Rattle.mk_heap.specs.Below.{Words.States.Has, Callers.States.Admits};
-ghost use Rattle.mk_clients.specs.Clients.{IsOnlySetter, IsOnlyStore, TakesOut};
+ghost use Rattle.mk_clients.specs.Clients.{IsOnlyCall, TakesOut, is_set_of, is_store};
 
 use mk_core::Seat;
 use mk_heap::lower::callers::{Caller, Refusal};
@@ -25,7 +25,8 @@ pub fn moves_through_global(caller: &mut Caller, d: u8, g: u8, p: u8) -> Result<
     requires admitted { Admits caller.old.pass (op.SetGlobal g p) }
     requires register { d < 8 }
     requires another { d ≢ p }
-    ensures { IfOk result (λ same. IsOnlySetter caller.old.pass g p caller.new.pass → same ≡ true) }
+    ensures { IfOk result (λ same. IsOnlyCall (is_set_of g) caller.old.pass (op.SetGlobal g p) caller.new.pass
+        → same ≡ true) }
 {
     caller.set_global(g, p)?;
     caller.get_global(d, g)?;
@@ -49,7 +50,8 @@ pub fn takes_out_of_global(caller: &mut Caller, d: u8, g: u8, x: u8) -> Result<b
 pub fn moves_through_memory(caller: &mut Caller, q: u8, i: u64, n: u64) -> Result<u64, Refusal>
     requires home { caller.old.home ≡ true }
     requires admitted { Admits caller.old.pass (op.SetNum q i n) }
-    ensures { IfOk result (λ loaded. IsOnlyStore caller.old.pass q i n caller.new.pass → loaded ≡ n) }
+    ensures { IfOk result (λ loaded. IsOnlyCall is_store caller.old.pass (op.SetNum q i n) caller.new.pass
+        → loaded ≡ n) }
 {
     caller.set_num(q, i, n)?;
     caller.get_num(q, i)

@@ -8,7 +8,7 @@ use Rattle.mk_laws.proofs.Vocabulary.{get_or-set_same, inl, inr, length, refl, s
 use Rattle.mk_laws.proofs.Vocabulary.{◌+◌, ◌<◌, ◌∙◌, ◌∷◌, ◌≡◌, ◌≢◌, ◌⊎◌}
 use Rattle.mk_never.specs.Admitted.{IsAdmitted}
 use Rattle.mk_heap.specs.Below.Objects.TurnCalls.{MayTakeTurns}
-use Rattle.mk_jobs.specs.{Passes.{AreClears, GoesToEnd}, Jobs.IsEnd}
+use Rattle.mk_jobs.{proofs.Vocabulary.AreClears, specs.{Passes.GoesToEnd, Jobs.IsEnd}}
 
 cleared : (n : NeverState) (k d : ℕ) → 8 * k + d < length n.registers → register_at (with_register n k d Null) k d
     ≡ Null

@@ -2,7 +2,7 @@
 use Rattle.mk_laws.proofs.Vocabulary.{List, Op, ap, inl, inr, subst, sym, [], ◌∙◌, ◌∷◌, ◌≡◌}
 use Rattle.mk_never.specs.declared.operations.Reply.{Reply}
 use Rattle.mk_heap.specs.Below.Words.States.{PassState}
-use Rattle.mk_jobs.specs.{Jobs.{Asks, Leads, Replied}, Passes.DoesJob, Typing.Plan, declared.steps.Step.{Step}}
+use Rattle.mk_jobs.specs.{Jobs.{Asks, Leads, Replied}, Passes.GoesToEnd, Typing.Plan, declared.steps.Step.{Step}}
 
 module _ {Job Done Point Kind : Type 0} (p : Plan Job Done Point) (kind : Point → Kind)
     (stays : (s t : Point) (o : Op) (r : Reply) → Asks p.with_number (p.step s) o r t → kind t ≡ kind s) where
@@ -14,7 +14,7 @@ module _ {Job Done Point Kind : Type 0} (p : Plan Job Done Point) (kind : Point 
   -- What holds of the ends of its kind holds of it.
   pub ends_as_its_kind : (Fits : Kind → Done → Type 0)
       → ((s : Point) (d : Done) → p.step s ≡ Step.End d → Fits (kind s) d) → {q q' : PassState} (j : Job) (d : Done)
-      → DoesJob p q j d q' → Fits (kind (p.starting j)) d
+      → GoesToEnd p q (p.starting j) q' d → Fits (kind (p.starting j)) d
   ends_as_its_kind Fits ends j d does =
       subst (λ (x : Kind). Fits x d) (goes_on (p.starting j) does.goes.all does.last does.goes.leads)
       (ends does.last d does.ended)

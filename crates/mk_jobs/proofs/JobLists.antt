@@ -1,8 +1,9 @@
 -- A caller does one job more of its list.
 use Rattle.std.proofs.lemmas.List.{take_more}
-use Rattle.mk_jobs.proofs.RunVocabulary.{AreJobRuns, DoesJob, DoesJobs, JobRun, PassState, Plan, Replied, all_of}
-use Rattle.mk_jobs.{proofs.RunVocabulary.{replied_to}, specs.{Runs.{dones_of, jobs_of}, Jobs.IsJobRun}}
-use Rattle.mk_laws.proofs.Vocabulary.{List, ℕ, ap, append-nil, append_assoc, get_or, length, refl, sym, take, [], ◌++◌}
+use Rattle.mk_jobs.proofs.RunVocabulary.{AreJobRuns, DoesJobs, GoesToEnd, JobRun, PassState, Plan, Replied, all_of}
+use Rattle.mk_jobs.{proofs.RunVocabulary.{replied_to}, specs.Jobs.IsJobRun}
+use Rattle.mk_laws.proofs.Vocabulary.{List, ℕ, ap, append-nil, append_assoc, get_or, length, map, refl, sym, take, []}
+use Rattle.mk_laws.proofs.Vocabulary.{◌++◌}
 use Rattle.mk_laws.proofs.Vocabulary.{◌+◌, ◌<◌, ◌∙◌, ◌∷◌, ◌≡◌}
 
 all_in_parts : {Job Done : Type 0} (rs ss : List (JobRun Job Done)) → all_of (rs ++ ss) ≡ all_of rs ++ all_of ss
@@ -11,12 +12,12 @@ all_in_parts (r ∷ rs) ss =
     ap (λ (l : List Replied). r.all ++ l) (all_in_parts rs ss) ∙ sym (append_assoc r.all (all_of rs) (all_of ss))
 
 one_job_more : {Job Done : Type 0} (rs : List (JobRun Job Done)) (r : JobRun Job Done)
-    → jobs_of (rs ++ r ∷ []) ≡ jobs_of rs ++ r.job ∷ []
+    → map (λ (r : JobRun Job Done). r.job) (rs ++ r ∷ []) ≡ map (λ (r : JobRun Job Done). r.job) rs ++ r.job ∷ []
 one_job_more [] r = refl
 one_job_more (x ∷ rs) r = ap (λ l. x.job ∷ l) (one_job_more rs r)
 
 one_done_more : {Job Done : Type 0} (rs : List (JobRun Job Done)) (r : JobRun Job Done)
-    → dones_of (rs ++ r ∷ []) ≡ dones_of rs ++ r.done ∷ []
+    → map (λ (r : JobRun Job Done). r.done) (rs ++ r ∷ []) ≡ map (λ (r : JobRun Job Done). r.done) rs ++ r.done ∷ []
 one_done_more [] r = refl
 one_done_more (x ∷ rs) r = ap (λ l. x.done ∷ l) (one_done_more rs r)
 
@@ -29,34 +30,40 @@ module _ {Job Done Point : Type 0} (p : Plan Job Done Point) where
   pub does_none : (q : PassState) → DoesJobs p q [] [] q
   does_none q = record {
     is = refl;
-    runs = [];
-    are_runs = tt;
-    same_jobs = refl;
-    same_dones = refl;
-    did = sym (append-nil (replied_to q));
+    done = record {
+      runs = [];
+      are_runs = tt;
+      same_jobs = refl;
+      same_dones = refl;
+      all_are = sym (append-nil (replied_to q));
+    };
   }
 
   pub does_more : {q r : PassState} (u : PassState) {jobs : List Job} {dones : List Done} (job : Job) (done : Done)
-      → DoesJobs p q jobs dones r → DoesJob p r job done u
+      → DoesJobs p q jobs dones r → GoesToEnd p r (p.starting job) u done
       → DoesJobs p q (jobs ++ job ∷ []) (dones ++ done ∷ []) u
   does_more {q} {r} u {jobs} {dones} job done before does =
       let run : JobRun Job Done = record { job = job; done = done; all = does.goes.all } in
+      let so_far = before.done in
       record {
         is = does.goes.is ∙ ap (λ (s : PassState). record s { seen = u.seen }) before.is;
-        runs = before.runs ++ run ∷ [];
-        are_runs = one_run_more before.runs run before.are_runs (does.last, does.goes.leads, does.ended);
-        same_jobs = one_job_more before.runs run ∙ ap (λ l. l ++ job ∷ []) before.same_jobs;
-        same_dones = one_done_more before.runs run ∙ ap (λ l. l ++ done ∷ []) before.same_dones;
-        did =
-            does.goes.did ∙ ap (λ (l : List Replied). l ++ run.all) before.did
-            ∙ append_assoc (replied_to q) (all_of before.runs) run.all
-            ∙ ap (λ (l : List Replied). replied_to q ++ l) (ap (λ (l : List Replied). all_of before.runs ++ l)
-            (sym (append-nil run.all)) ∙ sym (all_in_parts before.runs (run ∷ [])));
+        done = record {
+          runs = so_far.runs ++ run ∷ [];
+          are_runs = one_run_more so_far.runs run so_far.are_runs (does.last, does.goes.leads, does.ended);
+          same_jobs = one_job_more so_far.runs run ∙ ap (λ l. l ++ job ∷ []) so_far.same_jobs;
+          same_dones = one_done_more so_far.runs run ∙ ap (λ l. l ++ done ∷ []) so_far.same_dones;
+          all_are =
+              does.goes.did ∙ ap (λ (l : List Replied). l ++ run.all) so_far.all_are
+              ∙ append_assoc (replied_to q) (all_of so_far.runs) run.all
+              ∙ ap (λ (l : List Replied). replied_to q ++ l) (ap (λ (l : List Replied). all_of so_far.runs ++ l)
+              (sym (append-nil run.all)) ∙ sym (all_in_parts so_far.runs (run ∷ [])));
+        };
       }
 
   -- the same, along a list of jobs
   pub does_next : {q r : PassState} (u : PassState) (jobs : List Job) (i : ℕ) {dones : List Done} (d : Job)
-      (done : Done) → i < length jobs → DoesJobs p q (take i jobs) dones r → DoesJob p r (get_or jobs i d) done u
+      (done : Done) → i < length jobs → DoesJobs p q (take i jobs) dones r
+      → GoesToEnd p r (p.starting (get_or jobs i d)) u done
       → DoesJobs p q (take (i + 1) jobs) (dones ++ done ∷ []) u
   does_next u jobs i d done within before does =
       rw (take_more jobs i d within) (does_more u (get_or jobs i d) done before does)

@@ -77,7 +77,8 @@ module _ {Job Done Point : Type 0} (p : Plan Job Done Point) (c : Config) (es : 
       unasked_beyond (k + suc i) c.callers (never_first c) (asked (calls c es)) below (omega arith)
   own_at below first k [] (d ∷ ds) h none count i = absurd h
   own_at below first k (x ∷ xs) [] h none count i = absurd h
-  own_at below first k (x ∷ xs) (d ∷ ds) h none count zero = ap (λ (j : ℕ). replied_in c j es) (omega arith) ∙ h.0.own
+  own_at below first k (x ∷ xs) (d ∷ ds) h none count zero = ap (λ (j : ℕ). replied_in c j es) (omega arith)
+      ∙ h.0.all_are
   own_at below first k (x ∷ xs) (d ∷ ds) h none count (suc i) =
       ap (λ (j : ℕ). replied_in c j es) (omega arith) ∙ own_at below [] (k + 1) xs ds h.1 (λ e. refl) (omega arith) i
       ∙ ap (λ (l : List Replied). l ++ all_of (runs_at [] (k + 1) xs ds h.1 i)) (no_first i)

@@ -1,7 +1,7 @@
 -- Callers that did their jobs, as the host joins them.
 use Rattle.std.proofs.{Common.{Err, IfOk, IsOk, Ok, OnOk, Result, slice_get}, lemmas.List.drop_more}
 use Rattle.std.proofs.lemmas.{Option.slice_get-get_or, Result.IfOk-weaker}
-use Rattle.mk_jobs.proofs.RunVocabulary.{Caller, CallerState, Config, DoesJobs, Dones, Event, Grows, Has, HasDone}
+use Rattle.mk_jobs.proofs.RunVocabulary.{Caller, CallerState, Config, AreDone, DoesJobs, Dones, Event, Grows, Has}
 use Rattle.mk_jobs.proofs.RunVocabulary.{HasMade, HaveDone, HaveWorked, Host, HostState, IsAtHome, IsBetweenJobs}
 use Rattle.mk_jobs.proofs.RunVocabulary.{IsMadeFor, IsReady, Jobs, Joined, OwnAreExact, PassState, Plan, Replied, Seat}
 use Rattle.mk_jobs.proofs.RunVocabulary.{TurnsOfAreExact, WordsState, all_of, caller_of_pass, pass_for, replied_in}
@@ -116,14 +116,15 @@ exact_joined {on} c k count {es} mine theirs j le lt = by (same_or_later k j le)
     by (inr later) = theirs j later (omega (arith, lt))
 
 module _ {Job Done Point : Type 0} (p : Plan Job Done Point) where
-  still_done : {c : Config} {es fs : List Event} {first : List Replied} {k : ℕ} {jobs : List Job} {dones : List Done}
-      → Grows (Caller k ∷ []) es fs → HasDone p c es first k jobs dones → HasDone p c fs first k jobs dones
-  still_done {c} {k} g h = record {
+  still_done : (c : Config) {es fs : List Event} {first : List Replied} {k : ℕ} {jobs : List Job} {dones : List Done}
+      → Grows (Caller k ∷ []) es fs → AreDone p jobs dones first (replied_in c k es)
+      → AreDone p jobs dones first (replied_in c k fs)
+  still_done c g h = record {
     runs = h.runs;
     are_runs = h.are_runs;
     same_jobs = h.same_jobs;
     same_dones = h.same_dones;
-    own = still_replied c g ∙ h.own;
+    all_are = still_replied c g ∙ h.all_are;
   }
 
   pub still_have : (c : Config) (es fs : List Event) (first : List Replied) (k : ℕ) (lists : List (Jobs Job))
@@ -131,7 +132,7 @@ module _ {Job Done Point : Type 0} (p : Plan Job Done Point) where
       → HaveDone p c es first k lists all → HaveDone p c fs first k lists all
   still_have c es fs first k [] [] g h = tt
   still_have c es fs first k (x ∷ xs) (d ∷ ds) g h = (
-    still_done (g k (omega arith) (omega arith)) h.0,
+    still_done c (g k (omega arith) (omega arith)) h.0,
     still_have c es fs [] (k + 1) xs ds (λ j le lt. g j (omega arith) (omega arith)) h.1,
   )
   still_have c es fs first k _ _ g h = absurd h
@@ -157,14 +158,14 @@ module _ {Job Done Point : Type 0} (p : Plan Job Done Point) where
         ready = ended;
         done =
             IfOk-weaker dones (λ ds. DoesJobs p s.pass jobs ds.list.items q)
-            (λ ds. HasDone p w.config r.seen (replied_to first) k jobs ds.list.items) (λ ds d. record {
-              runs = d.runs;
-              are_runs = d.are_runs;
-              same_jobs = d.same_jobs;
-              same_dones = d.same_dones;
-              own =
-                  own_replies ended ∙ ap replied_to same ∙ d.did
-                  ∙ ap (λ (x : PassState). replied_to x ++ all_of d.runs) at_home;
+            (λ ds. AreDone p jobs ds.list.items (replied_to first) (replied_in w.config k r.seen)) (λ ds d. record {
+              runs = d.done.runs;
+              are_runs = d.done.are_runs;
+              same_jobs = d.done.same_jobs;
+              same_dones = d.done.same_dones;
+              all_are =
+                  own_replies ended ∙ ap replied_to same ∙ d.done.all_are
+                  ∙ ap (λ (x : PassState). replied_to x ++ all_of d.done.runs) at_home;
             }) does;
       }
 
@@ -197,7 +198,7 @@ module _ {Job Done Point : Type 0} (p : Plan Job Done Point) where
       → ((j : ℕ) → k + 1 ≤ j → j < k + 1 + length lists → Grows (Caller j ∷ []) es fs)
       → OnOk all (IsOk first) → OnOk all (IsOk others)
       → IfOk all (λ a. IfOk first (λ x. IfOk others (λ xs. items a ≡ x ∷ items xs)))
-      → IfOk first (λ x. HasDone p c ds before k jobs.list.items x.list.items)
+      → IfOk first (λ x. AreDone p jobs.list.items x.list.items before (replied_in c k ds))
       → IfOk others (λ xs. HaveDone p c es [] (k + 1) lists (items xs))
       → IfOk all (λ a. HaveDone p c fs before k (jobs ∷ lists) (items a))
   dones_joined items c es before k jobs lists first others (Err e) mine theirs a b is h i = tt
@@ -205,7 +206,7 @@ module _ {Job Done Point : Type 0} (p : Plan Job Done Point) where
   dones_joined items c es before k jobs lists (Ok x) (Err y) (Ok all) mine theirs a b is h i = cc
   dones_joined items c es {fs} before k jobs lists (Ok x) (Ok xs) (Ok all) mine theirs a b is h i =
       subst (HaveDone p c fs before k (jobs ∷ lists)) (sym is) (
-        still_done mine h,
+        still_done c mine h,
         still_have c es fs [] (k + 1) lists (items xs) theirs i,
       )
 

@@ -10,10 +10,11 @@ use Rattle.mk_never.specs.declared.operations.Reply.{Reply}
 use Rattle.mk_heap.specs.Dispatching.{as_told}
 use Rattle.mk_jobs.specs.{Typing.{Hold, Anything, MayPoint, Points, Owns, Owes, Plan}, Jobs.{Asks, Has, number_replied}}
 use Rattle.mk_jobs.specs.{declared.steps.Step.Step, Passes.{next_by, number_answered, op_of, says_yes}}
-use Rattle.mk_jobs.specs.Typing.{IsTypedStep, found, freed, global_type, hold_of, is_number_there, is_own, is_there}
+use Rattle.mk_jobs.proofs.Vocabulary.{is_some, slice_get}
+use Rattle.mk_jobs.specs.Typing.{IsTypedStep, found, freed, hold_of, is_number_there, is_own}
 use Rattle.mk_jobs.specs.Typing.{kind_there, leads, leads_shared, loaded, may_go, may_set, taken, type_there, with_hold}
 use Rattle.mk_jobs.proofs.Holds.{HoldsIn, both, lead_so, pointer_may, same_so, set_so, share_so}
-use Rattle.mk_jobs.proofs.Meeting.{IsStateOf, global_so, loads, sound, there_so, type_so, word_met}
+use Rattle.mk_jobs.proofs.Meeting.{IsStateOf, loads, sound, there_so, type_so, word_met}
 use Rattle.mk_jobs.proofs.Stepping.{cond_registers, freed_has, left_registers, set_lt}
 use Rattle.mk_jobs.specs.declared.steps.Step.TheVariants as step
 
@@ -164,7 +165,7 @@ module _ {Job Done Point : Type 0} (p : Plan Job Done Point) {n : NeverState} {k
   steps_on hs (step.GetPtr d q i to) typed h = λ a bases image.
       let one = both (may_set p.registers hs d) _ typed in
       let two = both (nat_lt q 8) _ one.1 in
-      let three = both (is_there (type_there (kind_there p.types (hold_of hs q) i))) _ two.1 in
+      let three = both (is_some (type_there (kind_there p.types (hold_of hs q) i))) _ two.1 in
       let there = there_so (type_there (kind_there p.types (hold_of hs q) i)) three.0 in
       let w = word_met p.types (hold_of hs q) i (To there.t 0) (type_so _ there.t there.is) in
       let e : leads p (with_hold hs d (MayPoint there.t)) to ≡ true =
@@ -204,23 +205,23 @@ module _ {Job Done Point : Type 0} (p : Plan Job Done Point) {n : NeverState} {k
   steps_on hs (step.GetGlobal d g to) typed h = λ a bases image.
       let one = both (may_set p.registers hs d) _ typed in
       let two = both (nat_lt g 64) _ one.1 in
-      ((refl, refl), gets (global_type p.globals g) refl (set_lt p.registers hs d one.0) two.1)
+      ((refl, refl), gets (slice_get p.globals g) refl (set_lt p.registers hs d one.0) two.1)
     where
-      gets : (x : Option ℕ) → global_type p.globals g ≡ x → d < 8
-          → leads p (loaded hs d (global_type p.globals g)) to ≡ true
+      gets : (x : Option ℕ) → slice_get p.globals g ≡ x → d < 8
+          → leads p (loaded hs d (slice_get p.globals g)) to ≡ true
           → HoldsIn (register_at (with_register n k d (global_at n g)) k) (p.holds to)
       gets (Some t) is lt e =
           lead_so _ (with_hold hs d (MayPoint t)) (p.holds to)
           (subst (λ (x : Option ℕ). leads p (loaded hs d x) to ≡ true) is e)
           (set_holds n refl hs d (MayPoint t) (global_at n g) lt (subst (λ (x : Option ℕ). IfSome x (λ ty.
-          IsOfKind (global_at n g) (To ty 0))) (global_so p.globals g t is) (state.typed.listed g)) h)
+          IsOfKind (global_at n g) (To ty 0))) is (state.typed.listed g)) h)
       gets None is lt e =
           lead_so _ (with_hold hs d Anything) (p.holds to)
           (subst (λ (x : Option ℕ). leads p (loaded hs d x) to ≡ true) is e)
           (set_holds n refl hs d Anything (global_at n g) lt tt h)
   steps_on hs (step.SetGlobal g r to) typed h = λ a bases image.
       let two = both (nat_lt r 8) _ (both (nat_lt g 64) _ typed).1 in
-      let three = both (may_go (global_type p.globals g) (hold_of hs r)) (leads_shared p hs to) two.1 in
+      let three = both (may_go (slice_get p.globals g) (hold_of hs r)) (leads_shared p hs to) two.1 in
       ((refl, refl), share_so v hs (p.holds to) three.1 h)
   steps_on hs (step.Clear d to) typed h = λ a bases image.
       let one = both (may_set p.registers hs d) _ typed in (

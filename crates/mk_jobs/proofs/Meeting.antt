@@ -1,11 +1,11 @@
 -- An access through a register that holds a pointer meets a word of its kind.
 use Rattle.mk_jobs.proofs.Vocabulary.{Anything, Bool, Has, HasTypes, Hold, IsCaller, IsOfKind, IsSound, Kind, List}
 use Rattle.mk_jobs.proofs.Vocabulary.{MayPoint, Meets, NeverState, None, Null, Num, Number, Option, Owes, Owns, Points}
-use Rattle.mk_jobs.proofs.Vocabulary.{Ptr, Some, Suits, To, Unmapped, Value, WordOf, [], allocation_at, ap, arith}
-use Rattle.mk_jobs.proofs.Vocabulary.{eqb-true, false, false≢true, global_type, if◌then◌else◌, is_number_there}
-use Rattle.mk_jobs.proofs.Vocabulary.{is_there, is_unmapped, kind_of, kind_there, kinds_of, left_at, length, ltb-true}
-use Rattle.mk_jobs.proofs.Vocabulary.{may_go, nat_lt, refl, register_at, slice_get, slice_index_or, subst, suc, sym}
-use Rattle.mk_jobs.proofs.Vocabulary.{target_of, true, type_there, word_at, words_of, zero, ℕ, ◌*◌, ◌+◌, ◌<◌, ◌∙◌, ◌∷◌}
+use Rattle.mk_jobs.proofs.Vocabulary.{Ptr, Some, Suits, To, Unmapped, Value, WordOf, allocation_at, ap, arith}
+use Rattle.mk_jobs.proofs.Vocabulary.{eqb-true, false, false≢true, if◌then◌else◌, is_number_there}
+use Rattle.mk_jobs.proofs.Vocabulary.{is_some, is_unmapped, kind_of, kind_there, kinds_of, left_at, length, ltb-true}
+use Rattle.mk_jobs.proofs.Vocabulary.{may_go, nat_lt, refl, register_at, slice_index_or, subst, suc, sym}
+use Rattle.mk_jobs.proofs.Vocabulary.{target_of, true, type_there, word_at, words_of, zero, ℕ, ◌*◌, ◌+◌, ◌<◌, ◌∙◌}
 use Rattle.mk_jobs.proofs.{Vocabulary.◌≡◌, Holds.pointer_may}
 
 -- a state of a heap for these jobs, and one of its callers
@@ -51,7 +51,7 @@ pub record IsType (x : Option ℕ) : Type 0 where
   pub t : ℕ
   pub is : x ≡ Some t
 
-pub there_so : (x : Option ℕ) → is_there x ≡ true → IsType x
+pub there_so : (x : Option ℕ) → is_some x ≡ true → IsType x
 there_so (Some t) e = record { t = t; is = refl }
 there_so None e = absurd (false≢true e)
 
@@ -78,11 +78,6 @@ go_so (Some t) (Owns u) e = record {
   may = λ v has. subst (λ (y : ℕ). IsOfKind v (To y 0)) (sym (eqb-true t u e)) (pointer_may u v has);
 }
 go_so _ _ e = absurd (false≢true e)
-
-pub global_so : (gs : List ℕ) (g t : ℕ) → global_type gs g ≡ Some t → slice_get gs g ≡ Some t
-global_so [] g t e = absurd (none_is t e)
-global_so (x ∷ gs) zero t e = e
-global_so (x ∷ gs) (suc g) t e = global_so gs g t e
 
 -- a word of this kind is inside
 kind_at : (ks : List Kind) (i : ℕ) (kind : Kind) → kind_of ks i ≡ Some kind

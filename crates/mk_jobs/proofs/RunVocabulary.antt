@@ -9,8 +9,9 @@ pub use Rattle.mk_laws.proofs.Vocabulary.{never_behind, answer_of, Config, Answe
 pub use Rattle.mk_laws.proofs.Vocabulary.{AreAdmitted, Call, NeverState, after_calls, register_at, IsTyped, Op, Null}
 pub use Rattle.mk_core.specs.History.{Grows, never_first}
 pub use Rattle.mk_never.specs.{NeverHeap.{after_op, reply_of}, declared.operations.Reply.Reply}
-pub use Rattle.mk_jobs.specs.{Passes.{Clears, next_by, op_of}, Runs.{DoesJobs, HasDone, HaveDone}}
-pub use Rattle.mk_jobs.specs.Jobs.{AreBelow, AreJobRuns, Asks, HoldsAt, JobRun, Leads, Replied, all_of, own_replied}
+pub use Rattle.mk_jobs.specs.{Passes.{Clears, next_by, op_of}, Runs.{AreDone, DoesJobs, HaveDone}}
+pub use Rattle.mk_jobs.proofs.Vocabulary.{AreBelow}
+pub use Rattle.mk_jobs.specs.Jobs.{AreJobRuns, Asks, HoldsAt, JobRun, Leads, Replied, all_of, own_replied}
 pub use Rattle.mk_jobs.specs.{Joining.{HaveWorked, IsBetweenJobs}, Typing.Plan, declared.joining.Joined.Joined}
-pub use Rattle.mk_jobs.specs.Passes.{DoesJob, GoesToEnd, GoesToPoint, IsMadeFor, IsReady, replied_in, replied_to}
+pub use Rattle.mk_jobs.specs.Passes.{GoesToEnd, GoesToPoint, IsMadeFor, IsReady, replied_in, replied_to}
 pub use Rattle.mk_jobs.specs.declared.{job_lists.{Dones.Dones, Jobs.Jobs}, steps.Step.Step}

@@ -4,11 +4,11 @@ use Rattle.mk_jobs.proofs.Vocabulary.{AccessIsAdmitted, Anything, Bool, Has, Hol
 use Rattle.mk_jobs.proofs.Vocabulary.{IsOfKind, IsPointer, IsTypedStep, Kind, List, MayPoint, Meets, NeverState}
 use Rattle.mk_jobs.proofs.Vocabulary.{Nothing, Null, Num, Number, Op, OperandsAreInRange, Option, Owes, Owns, Plan}
 use Rattle.mk_jobs.proofs.Vocabulary.{Points, Ptr, Some, Step, StoreIsAdmitted, Target, To, Unmapped, Value, WordOf, ap}
-use Rattle.mk_jobs.proofs.Vocabulary.{arith, false, false≢true, freed, global_type, hold_of, if◌then◌else◌}
-use Rattle.mk_jobs.proofs.Vocabulary.{is_number_there, is_own, is_there, kind_there, left_at, length, ltb-true, may_go}
+use Rattle.mk_jobs.proofs.Vocabulary.{arith, false, false≢true, freed, slice_get, hold_of, if◌then◌else◌}
+use Rattle.mk_jobs.proofs.Vocabulary.{is_number_there, is_own, is_some, kind_there, left_at, length, ltb-true, may_go}
 use Rattle.mk_jobs.proofs.Vocabulary.{may_set, nat_lt, not, op_of, refl, register_at, subst, sym, true, type_there}
 use Rattle.mk_jobs.proofs.{Vocabulary.{with_word, ℕ, ◌&&◌, ◌<◌, ◌∙◌, ◌≡◌}, Holds.{HoldsIn, both}}
-use Rattle.mk_jobs.proofs.Meeting.{IsStateOf, global_so, go_so, is_number_so, meets, sound, there_so, type_so, word_met}
+use Rattle.mk_jobs.proofs.Meeting.{IsStateOf, go_so, is_number_so, meets, sound, there_so, type_so, word_met}
 use Rattle.mk_jobs.specs.declared.steps.Step.TheVariants as step
 
 freed_base : (h : Hold) (v : Value) → is_own h ≡ true → Has v h → IsBase v
@@ -95,7 +95,7 @@ module _ {Job Done Point : Type 0} (p : Plan Job Done Point) {n : NeverState} {k
   admits hs (step.GetPtr d q i to) typed h =
       let one = both (may_set p.registers hs d) _ typed in
       let two = both (nat_lt q 8) _ one.1 in
-      let three = both (is_there (type_there (kind hs q i))) _ two.1 in
+      let three = both (is_some (type_there (kind hs q i))) _ two.1 in
       let lt = ltb-true q 8 two.0 in
       let there = there_so (type_there (kind hs q i)) three.0 in
       admitted (Op.GetPtr d q i) (set_lt p.registers hs d one.0, lt)
@@ -140,12 +140,12 @@ module _ {Job Done Point : Type 0} (p : Plan Job Done Point) {n : NeverState} {k
   admits hs (step.SetGlobal g r to) typed h =
       let one = both (nat_lt g 64) _ typed in
       let two = both (nat_lt r 8) _ one.1 in
-      let three = both (may_go (global_type p.globals g) (hold_of hs r)) _ two.1 in
+      let three = both (may_go (slice_get p.globals g) (hold_of hs r)) _ two.1 in
       let lt = ltb-true g 64 one.0 in
       let lt' = ltb-true r 8 two.0 in
-      let go = go_so (global_type p.globals g) (hold_of hs r) three.0 in
+      let go = go_so (slice_get p.globals g) (hold_of hs r) three.0 in
       admitted (Op.SetGlobal g r) (omega (arith, lt, state.count), lt') tt
-      (subst (λ (x : Option ℕ). IfSome x (λ ty. IsOfKind (v r) (To ty 0))) (sym (global_so p.globals g go.t go.is))
+      (subst (λ (x : Option ℕ). IfSome x (λ ty. IsOfKind (v r) (To ty 0))) (sym go.is)
       (go.may (v r) (h r lt')))
   admits hs (step.Clear d to) typed h =
       admitted (Op.Clear d) (set_lt p.registers hs d (both (may_set p.registers hs d) _ typed).0) tt tt

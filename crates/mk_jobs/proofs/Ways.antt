@@ -4,13 +4,13 @@ use Rattle.mk_jobs.proofs.Vocabulary.{Anything, Asks, Bool, Has, Hold, IfSome, I
 use Rattle.mk_jobs.proofs.Vocabulary.{NeverState, None, Null, Num, Op, Option, Owes, Owns, Plan, Points, Ptr, Public}
 use Rattle.mk_jobs.proofs.Vocabulary.{Reply, Role, Some, Step, TakesPublic, Target, To, Value, World, after_op}
 use Rattle.mk_jobs.proofs.Vocabulary.{all_give, and_parts, ap, arith, bit, cond, eqb-true, false, false≢true, found}
-use Rattle.mk_jobs.proofs.Vocabulary.{freed, get_or-set_other, get_or-set_same, gives, global_at, global_type, hold_of}
+use Rattle.mk_jobs.proofs.Vocabulary.{freed, get_or-set_other, get_or-set_same, gives, global_at, slice_get, hold_of}
 use Rattle.mk_jobs.proofs.Vocabulary.{inl, inr, is_number_there, is_owed, is_own, is_pointer_to, is_same}
-use Rattle.mk_jobs.proofs.Vocabulary.{is_there, kind_there, leads, leads_shared, left_at, length, loaded, ltb-true}
+use Rattle.mk_jobs.proofs.Vocabulary.{is_some, kind_there, leads, leads_shared, left_at, length, loaded, ltb-true}
 use Rattle.mk_jobs.proofs.Vocabulary.{may_go, may_set, nat_lt, not, number_replied, refl, register_at, reply_of, subst}
 use Rattle.mk_jobs.proofs.Vocabulary.{sym, taken, target_of, true, type_there, with_hold, with_register, word_at, ℕ}
 use Rattle.mk_jobs.proofs.{Vocabulary.{◌&&◌, ◌*◌, ◌+◌, ◌<◌, ◌==◌, ◌∙◌, ◌≡◌, ◌⊎◌}, Holds.{HoldsIn, pointer_may}}
-use Rattle.mk_jobs.proofs.Meeting.{IsStateOf, global_so, loads, sound, there_so, type_so, word_met}
+use Rattle.mk_jobs.proofs.Meeting.{IsStateOf, loads, sound, there_so, type_so, word_met}
 use Rattle.mk_jobs.proofs.{Stepping.{cond_registers, left_registers, set_lt}, Owners.not_owed, Passing.{Change, Goes}}
 use Rattle.mk_jobs.proofs.Passing.{goes_change, goes_quiet, goes_set, leads_by, leads_shared_by, sets, stays, takes}
 use Rattle.mk_jobs.specs.declared.steps.Step.TheVariants as step
@@ -132,11 +132,11 @@ module _ {Job Done Point : Type 0} (p : Plan Job Done Point) (w : World) {k : �
       → r < 8 → register_at (left_at t w.n at) k r ≡ v r
   stored t at same r lt = left_registers t w.n k r at (λ a i. same a i r)
 
-  gets_global : (d g : ℕ) (to : Point) (x : Option ℕ) → global_type p.globals g ≡ x → may_set p.registers hs d ≡ true
+  gets_global : (d g : ℕ) (to : Point) (x : Option ℕ) → slice_get p.globals g ≡ x → may_set p.registers hs d ≡ true
       → leads p (loaded hs d x) to ≡ true → GoesOn (with_register w.n k d (global_at w.n g)) to
   gets_global d g to (Some t) is may e =
       set_to d (global_at w.n g) (MayPoint t) to may refl (subst (λ (x : Option ℕ). IfSome x (λ ty.
-      IsOfKind (global_at w.n g) (To ty 0))) (global_so p.globals g t is) (state.typed.listed g)) e
+      IsOfKind (global_at w.n g) (To ty 0))) is (state.typed.listed g)) e
   gets_global d g to None is may e = set_to d (global_at w.n g) Anything to may refl tt e
 
   exchanged : (m : NeverState) (x : ℕ) (t : Point) → x < 8 → ((r : ℕ) → r < 8 → register_at m k r ≡ v r)
@@ -179,7 +179,7 @@ module _ {Job Done Point : Type 0} (p : Plan Job Done Point) (w : World) {k : �
   asks_way (step.GetPtr d q i to) typed o t asks public =
       let one = and_parts (may_set p.registers hs d) _ typed in
       let two = and_parts (nat_lt q 8) _ one.1 in
-      let three = and_parts (is_there (type_there (kind_there p.types (hold_of hs q) i))) _ two.1 in
+      let three = and_parts (is_some (type_there (kind_there p.types (hold_of hs q) i))) _ two.1 in
       let there = there_so (type_there (kind_there p.types (hold_of hs q) i)) three.0 in
       let m = word_met p.types (hold_of hs q) i (To there.t 0) (type_so _ there.t there.is) in
       let e : leads p (with_hold hs d (MayPoint there.t)) to ≡ true =
@@ -217,10 +217,10 @@ module _ {Job Done Point : Type 0} (p : Plan Job Done Point) (w : World) {k : �
       let one = and_parts (may_set p.registers hs d) _ typed in
       let two = and_parts (nat_lt g 64) _ one.1 in
       at o (op.GetGlobal d g) t to asks.0 asks.1
-      (passes refl (gets_global d g to (global_type p.globals g) refl one.0 two.1))
+      (passes refl (gets_global d g to (slice_get p.globals g) refl one.0 two.1))
   asks_way (step.SetGlobal g r to) typed o t asks public =
       let two = and_parts (nat_lt r 8) _ (and_parts (nat_lt g 64) _ typed).1 in
-      let three = and_parts (may_go (global_type p.globals g) (hold_of hs r)) (leads_shared p hs to) two.1 in
+      let three = and_parts (may_go (slice_get p.globals g) (hold_of hs r)) (leads_shared p hs to) two.1 in
       at o (op.SetGlobal g r) t to asks.0 asks.1
       (passes refl (goes_quiet h (λ x lt. refl) (leads_shared_by hs (p.holds to) three.1)))
   asks_way (step.Clear d to) typed o t asks public =

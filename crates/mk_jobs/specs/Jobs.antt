@@ -1,8 +1,9 @@
 -- A job as operations of the heap that never reuses storage, and an order of jobs on a plain object of one thread.
 use Rattle.std.specs.Prelude.{◌≡◌, ◌⊎◌, ℕ, zero, suc, ◌<◌, ◌==◌, true, false, List, [], ◌∷◌, ◌++◌, if◌then◌else◌}
-use Rattle.std.specs.Prelude.{Option, Some, None, option_and_then, length, take, drop}
-use Rattle.mk_never.specs.declared.{operations.{Op.Op, Reply.Reply}, values.Value.Value}
-use Rattle.mk_never.specs.declared.{values.Value.TheVariants.{Ptr, Null}, types.Kind.TheVariants.To}
+use Rattle.std.specs.{Prelude.{Option, Some, option_and_then, length, take, drop}, List.{AllByRecursion, filter_map}}
+use Rattle.std.specs.List.{flat_map}
+use Rattle.mk_never.specs.{declared.operations.Op.Op, declared.operations.Reply.Reply, declared.values.Value.Value}
+use Rattle.mk_never.specs.{declared.values.Value.TheVariants.{Ptr, Null}, declared.types.Kind.TheVariants.To}
 use Rattle.mk_never.specs.{Admitted.IsOfKind, NeverHeap.{NeverState, Call, reply_of, after_op, number_of, word_at}}
 use Rattle.mk_never.specs.declared.types.Kind.{Kind}
 use Rattle.mk_jobs.specs.Typing.{Plan, Hold, Anything, MayPoint, Points, Owns, Owes, hold_of}
@@ -77,18 +78,12 @@ pub record JobRun (Job Done : Type 0) : Type 0 where
 
 -- the operations of these jobs, in order
 abbrev pub all_of : {Job Done : Type 0} → List (JobRun Job Done) → List Replied
-all_of [] = []
-all_of (r ∷ rs) = r.all ++ all_of rs
+all_of rs = flat_map (λ r. r.all) rs
 
 -- the first caller makes the object before its jobs; the others begin with their jobs
 abbrev pub jobs_of_first : ℕ → List Replied → List Replied
 jobs_of_first zero founding = founding
 jobs_of_first (suc k) founding = []
-
--- All callers exist.
-abbrev pub AreBelow : ℕ → List Call → Type 0
-AreBelow callers [] = Unit {0}
-AreBelow callers (x ∷ xs) = (x.caller < callers) × AreBelow callers xs
 
 module _ {Job Done Point : Type 0} (p : Plan Job Done Point) where
   -- The operations with their replies lead from one point to another. Where nothing is asked any more, a caller may set
@@ -105,8 +100,7 @@ module _ {Job Done Point : Type 0} (p : Plan Job Done Point) where
 
   -- Each is the run of a job.
   abbrev pub AreJobRuns : List (JobRun Job Done) → Type 0
-  AreJobRuns [] = Unit {0}
-  AreJobRuns (r ∷ rs) = IsJobRun r × AreJobRuns rs
+  AreJobRuns rs = AllByRecursion IsJobRun rs
 
   -- These operations make the object.
   pub record IsFounding (founding : List Replied) : Type 0 where
@@ -124,7 +118,7 @@ module _ {Job Done Point : Type 0} (p : Plan Job Done Point) where
     pub founds : IsFounding founding
     pub jobs : (k : ℕ) → AreJobRuns (runs k)
     pub own : (k : ℕ) → own_replied k n calls ≡ jobs_of_first k founding ++ all_of (runs k)
-    pub exist : AreBelow callers calls
+    pub exist : AllByRecursion (λ (x : Call). x.caller < callers) calls
 
 -- a caller's job, and what became of it
 pub record Ordered (Job Done : Type 0) : Type 0 where
@@ -141,9 +135,7 @@ module _ {Job Done State : Type 0} (left_by : State → Job → Done → Option 
 module _ {Job Done : Type 0} where
   -- the jobs that are decided, in the order of their operations
   abbrev pub order_of : List (Option (Ordered Job Done)) → List (Ordered Job Done)
-  order_of [] = []
-  order_of (None ∷ ds) = order_of ds
-  order_of (Some e ∷ ds) = e ∷ order_of ds
+  order_of ds = filter_map (λ d. d) ds
 
   -- what a caller's own operations decide
   abbrev pub own_decisions : ℕ → List Call → List (Option (Ordered Job Done)) → List (Option (Ordered Job Done))

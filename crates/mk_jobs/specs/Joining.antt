@@ -1,15 +1,15 @@
 -- Callers on threads of their own: what each hands back, and the host that has joined some of them.
 -- Private functions alone cite these words.
 use Rattle.std.specs.Prelude.{◌≡◌, ℕ, ◌+◌, length, All, ◌<◌, ◌≤◌, Bool, true, false, List, [], ◌∷◌, IfOk}
-use Rattle.mk_core.specs.{declared.{config.Config.Config, events.Event.Event}, History.AreOfOthers}
+use Rattle.mk_core.specs.{declared.config.Config.Config, declared.events.Event.Event, History.AreOfOthers}
 use Rattle.mk_core.specs.declared.events.Seat.TheVariants.{Caller, Host}
-use Rattle.mk_heap.specs.Below.{Words.States.{WordsState, Has, has_over, PassState}, Callers.States.IsIdleCaller}
+use Rattle.mk_heap.specs.{Below.Words.States.{WordsState, Has, has_over, PassState}, Below.Callers.States.IsIdleCaller}
 use Rattle.mk_heap.specs.{Below.Objects.TurnCalls.OwnAreExact, Hosts.HostState}
 use Rattle.mk_heap.specs.{Below.Objects.TurnCycles.TurnsOfAreExact, Ending.HostComesLast}
-use Rattle.mk_jobs.specs.declared.engines.{Engines.Engines, CallerEngines.CallerEngines}
-use Rattle.mk_jobs.specs.{Runs.{HasDone, HaveDone}, Jobs.{IsFounding, Replied}, Typing.Plan}
-use Rattle.mk_jobs.specs.declared.{job_lists.Jobs.Jobs, joining.Callers.Callers}
-use Rattle.mk_jobs.specs.declared.{joining.{Joined.Joined, Worked.Worked}, working.Ended.Ended}
+use Rattle.mk_jobs.specs.{declared.engines.Engines.Engines, declared.engines.CallerEngines.CallerEngines}
+use Rattle.mk_jobs.specs.{Runs.{AreDone, HaveDone}, Passes.replied_in, Jobs.{IsFounding, Replied}, Typing.Plan}
+use Rattle.mk_jobs.specs.{declared.job_lists.Jobs.Jobs, declared.joining.Callers.Callers}
+use Rattle.mk_jobs.specs.{declared.joining.Joined.Joined, declared.joining.Worked.Worked, declared.working.Ended.Ended}
 
 -- The engines of a run. Private functions alone cite these words.
 
@@ -47,7 +47,8 @@ module _ {Job Done Point : Type 0} (p : Plan Job Done Point) (on : Bool) (w : Wo
   -- Caller k did its jobs on a thread of its own, all of them where memory sufficed.
   pub record HasWorked (first : List Replied) (k : ℕ) (jobs : List Job) (worked : Worked Done) : Type 0 where
     pub ready : IsBetweenJobs on w k worked.pass
-    pub done : IfOk worked.dones (λ dones. HasDone p w.config worked.pass.seen first k jobs dones.list.items)
+    pub done : IfOk worked.dones (λ dones. AreDone p jobs dones.list.items first
+        (replied_in w.config k worked.pass.seen))
 
   -- The callers from k on did their jobs and are joined, and the host has made no more.
   pub record HaveWorked (markers : ℕ) (first : List Replied) (k : ℕ) (lists : List (Jobs Job)) (joined : Joined Done)

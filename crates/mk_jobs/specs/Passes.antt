@@ -1,10 +1,10 @@
 -- Jobs in the history of a running heap: what a caller's operations were replied there, and what comes next.
-use Rattle.std.specs.Prelude.{◌≡◌, ℕ, ◌<◌, ◌≤◌, Bool, List, ◌++◌, ◌==◌, true, false, [], ◌∷◌, Option, Some, None}
-use Rattle.std.specs.Prelude.{if◌then◌else◌}
-use Rattle.mk_never.specs.declared.{values.Value.TheVariants.Null, operations.Op.Op}
-use Rattle.mk_core.specs.{declared.{config.Config.Config, events.Event.Event}, Calls.asked}
+use Rattle.std.specs.Prelude.{◌≡◌, ℕ, ◌<◌, ◌≤◌, Bool, List, ◌++◌, ◌==◌, true, false, Option, Some, None, if◌then◌else◌}
+use Rattle.std.specs.List.{AllByRecursion}
+use Rattle.mk_never.specs.{declared.values.Value.TheVariants.Null, declared.operations.Op.Op}
+use Rattle.mk_core.specs.{declared.config.Config.Config, declared.events.Event.Event, Calls.asked}
 use Rattle.mk_core.specs.{History.{calls, never_first}, declared.events.Answer.Answer}
-use Rattle.mk_heap.specs.Below.{Words.States.PassState, Callers.States.{CallerState, caller_of_pass, value_of}}
+use Rattle.mk_heap.specs.{Below.Words.States.PassState, Below.Callers.States.{CallerState, caller_of_pass, value_of}}
 use Rattle.mk_heap.specs.Below.Objects.TurnCalls.{OwnAreExact, MayTakeTurns}
 use Rattle.mk_jobs.specs.{Typing.Plan, Jobs.{Replied, Leads, own_replied, IsClear}, declared.steps.Step.Step}
 
@@ -51,15 +51,11 @@ module _ {Job Done Point : Type 0} (p : Plan Job Done Point) where
     pub done : Done
     pub ends : GoesToEnd q p.founding q' done
 
-  -- Its caller did the job, and this became of it.
-  abbrev pub DoesJob : PassState → Job → Done → PassState → Type 0
-  DoesJob q job done q' = GoesToEnd q (p.starting job) q' done
-
-  -- The same, and the caller is ready for the next job and keeps no object.
+  -- Its caller did the job, and this became of it. It is ready for the next job and keeps no object.
   pub record HasDone {E : Type 0} (made_for : E → ℕ) (on : Bool) (s : CallerState) (job : Job) (done : Done)
       (t : CallerState) (engine : E) : Type 0 where
     pub ready : IsReady made_for t engine
-    pub does : DoesJob s.pass job done t.pass
+    pub does : GoesToEnd s.pass (p.starting job) t.pass done
     pub keeps : KeepsNothing t.pass
     pub exact : OwnAreExact on s.pass → OwnAreExact on t.pass
 
@@ -112,17 +108,12 @@ next_by w s (Step.Same p q so not_so) told = if says_yes told then so else not_s
 next_by w s (Step.IsNull p so not_so) told = if says_yes told then so else not_so
 next_by w s (Step.End done) told = s
 
--- Each of these operations is a Clear, answered Done.
-abbrev pub AreClears : List Replied → Type 0
-AreClears [] = Unit {0}
-AreClears (x ∷ xs) = IsClear x.op × AreClears xs
-
 -- The pass has seen more, in which its caller set its registers below this one to null, and did nothing else. The
 -- others are as they were.
 pub record Clears (p : PassState) (count : ℕ) (q : PassState) : Type 0 where
   pub is : q ≡ record p { seen = q.seen }
   pub all : List Replied
-  pub are : AreClears all
+  pub are : AllByRecursion (λ (x : Replied). IsClear x.op) all
   pub did : replied_to q ≡ replied_to p ++ all
   pub null : (r : ℕ) → r < count → value_of q r ≡ Null
   pub others : (r : ℕ) → count ≤ r → r < 8 → value_of q r ≡ value_of p r

@@ -2,48 +2,34 @@
 use Rattle.std.specs.Prelude.{◌≡◌, ℕ, ◌+◌, List, [], ◌∷◌, ◌++◌, map, ◌<◌, Bool, true, false, length, slice_get, Option}
 use Rattle.std.specs.Prelude.{Some}
 use Rattle.mk_never.specs.NeverHeap.{NeverState, start_of}
-use Rattle.mk_core.specs.{declared.{config.Config.Config, events.Event.Event}, Calls.asked, History.calls}
+use Rattle.mk_core.specs.{declared.config.Config.Config, declared.events.Event.Event, Calls.asked, History.calls}
 use Rattle.mk_core.specs.declared.events.Seat.TheVariants.{Caller}
-use Rattle.mk_heap.specs.Below.{Words.States.{PassState, has_over}, Objects.Bounds.QuarantineIsBounded}
+use Rattle.mk_heap.specs.{Below.Words.States.{PassState, has_over}, Below.Objects.Bounds.QuarantineIsBounded}
 use Rattle.mk_heap.specs.{Below.Objects.TurnCycles.TurnsOfAreExact, Ending.HostComesLast, Hosts.{HasCounts, IsWhole}}
-use Rattle.mk_jobs.specs.{declared.job_lists.{Dones.Dones, Jobs.Jobs}, Typing.Plan}
+use Rattle.mk_jobs.specs.{declared.job_lists.Dones.Dones, declared.job_lists.Jobs.Jobs, Typing.Plan}
 use Rattle.mk_jobs.specs.{Jobs.{AreJobRuns, JobRun, Replied, all_of, IsInterleaved}, Passes.{replied_in, replied_to}}
 use Rattle.mk_jobs.specs.{declared.runs.Outcome.Outcome, Laws.IsExplained}
 use Rattle.mk_heap.specs.Hosts as report
 
--- the jobs of these runs
-abbrev pub jobs_of : {Job Done : Type 0} → List (JobRun Job Done) → List Job
-jobs_of runs = map (λ r. r.job) runs
-
--- what became of them
-abbrev pub dones_of : {Job Done : Type 0} → List (JobRun Job Done) → List Done
-dones_of runs = map (λ r. r.done) runs
-
 module _ {Job Done Point : Type 0} (p : Plan Job Done Point) where
-  -- The pass has seen more, in which its caller did these jobs, one after the other, and this became of each.
+  -- After the first operations come those of these jobs, one after the other, and this became of each. That is all.
+  pub record AreDone (jobs : List Job) (dones : List Done) (first all : List Replied) : Type 0 where
+    pub runs : List (JobRun Job Done)
+    pub are_runs : AreJobRuns p runs
+    pub same_jobs : map (λ (r : JobRun Job Done). r.job) runs ≡ jobs
+    pub same_dones : map (λ (r : JobRun Job Done). r.done) runs ≡ dones
+    pub all_are : all ≡ first ++ all_of runs
+
+  -- The pass has seen more, in which its caller did these jobs.
   pub record DoesJobs (q : PassState) (jobs : List Job) (dones : List Done) (q' : PassState) : Type 0 where
     pub is : q' ≡ record q { seen = q'.seen }
-    pub runs : List (JobRun Job Done)
-    pub are_runs : AreJobRuns p runs
-    pub same_jobs : jobs_of runs ≡ jobs
-    pub same_dones : dones_of runs ≡ dones
-    pub did : replied_to q' ≡ replied_to q ++ all_of runs
-
-  -- In this history caller k did these operations first, and then these jobs, one after the other, and this became of
-  -- each.
-  pub record HasDone (c : Config) (es : List Event) (first : List Replied) (k : ℕ) (jobs : List Job)
-      (dones : List Done) : Type 0 where
-    pub runs : List (JobRun Job Done)
-    pub are_runs : AreJobRuns p runs
-    pub same_jobs : jobs_of runs ≡ jobs
-    pub same_dones : dones_of runs ≡ dones
-    pub own : replied_in c k es ≡ first ++ all_of runs
+    pub done : AreDone jobs dones (replied_to q) (replied_to q')
 
   -- Caller k, after these operations, and each caller after it did a list of jobs.
   abbrev pub HaveDone : Config → List Event → List Replied → ℕ → List (Jobs Job) → List (Dones Done) → Type 0
   HaveDone c es first k [] [] = Unit {0}
   HaveDone c es first k (jobs ∷ lists) (dones ∷ all) =
-      HasDone c es first k jobs.list.items dones.list.items × HaveDone c es [] (k + 1) lists all
+      AreDone jobs.list.items dones.list.items first (replied_in c k es) × HaveDone c es [] (k + 1) lists all
   HaveDone c es first k _ _ = ⊥
 
 -- The runs of caller k are its list of jobs, in order, and this became of each.
@@ -51,7 +37,8 @@ abbrev pub AreRunsOf : {Job Done : Type 0} → List (Jobs Job) → List (Dones D
     → Type 0
 AreRunsOf {Job} {Done} lists all runs =
     (k : ℕ) (jobs : Jobs Job) (dones : Dones Done) → slice_get lists k ≡ Some jobs → slice_get all k ≡ Some dones
-    → (jobs_of (runs k) ≡ jobs.list.items) × (dones_of (runs k) ≡ dones.list.items)
+    → (map (λ (r : JobRun Job Done). r.job) (runs k) ≡ jobs.list.items)
+    × (map (λ (r : JobRun Job Done). r.done) (runs k) ≡ dones.list.items)
 
 module _ {Job Done Point : Type 0} (p : Plan Job Done Point) where
   -- the heap of an object

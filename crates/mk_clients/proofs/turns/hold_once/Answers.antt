@@ -8,7 +8,7 @@ pub try_hold-requires-clause-enabled : goal.try_hold-requires-clause-enabled
 try_hold-requires-clause-enabled c =
     let p : PassState = c.args.turn.now.pass in
     let free = c.requires.free in
-    hold_may p c.args.caller free.seat c.args.turn.now.in_order.holds
+    hold_may p c.args.caller free.settled.seat c.args.turn.now.in_order.holds
     (subst (λ (t : WordsState). c.args.caller < t.config.callers) (sym c.requires.one_table) c.requires.caller)
     (none_held_is p free.gates)
 
@@ -44,4 +44,4 @@ returns-in-Err-clause-free c =
     (miss_leaves missed c.in-Err.ensures.not_held (none_held_is p free.gates))
 
 pub returns-in-Err-clause-tidy : goal.returns-in-Err-clause-tidy
-returns-in-Err-clause-tidy c = λ tidy. tidy_kept c.try_hold.ensures.acts c.requires.free.seat refl tidy
+returns-in-Err-clause-tidy c = λ tidy. tidy_kept c.try_hold.ensures.acts c.requires.free.settled.seat refl tidy

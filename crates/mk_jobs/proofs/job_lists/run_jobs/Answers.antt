@@ -1,4 +1,4 @@
-use Rattle.mk_jobs.proofs.{JobLists.{does_next, does_none}, RunVocabulary.DoesJob}
+use Rattle.mk_jobs.proofs.{JobLists.{does_next, does_none}, RunVocabulary.GoesToEnd}
 use Rattle.mk_laws.proofs.Vocabulary.{subst}
 use Rattle.mk_jobs.proofs.job_lists.run_jobs.Goals as goal
 
@@ -11,8 +11,8 @@ loop-index-preserved g c =
       does =
           rw c.in_ok-push.ensures.items (does_next g.O.Object.plan new c.args.jobs.now old.index
           c.index-jobs-index.result c.do_job-done.result c.loop-index-test.true old.invariant.does
-          (subst (λ job. DoesJob g.O.Object.plan old.caller.pass job c.do_job-done.result new) c.index-jobs-index.is
-          c.do_job-done.ensures.does));
+          (subst (λ job. GoesToEnd g.O.Object.plan old.caller.pass (g.O.Object.plan.starting job) new
+          c.do_job-done.result) c.index-jobs-index.is c.do_job-done.ensures.does));
       exact = λ first. c.do_job-done.ensures.exact (old.invariant.exact first);
     }
 
