@@ -1,8 +1,10 @@
 -- Which steps are admitted: those whose operation is, where the call is decided.
-use Rattle.mk_laws.proofs.Vocabulary.{Answer, AreAdmitted, Config, Decided, Event, IsAdmitted, IsHistory, List, None}
-use Rattle.mk_laws.proofs.Vocabulary.{Op, Option, Some, Step, admitted_in_parts, answer_decided, append-nil}
-use Rattle.mk_laws.proofs.Vocabulary.{append_assoc, arith, asked, call_decided, caller_number, entry_of, flagged, left}
-use Rattle.mk_laws.proofs.Vocabulary.{never_behind, subst, sym, [], ◌∷◌, ◌≡◌}
+use Rattle.mk_heap.proofs.Below.Laws.Vocabulary.{Answer, AreAdmitted, Config, Decided, Event, IsAdmitted, IsHistory}
+use Rattle.mk_heap.proofs.Below.Laws.Vocabulary.{List, None}
+use Rattle.mk_heap.proofs.Below.Laws.Vocabulary.{Op, Option, Some, Step, admitted_in_parts, answer_decided, append-nil}
+use Rattle.mk_heap.proofs.Below.Laws.Vocabulary.{append_assoc, arith, asked, call_decided, caller_number, entry_of}
+use Rattle.mk_heap.proofs.Below.Laws.Vocabulary.{flagged, left}
+use Rattle.mk_heap.proofs.Below.Laws.Vocabulary.{never_behind, subst, sym, [], ◌∷◌, ◌≡◌}
 use Rattle.mk_core.specs.History.{calls_from}
 use Rattle.mk_heap.specs.Below.Words.States.{PassState, call_of, event_of, now_of}
 use Rattle.mk_heap.specs.Below.Words.Steps.{IsAdmittedTo, Makes}

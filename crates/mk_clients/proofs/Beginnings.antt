@@ -1,7 +1,9 @@
 -- A caller's pass of a heap that nobody has used.
 use Rattle.std.proofs.lemmas.List.{length-replicate}
-use Rattle.mk_laws.proofs.Vocabulary.{Caller, Config, Null, Op, arith, first_world, is_same, left, length, never_behind}
-use Rattle.mk_laws.proofs.{Vocabulary.{refl, subst, sym, true, [], ◌*◌, ◌∷◌, ◌≡◌, ◌≤◌}, OrderlyLists.at_first}
+use Rattle.mk_heap.proofs.Below.Laws.Vocabulary.{Caller, Config, Null, Op, arith, first_world, is_same, left, length}
+use Rattle.mk_heap.proofs.Below.Laws.Vocabulary.{never_behind}
+use Rattle.mk_heap.proofs.Below.Laws.Vocabulary.{refl, subst, sym, true, [], ◌*◌, ◌∷◌, ◌≡◌, ◌≤◌}
+use Rattle.mk_heap.proofs.Below.Laws.OrderlyLists.{at_first}
 use Rattle.mk_core.specs.History.{calls_from, left_from, never_first}
 use Rattle.mk_heap.specs.Below.Callers.States.{Admits, IsIdleCaller, value_of}
 use Rattle.mk_heap.specs.Below.Words.States.{PassState, WordsState}

@@ -1,8 +1,11 @@
 -- Two calls, of one caller or of two, one after the other, and the calls between the events that decide them.
 use Rattle.std.proofs.{Common.{filter, length-append}, lemmas.List.Elements.filter-append}
-use Rattle.mk_laws.proofs.Vocabulary.{Answer, Bool, Config, Decided, Event, List, Op, after_calls, ap, append-nil}
-use Rattle.mk_laws.proofs.Vocabulary.{append_assoc, arith, asked, call_decided, calls, cond, first_world, flagged, left}
-use Rattle.mk_laws.proofs.Vocabulary.{length, never_behind, never_in_parts, refl, sym, true, [], ◌++◌, ◌∙◌, ◌∷◌, ◌≡◌}
+use Rattle.mk_heap.proofs.Below.Laws.Vocabulary.{Answer, Bool, Config, Decided, Event, List, Op, after_calls, ap}
+use Rattle.mk_heap.proofs.Below.Laws.Vocabulary.{append-nil}
+use Rattle.mk_heap.proofs.Below.Laws.Vocabulary.{append_assoc, arith, asked, call_decided, calls, cond, first_world}
+use Rattle.mk_heap.proofs.Below.Laws.Vocabulary.{flagged, left}
+use Rattle.mk_heap.proofs.Below.Laws.Vocabulary.{length, never_behind, never_in_parts, refl, sym, true, [], ◌++◌, ◌∙◌}
+use Rattle.mk_heap.proofs.Below.Laws.Vocabulary.{◌∷◌, ◌≡◌}
 use Rattle.mk_never.specs.NeverHeap.{after_op}
 use Rattle.mk_core.{proofs.{Histories.calls_more, HistoryParts.calls_in_parts}, specs.History.calls_from}
 use Rattle.mk_heap.specs.Below.Callers.{Called.Called, States.caller_of_pass}

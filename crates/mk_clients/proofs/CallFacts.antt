@@ -1,8 +1,10 @@
 -- What a caller's call needs at each of its steps.
-use Rattle.mk_laws.proofs.Vocabulary.{Answer, Caller, Config, Event, Flight, Group, IsAdmitted, IsHistory, List, None}
-use Rattle.mk_laws.proofs.Vocabulary.{Op, Progress, Step, ℕ, ap, append-nil, append_assoc, at_rest, begun}
-use Rattle.mk_laws.proofs.Vocabulary.{caller_number, comes_next, flagged, group_of, is_in_range, never_behind, refl}
-use Rattle.mk_laws.proofs.Vocabulary.{subst, sym, true, [], ◌++◌, ◌<◌, ◌∙◌, ◌∷◌, ◌≡◌}
+use Rattle.mk_heap.proofs.Below.Laws.Vocabulary.{Answer, Caller, Config, Event, Flight, Group, IsAdmitted, IsHistory}
+use Rattle.mk_heap.proofs.Below.Laws.Vocabulary.{List, None}
+use Rattle.mk_heap.proofs.Below.Laws.Vocabulary.{Op, Progress, Step, ℕ, ap, append-nil, append_assoc, at_rest, begun}
+use Rattle.mk_heap.proofs.Below.Laws.Vocabulary.{caller_number, comes_next, flagged, group_of, is_in_range}
+use Rattle.mk_heap.proofs.Below.Laws.Vocabulary.{never_behind, refl}
+use Rattle.mk_heap.proofs.Below.Laws.Vocabulary.{subst, sym, true, [], ◌++◌, ◌<◌, ◌∙◌, ◌∷◌, ◌≡◌}
 use Rattle.mk_heap.specs.Below.Words.Steps.{Goes, IsAdmittedTo, IsEnabledTo, Makes}
 use Rattle.mk_heap.specs.Below.Words.States.{PassState, WordsState, call_of, event_of}
 use Rattle.mk_clients.proofs.{Admitting.op_step, Enabling.call_step}

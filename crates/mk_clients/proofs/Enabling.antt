@@ -1,7 +1,9 @@
 -- Which steps a pass may make, by the conditions of their kinds.
-use Rattle.mk_laws.proofs.Vocabulary.{Caller, Config, Flight, Group, MarkerState, Moment, Step, ℕ, arith, comes_next}
-use Rattle.mk_laws.proofs.Vocabulary.{group_of, has_phase, holder_may, is_in_range, lt-ltb, marker_may, refl, true, ◌<◌}
-use Rattle.mk_laws.proofs.Vocabulary.{◌≡◌}
+use Rattle.mk_heap.proofs.Below.Laws.Vocabulary.{Caller, Config, Flight, Group, MarkerState, Moment, Step, ℕ, arith}
+use Rattle.mk_heap.proofs.Below.Laws.Vocabulary.{comes_next}
+use Rattle.mk_heap.proofs.Below.Laws.Vocabulary.{group_of, has_phase, holder_may, is_in_range, lt-ltb, marker_may, refl}
+use Rattle.mk_heap.proofs.Below.Laws.Vocabulary.{true, ◌<◌}
+use Rattle.mk_heap.proofs.Below.Laws.Vocabulary.{◌≡◌}
 use Rattle.mk_core.proofs.Conditions.{meets_enabled}
 use Rattle.mk_heap.specs.{Below.Words.States.{PassState, call_of}, Below.Words.Steps.IsEnabledTo}
 

@@ -1,9 +1,12 @@
 -- A global stays as it is set, up to the next call that sets it.
 use Rattle.std.proofs.Common.{filter}
-use Rattle.mk_laws.proofs.Vocabulary.{Bool, Decided, List, NeverState, Null, Num, Op, Ptr, Unmapped, Value, WordOf, ℕ}
-use Rattle.mk_laws.proofs.Vocabulary.{after_calls, after_free, arith, asked, cond, eq-eqb, false, get_or-set_other}
-use Rattle.mk_laws.proofs.Vocabulary.{get_or-set_same, global_at, if◌then◌else◌, length, refl, register_at, sym, true}
-use Rattle.mk_laws.proofs.Vocabulary.{with_register, with_word, word_at, [], ◌<◌, ◌∙◌, ◌∷◌, ◌≡◌}
+use Rattle.mk_heap.proofs.Below.Laws.Vocabulary.{Bool, Decided, List, NeverState, Null, Num, Op, Ptr, Unmapped, Value}
+use Rattle.mk_heap.proofs.Below.Laws.Vocabulary.{WordOf, ℕ}
+use Rattle.mk_heap.proofs.Below.Laws.Vocabulary.{after_calls, after_free, arith, asked, cond, eq-eqb, false}
+use Rattle.mk_heap.proofs.Below.Laws.Vocabulary.{get_or-set_other}
+use Rattle.mk_heap.proofs.Below.Laws.Vocabulary.{get_or-set_same, global_at, if◌then◌else◌, length, refl, register_at}
+use Rattle.mk_heap.proofs.Below.Laws.Vocabulary.{sym, true}
+use Rattle.mk_heap.proofs.Below.Laws.Vocabulary.{with_register, with_word, word_at, [], ◌<◌, ◌∙◌, ◌∷◌, ◌≡◌}
 use Rattle.mk_never.specs.NeverHeap.{after_op, left_at}
 use Rattle.mk_never.specs.declared.values.Target.{Target, TheVariants.Nothing}
 use Rattle.mk_clients.specs.Clients.{is_set_of}

@@ -1,12 +1,16 @@
 -- What is loaded after a store.
 use Rattle.std.proofs.Common.{Err, IfOk, Ok, Result}
-use Rattle.mk_laws.proofs.Vocabulary.{Answer, AreAdmitted, Bool, Config, Decided, Event, IsHistory, IsNumber}
-use Rattle.mk_laws.proofs.Vocabulary.{KeepsRegisters, List, Meets, NeverState, Null, Num, Op, Ptr, Unmapped, Value}
-use Rattle.mk_laws.proofs.Vocabulary.{WordOf, ℕ, after_calls, answer_of, ap, append-nil, append_assoc, arith, asked}
-use Rattle.mk_laws.proofs.Vocabulary.{bases_of, cond, earlier_part_is_history, false, left, never_behind, refl}
-use Rattle.mk_laws.proofs.Vocabulary.{register_at, subst, sym, target_of, true, [], ◌++◌, ◌+◌, ◌<◌, ◌∙◌, ◌∷◌, ◌≡◌}
-use Rattle.mk_laws.proofs.{LastEvents.{comes_last, stands}, FramesLongerLists.meets_register}
-use Rattle.mk_laws.proofs.OtherCalls.{never_continues}
+use Rattle.mk_heap.proofs.Below.Laws.Vocabulary.{Answer, AreAdmitted, Bool, Config, Decided, Event, IsHistory, IsNumber}
+use Rattle.mk_heap.proofs.Below.Laws.Vocabulary.{KeepsRegisters, List, Meets, NeverState, Null, Num, Op, Ptr, Unmapped}
+use Rattle.mk_heap.proofs.Below.Laws.Vocabulary.{Value}
+use Rattle.mk_heap.proofs.Below.Laws.Vocabulary.{WordOf, ℕ, after_calls, answer_of, ap, append-nil, append_assoc, arith}
+use Rattle.mk_heap.proofs.Below.Laws.Vocabulary.{asked}
+use Rattle.mk_heap.proofs.Below.Laws.Vocabulary.{bases_of, cond, earlier_part_is_history, false, left, never_behind}
+use Rattle.mk_heap.proofs.Below.Laws.Vocabulary.{refl}
+use Rattle.mk_heap.proofs.Below.Laws.Vocabulary.{register_at, subst, sym, target_of, true, [], ◌++◌, ◌+◌, ◌<◌, ◌∙◌, ◌∷◌}
+use Rattle.mk_heap.proofs.Below.Laws.Vocabulary.{◌≡◌}
+use Rattle.mk_heap.proofs.Below.Laws.{LastEvents.{comes_last, stands}, FramesLongerLists.meets_register}
+use Rattle.mk_heap.proofs.Below.Laws.OtherCalls.{never_continues}
 use Rattle.mk_never.proofs.Stores.{load_gives_stored, store_is_inside}
 use Rattle.mk_never.specs.{NeverHeap.{after_op, reply_at, reply_of}, Laws.{NoneStoresTo, StoresTo}}
 use Rattle.mk_never.specs.declared.{operations.Reply.Reply, values.Target.Target}

@@ -1,9 +1,13 @@
 -- What a marker's steps need, and leave of the marker.
-use Rattle.mk_laws.proofs.Vocabulary.{Block, Config, Flight, Group, Header, Marker, MarkerState, Moment, Option, Some}
-use Rattle.mk_laws.proofs.Vocabulary.{Step, Word, ℕ, and_from, ap, arith, at_rest, cell_seen, cells_of, cells_under}
-use Rattle.mk_laws.proofs.Vocabulary.{eq-eqb, group_of, has_next_word, has_phase, has_seen_cell, header_of, holder_may}
-use Rattle.mk_laws.proofs.Vocabulary.{is_attending, is_in_range, is_none, is_some, lt-ltb, marker_may, refl, subst, sym}
-use Rattle.mk_laws.proofs.Vocabulary.{true, ◌%◌, ◌<◌, ◌==◌, ◌∙◌, ◌≡◌}
+use Rattle.mk_heap.proofs.Below.Laws.Vocabulary.{Block, Config, Flight, Group, Header, Marker, MarkerState, Moment}
+use Rattle.mk_heap.proofs.Below.Laws.Vocabulary.{Option, Some}
+use Rattle.mk_heap.proofs.Below.Laws.Vocabulary.{Step, Word, ℕ, and_from, ap, arith, at_rest, cell_seen, cells_of}
+use Rattle.mk_heap.proofs.Below.Laws.Vocabulary.{cells_under}
+use Rattle.mk_heap.proofs.Below.Laws.Vocabulary.{eq-eqb, group_of, has_next_word, has_phase, has_seen_cell, header_of}
+use Rattle.mk_heap.proofs.Below.Laws.Vocabulary.{holder_may}
+use Rattle.mk_heap.proofs.Below.Laws.Vocabulary.{is_attending, is_in_range, is_none, is_some, lt-ltb, marker_may, refl}
+use Rattle.mk_heap.proofs.Below.Laws.Vocabulary.{subst, sym}
+use Rattle.mk_heap.proofs.Below.Laws.Vocabulary.{true, ◌%◌, ◌<◌, ◌==◌, ◌∙◌, ◌≡◌}
 use Rattle.mk_core.proofs.Conditions.{meets_enabled}
 use Rattle.mk_heap.specs.Below.Words.{Steps.{Marks, marker_in}, States.PassState}
 use Rattle.mk_heap.specs.Below.Words.Steps.{IsEnabledTo, Makes}

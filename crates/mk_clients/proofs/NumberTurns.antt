@@ -2,8 +2,9 @@
 use Rattle.std.proofs.Common.{ltb-false}
 use Rattle.mk_heap.proofs.Below.Objects.Vocabulary.{CalledInTurn, PassState}
 use Rattle.mk_clients.{proofs.OwnedCalls.{granted}, specs.Owned.{HasNumber}}
-use Rattle.mk_laws.proofs.Vocabulary.{Answer, Bool, IsHistory, Kind, List, Number, Op, ℕ, arith, false, get_or_past}
-use Rattle.mk_laws.proofs.Vocabulary.{kinds_of, length, ltb-true, [], ◌<◌, ◌∷◌, ◌≡◌}
+use Rattle.mk_heap.proofs.Below.Laws.Vocabulary.{Answer, Bool, IsHistory, Kind, List, Number, Op, ℕ, arith, false}
+use Rattle.mk_heap.proofs.Below.Laws.Vocabulary.{get_or_past}
+use Rattle.mk_heap.proofs.Below.Laws.Vocabulary.{kinds_of, length, ltb-true, [], ◌<◌, ◌∷◌, ◌≡◌}
 
 -- The type of one number exists.
 pub type_exists : (types : List (List Kind)) (ty : ℕ) → kinds_of types ty ≡ Number ∷ [] → ty < length types

@@ -1,11 +1,16 @@
 -- A number that a caller owns: what other callers leave of it, and what its own calls do.
 use Rattle.std.proofs.Common.{ltb-false, set}
-use Rattle.mk_laws.proofs.Vocabulary.{AreAdmitted, Call, Continues, IsAdmitted, IsNumber, IsSound, IsTyped, Kind, List}
-use Rattle.mk_laws.proofs.Vocabulary.{Suits, To, Value, WordOf, ℕ, after_calls, after_free, allocation_at, ap, arith}
-use Rattle.mk_laws.proofs.Vocabulary.{cases_Bool, false, get_or, get_or-set_other, get_or-set_same, get_or_append_left}
-use Rattle.mk_laws.proofs.Vocabulary.{get_or_past, inl, inr, is_same, kinds_of, length, length-set, ltb-true, map, suc}
-use Rattle.mk_laws.proofs.Vocabulary.{sym, target_of, with_freed, with_global, with_register, with_word, word_at}
-use Rattle.mk_laws.proofs.Vocabulary.{words_of, zero, [], ◌*◌, ◌++◌, ◌+◌, ◌<◌, ◌∙◌, ◌∷◌, ◌≡◌, ◌≢◌, ◌≤◌}
+use Rattle.mk_heap.proofs.Below.Laws.Vocabulary.{AreAdmitted, Call, Continues, IsAdmitted, IsNumber, IsSound, IsTyped}
+use Rattle.mk_heap.proofs.Below.Laws.Vocabulary.{Kind, List}
+use Rattle.mk_heap.proofs.Below.Laws.Vocabulary.{Suits, To, Value, WordOf, ℕ, after_calls, after_free, allocation_at}
+use Rattle.mk_heap.proofs.Below.Laws.Vocabulary.{ap, arith}
+use Rattle.mk_heap.proofs.Below.Laws.Vocabulary.{cases_Bool, false, get_or, get_or-set_other, get_or-set_same}
+use Rattle.mk_heap.proofs.Below.Laws.Vocabulary.{get_or_append_left}
+use Rattle.mk_heap.proofs.Below.Laws.Vocabulary.{get_or_past, inl, inr, is_same, kinds_of, length, length-set, ltb-true}
+use Rattle.mk_heap.proofs.Below.Laws.Vocabulary.{map, suc}
+use Rattle.mk_heap.proofs.Below.Laws.Vocabulary.{sym, target_of, with_freed, with_global, with_register, with_word}
+use Rattle.mk_heap.proofs.Below.Laws.Vocabulary.{word_at}
+use Rattle.mk_heap.proofs.Below.Laws.Vocabulary.{words_of, zero, [], ◌*◌, ◌++◌, ◌+◌, ◌<◌, ◌∙◌, ◌∷◌, ◌≡◌, ◌≢◌, ◌≤◌}
 use Rattle.mk_never.proofs.{Edits.{exists, if_by, left_at_by}, Fresh.new_adds, Later.op_stays}
 use Rattle.mk_never.{proofs.Registers.{destination, op_keeps}, specs.NeverHeap.{after_op, left_at, reply_at, reply_of}}
 use Rattle.mk_never.specs.declared.operations.Op.TheVariants.{CasPtr, Clear, Free, GetGlobal, GetNum, GetPtr, IsNull}
@@ -13,8 +18,10 @@ use Rattle.mk_never.specs.declared.operations.Op.TheVariants.{Lea, Move, New, Sa
 use Rattle.mk_never.specs.{Admitted.{IsCaller, OperandsAreInRange}, Laws.{AreNotBy, LeadsTo}, Types.zero_of}
 use Rattle.mk_never.specs.declared.{operations.Reply.Reply, values.Target.Target}
 use Rattle.mk_clients.specs.Owned.{IsKnownToAlone, OwnsNumberIn, number_behind}
-use Rattle.mk_laws.proofs.Vocabulary.{Meets, NeverAllocation as Allocation, NeverState, Null, Num, Number, Op, Ptr}
-use Rattle.mk_laws.proofs.Vocabulary.{nat_lt, no_allocation, number_of as number_in, refl, register_at, set_by, subst}
+use Rattle.mk_heap.proofs.Below.Laws.Vocabulary.{Meets, NeverAllocation as Allocation, NeverState, Null, Num, Number}
+use Rattle.mk_heap.proofs.Below.Laws.Vocabulary.{Op, Ptr}
+use Rattle.mk_heap.proofs.Below.Laws.Vocabulary.{nat_lt, no_allocation, number_of as number_in, refl, register_at}
+use Rattle.mk_heap.proofs.Below.Laws.Vocabulary.{set_by, subst}
 
 -- The register, among those of all callers, is one of this caller's eight.
 abbrev pub IsRegisterOf : ℕ → ℕ → Type 0

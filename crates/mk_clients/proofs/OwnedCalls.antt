@@ -1,10 +1,14 @@
 -- A number that is owned, along a history: other callers' calls keep it, and the caller's own are answered by it.
 use Rattle.std.proofs.Common.{IfOk, OnOk, Result}
-use Rattle.mk_laws.proofs.Vocabulary.{Answer, AreAdmitted, AreOfOthers, Caller, Config, Decided, Event, IsHistory, Kind}
-use Rattle.mk_laws.proofs.Vocabulary.{List, NeverState}
-use Rattle.mk_laws.proofs.Vocabulary.{Number, Op, Some, Step, ℕ, admitted_in_parts, answer_of, ap, append-nil}
-use Rattle.mk_laws.proofs.Vocabulary.{append_assoc, arith, asked, bases_of, calls_from, entry_of, false, kinds_of, left}
-use Rattle.mk_laws.proofs.Vocabulary.{never_behind, never_in_parts, refl, subst, sym, [], ◌++◌, ◌∙◌, ◌∷◌, ◌≡◌}
+use Rattle.mk_heap.proofs.Below.Laws.Vocabulary.{Answer, AreAdmitted, AreOfOthers, Caller, Config, Decided, Event}
+use Rattle.mk_heap.proofs.Below.Laws.Vocabulary.{IsHistory, Kind}
+use Rattle.mk_heap.proofs.Below.Laws.Vocabulary.{List, NeverState}
+use Rattle.mk_heap.proofs.Below.Laws.Vocabulary.{Number, Op, Some, Step, ℕ, admitted_in_parts, answer_of, ap}
+use Rattle.mk_heap.proofs.Below.Laws.Vocabulary.{append-nil}
+use Rattle.mk_heap.proofs.Below.Laws.Vocabulary.{append_assoc, arith, asked, bases_of, calls_from, entry_of, false}
+use Rattle.mk_heap.proofs.Below.Laws.Vocabulary.{kinds_of, left}
+use Rattle.mk_heap.proofs.Below.Laws.Vocabulary.{never_behind, never_in_parts, refl, subst, sym, [], ◌++◌, ◌∙◌, ◌∷◌}
+use Rattle.mk_heap.proofs.Below.Laws.Vocabulary.{◌≡◌}
 use Rattle.mk_heap.proofs.Below.Objects.Vocabulary.{PassState, after_calls, caller_of_pass, calls_by, comes_last}
 use Rattle.mk_heap.proofs.Below.Objects.Vocabulary.{event_of, others_add_none, own_calls, stands}
 use Rattle.mk_heap.proofs.Below.Objects.OneCalls.{OneCall, before_call, one_call, through_call}

@@ -1,8 +1,10 @@
 -- What the registers of the clients hold after their calls.
 use Rattle.std.proofs.Common.{Err, IfOk, Ok, Result}
-use Rattle.mk_laws.proofs.Vocabulary.{Answer, Bool, Config, Event, List, NeverState, Op, ℕ, ap, arith, cases_eq, eq-eqb}
-use Rattle.mk_laws.proofs.Vocabulary.{global_at, inl, inr, is_same, never_behind, one_if, refl, subst, sym, true, ◌++◌}
-use Rattle.mk_laws.proofs.{Vocabulary.{◌<◌, ◌∙◌, ◌≡◌, ◌≢◌}, OtherCalls.never_continues}
+use Rattle.mk_heap.proofs.Below.Laws.Vocabulary.{Answer, Bool, Config, Event, List, NeverState, Op, ℕ, ap, arith}
+use Rattle.mk_heap.proofs.Below.Laws.Vocabulary.{cases_eq, eq-eqb}
+use Rattle.mk_heap.proofs.Below.Laws.Vocabulary.{global_at, inl, inr, is_same, never_behind, one_if, refl, subst, sym}
+use Rattle.mk_heap.proofs.Below.Laws.Vocabulary.{true, ◌++◌}
+use Rattle.mk_heap.proofs.Below.Laws.{Vocabulary.{◌<◌, ◌∙◌, ◌≡◌, ◌≢◌}, OtherCalls.never_continues}
 use Rattle.mk_never.{proofs.Sameness.{same_from_equal}, specs.Admitted.{IsCaller}}
 use Rattle.mk_heap.proofs.Below.Callers.After.{caller_there, calls_leave_other_registers, set_same, still_caller}
 use Rattle.mk_heap.{proofs.Below.Callers.After.{value_left}, specs.Below.Words.declared.call_steps.Held.{Held}}

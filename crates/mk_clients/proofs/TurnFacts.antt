@@ -1,12 +1,18 @@
 -- What a turn knows of the table after its own steps.
-use Rattle.mk_laws.proofs.Vocabulary.{Bool, Config, Event, Holding, Holds, Host, List, Seat, Step, TalliesAreTidy, Word}
-use Rattle.mk_laws.proofs.Vocabulary.{World, ℕ, and_from, ap, arith, at_rest, cases_eq, cases_lt, eq-eqb, eqb-false}
-use Rattle.mk_laws.proofs.Vocabulary.{eqb-true, false, get_or-set_other, get_or-set_same, get_or_past, group_of}
-use Rattle.mk_laws.proofs.Vocabulary.{has_gates, has_phase, holder_may, inl, inr, is_held, is_in_range, is_open_to}
-use Rattle.mk_laws.proofs.Vocabulary.{left, length, length-set, lt-ltb, marker_may, ne_eqb, not, others_are_held}
-use Rattle.mk_laws.proofs.Vocabulary.{outside, phase_of, refl, slice_index, slice_set, subst, sym, true, true≢false}
-use Rattle.mk_laws.proofs.Vocabulary.{world_behind, [], ◌++◌, ◌+◌, ◌<◌, ◌==◌, ◌∙◌, ◌∷◌, ◌≡◌, ◌≢◌, ◌≤◌, ◌⊎◌}
-use Rattle.mk_laws.proofs.{Actors.none_held, Tallies.counts_tidy_more, TallySteps.CountsNothing}
+use Rattle.mk_heap.proofs.Below.Laws.Vocabulary.{Bool, Config, Event, Holding, Holds, Host, List, Seat, Step}
+use Rattle.mk_heap.proofs.Below.Laws.Vocabulary.{TalliesAreTidy, Word}
+use Rattle.mk_heap.proofs.Below.Laws.Vocabulary.{World, ℕ, and_from, ap, arith, at_rest, cases_eq, cases_lt, eq-eqb}
+use Rattle.mk_heap.proofs.Below.Laws.Vocabulary.{eqb-false}
+use Rattle.mk_heap.proofs.Below.Laws.Vocabulary.{eqb-true, false, get_or-set_other, get_or-set_same, get_or_past}
+use Rattle.mk_heap.proofs.Below.Laws.Vocabulary.{group_of}
+use Rattle.mk_heap.proofs.Below.Laws.Vocabulary.{has_gates, has_phase, holder_may, inl, inr, is_held, is_in_range}
+use Rattle.mk_heap.proofs.Below.Laws.Vocabulary.{is_open_to}
+use Rattle.mk_heap.proofs.Below.Laws.Vocabulary.{left, length, length-set, lt-ltb, marker_may, ne_eqb, not}
+use Rattle.mk_heap.proofs.Below.Laws.Vocabulary.{others_are_held}
+use Rattle.mk_heap.proofs.Below.Laws.Vocabulary.{outside, phase_of, refl, slice_index, slice_set, subst, sym, true}
+use Rattle.mk_heap.proofs.Below.Laws.Vocabulary.{true≢false}
+use Rattle.mk_heap.proofs.Below.Laws.Vocabulary.{world_behind, [], ◌++◌, ◌+◌, ◌<◌, ◌==◌, ◌∙◌, ◌∷◌, ◌≡◌, ◌≢◌, ◌≤◌, ◌⊎◌}
+use Rattle.mk_heap.proofs.Below.Laws.{Actors.none_held, Tallies.counts_tidy_more, TallySteps.CountsNothing}
 use Rattle.mk_core.proofs.Conditions.{meets_enabled}
 use Rattle.mk_core.specs.{Frames.{CountsAreLeft, steady_of}, Moments.none_is_held, Conditions.comes_next_to_host}
 use Rattle.mk_heap.proofs.Below.Words.TurnSteps.{all_from}

@@ -1,5 +1,5 @@
 -- An operation and the point that it leads to, from what the step asks.
-use Rattle.mk_laws.proofs.Vocabulary.{NeverState, Op, subst, sym, ℕ, ◌≡◌, ◌⊎◌, inl, inr}
+use Rattle.mk_heap.proofs.Below.Laws.Vocabulary.{NeverState, Op, subst, sym, ℕ, ◌≡◌, ◌⊎◌, inl, inr}
 use Rattle.mk_never.specs.{NeverHeap.reply_of, declared.operations.Reply.Reply}
 
 module _ {Point : Type 0} (P : Op → Point → Type 0) where

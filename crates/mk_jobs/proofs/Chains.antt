@@ -1,7 +1,9 @@
 -- Shared objects that are linked in a row: what leaves their words leaves them linked.
 use Rattle.std.proofs.Common.{ap₂}
-use Rattle.mk_laws.proofs.Vocabulary.{List, NeverState, Null, Ptr, Value, allocation_at, ap, get_or, inl, inr}
-use Rattle.mk_laws.proofs.Vocabulary.{number_of, refl, subst, sym, word_at, words_of, ℕ, [], ◌∙◌, ◌∷◌, ◌≡◌, ◌≢◌, ◌⊎◌}
+use Rattle.mk_heap.proofs.Below.Laws.Vocabulary.{List, NeverState, Null, Ptr, Value, allocation_at, ap, get_or, inl}
+use Rattle.mk_heap.proofs.Below.Laws.Vocabulary.{inr}
+use Rattle.mk_heap.proofs.Below.Laws.Vocabulary.{number_of, refl, subst, sym, word_at, words_of, ℕ, [], ◌∙◌, ◌∷◌, ◌≡◌}
+use Rattle.mk_heap.proofs.Below.Laws.Vocabulary.{◌≢◌, ◌⊎◌}
 use Rattle.mk_jobs.specs.{Keeping.{Public, World}, Laws.IsOneOf, Jobs.{AreLinked, numbers_in}}
 
 -- Words that are the same are so one by one.

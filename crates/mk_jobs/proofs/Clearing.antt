@@ -3,9 +3,11 @@ use Rattle.mk_jobs.proofs.RunVocabulary.{Answer, Answers, CallerState, Clears, I
 use Rattle.mk_jobs.proofs.RunVocabulary.{PassState, Plan, Replied, StaysAdmitted, caller_of_pass, register_at, never_of}
 use Rattle.mk_jobs.proofs.{RunVocabulary.{replied_to, reply_of, value_of}, Replies.once_open, Stepping.may_clear}
 use Rattle.mk_jobs.proofs.Walking.{admitted_by_registers, goes_through, seen_then}
-use Rattle.mk_laws.proofs.Vocabulary.{Bool, List, ℕ, ap, append-nil, append_assoc, arith, cases_eq, get_or-set_other}
-use Rattle.mk_laws.proofs.Vocabulary.{get_or-set_same, inl, inr, length, refl, subst, sym, with_register, [], ◌*◌, ◌++◌}
-use Rattle.mk_laws.proofs.Vocabulary.{◌+◌, ◌<◌, ◌∙◌, ◌∷◌, ◌≡◌, ◌≢◌, ◌⊎◌}
+use Rattle.mk_heap.proofs.Below.Laws.Vocabulary.{Bool, List, ℕ, ap, append-nil, append_assoc, arith, cases_eq}
+use Rattle.mk_heap.proofs.Below.Laws.Vocabulary.{get_or-set_other}
+use Rattle.mk_heap.proofs.Below.Laws.Vocabulary.{get_or-set_same, inl, inr, length, refl, subst, sym, with_register, []}
+use Rattle.mk_heap.proofs.Below.Laws.Vocabulary.{◌*◌, ◌++◌}
+use Rattle.mk_heap.proofs.Below.Laws.Vocabulary.{◌+◌, ◌<◌, ◌∙◌, ◌∷◌, ◌≡◌, ◌≢◌, ◌⊎◌}
 use Rattle.mk_never.specs.Admitted.{IsAdmitted}
 use Rattle.mk_heap.specs.Below.Objects.TurnCalls.{MayTakeTurns}
 use Rattle.mk_jobs.{proofs.Vocabulary.AreClears, specs.{Passes.GoesToEnd, Jobs.IsEnd}}

@@ -1,8 +1,11 @@
 -- What a client shows of each kind of operation: what is its own to show, where the layer knows the rest.
-use Rattle.mk_laws.proofs.Vocabulary.{List, NeverState, None, Null, Num, Op, Option, Ptr, Some, Value, ap, arith, false}
-use Rattle.mk_laws.proofs.Vocabulary.{get_or, global_at, inl, inr, kinds_of, length, nat_lt, no_allocation, number_of}
-use Rattle.mk_laws.proofs.Vocabulary.{refl, register_at, subst, sym, true, word_at, words_of, ℕ, ◌∙◌, ◌≡◌, ◌≢◌, Kind}
-use Rattle.mk_laws.proofs.Vocabulary.{eqb-true, ltb-true, ◌≤◌, ◌⊎◌}
+use Rattle.mk_heap.proofs.Below.Laws.Vocabulary.{List, NeverState, None, Null, Num, Op, Option, Ptr, Some, Value, ap}
+use Rattle.mk_heap.proofs.Below.Laws.Vocabulary.{arith, false}
+use Rattle.mk_heap.proofs.Below.Laws.Vocabulary.{get_or, global_at, inl, inr, kinds_of, length, nat_lt, no_allocation}
+use Rattle.mk_heap.proofs.Below.Laws.Vocabulary.{number_of}
+use Rattle.mk_heap.proofs.Below.Laws.Vocabulary.{refl, register_at, subst, sym, true, word_at, words_of, ℕ, ◌∙◌, ◌≡◌}
+use Rattle.mk_heap.proofs.Below.Laws.Vocabulary.{◌≢◌, Kind}
+use Rattle.mk_heap.proofs.Below.Laws.Vocabulary.{eqb-true, ltb-true, ◌≤◌, ◌⊎◌}
 use Rattle.mk_never.specs.{Laws.StoresTo, NeverHeap.{Allocation, after_op, reply_of}, Types.zero_words}
 use Rattle.mk_never.specs.declared.operations.Reply.{Reply}
 use Rattle.mk_jobs.specs.{Jobs.{Asks, number_replied}, Laws.is_pointer_to, Typing.{Hold, Plan, hold_of}}

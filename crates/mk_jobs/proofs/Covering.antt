@@ -1,6 +1,7 @@
 -- Operations that leave all that callers may know: those that set a register alone, or reach an object of one caller.
-use Rattle.mk_laws.proofs.Vocabulary.{List, Value, allocation_at, ap, get_or, global_at, length, subst, sym, words_of}
-use Rattle.mk_laws.proofs.Vocabulary.{ℕ, ◌∙◌, ◌≡◌, ◌≢◌, ◌⊎◌, cases_eq, inl, inr}
+use Rattle.mk_heap.proofs.Below.Laws.Vocabulary.{List, Value, allocation_at, ap, get_or, global_at, length, subst, sym}
+use Rattle.mk_heap.proofs.Below.Laws.Vocabulary.{words_of}
+use Rattle.mk_heap.proofs.Below.Laws.Vocabulary.{ℕ, ◌∙◌, ◌≡◌, ◌≢◌, ◌⊎◌, cases_eq, inl, inr}
 use Rattle.mk_never.specs.NeverHeap.{Allocation, no_allocation}
 use Rattle.mk_jobs.specs.Keeping.{Covers, Gone, IsShown, Private, Public, Role, Taken, Unborn, World}
 use Rattle.mk_jobs.proofs.{Heaps.{Creates, Frees, Stores}, Puts.Puts}

@@ -5,8 +5,9 @@ use Rattle.mk_jobs.proofs.RunVocabulary.{NeverState, HasMade, HaveDone, Host, Ho
 use Rattle.mk_jobs.proofs.RunVocabulary.{Jobs, Joined, PassState, Plan, Replied, Seat, TurnsOfAreExact, WordsState}
 use Rattle.mk_jobs.proofs.{RunVocabulary.{pass_for, replied_to}, JobRuns.are_jobs_of}
 use Rattle.mk_jobs.{proofs.JoinedJobs.{exact_on, next_unasked, still_have}, specs.Runs.{AreExplainedJobs, IsRun}}
-use Rattle.mk_laws.proofs.Vocabulary.{Bool, List, ℕ, ap, arith, false, Option, is_one_of, length, subst, sym, true}
-use Rattle.mk_laws.proofs.Vocabulary.{true≢false, [], ◌++◌, ◌+◌, ◌<◌, ◌∙◌, ◌∷◌, ◌≡◌, ◌≤◌}
+use Rattle.mk_heap.proofs.Below.Laws.Vocabulary.{Bool, List, ℕ, ap, arith, false, Option, is_one_of, length, subst, sym}
+use Rattle.mk_heap.proofs.Below.Laws.Vocabulary.{true}
+use Rattle.mk_heap.proofs.Below.Laws.Vocabulary.{true≢false, [], ◌++◌, ◌+◌, ◌<◌, ◌∙◌, ◌∷◌, ◌≡◌, ◌≤◌}
 use Rattle.mk_heap.proofs.Below.{Objects.Bounds.quarantines_are_bounded, Words.Seats.others_own}
 use Rattle.mk_heap.proofs.{Below.Objects.EndedCycles.{others_at, others_behind}, HostTurns.{comes_last, still_last}}
 use Rattle.mk_heap.proofs.Below.Objects.ListParts.{InFirst, InSecond, stands}

@@ -1,7 +1,9 @@
 -- What a caller has in its registers: the root that global 0 points to, an object of its own, or one that all may know;
 -- and what of it stays.
-use Rattle.mk_laws.proofs.Vocabulary.{List, None, Null, Option, Ptr, Value, allocation_at, global_at, inl, inr, length}
-use Rattle.mk_laws.proofs.Vocabulary.{refl, register_at, subst, sym, word_at, words_of, ℕ, ◌∙◌, ◌≡◌, ◌≢◌, ◌⊎◌}
+use Rattle.mk_heap.proofs.Below.Laws.Vocabulary.{List, None, Null, Option, Ptr, Value, allocation_at, global_at, inl}
+use Rattle.mk_heap.proofs.Below.Laws.Vocabulary.{inr, length}
+use Rattle.mk_heap.proofs.Below.Laws.Vocabulary.{refl, register_at, subst, sym, word_at, words_of, ℕ, ◌∙◌, ◌≡◌, ◌≢◌}
+use Rattle.mk_heap.proofs.Below.Laws.Vocabulary.{◌⊎◌}
 use Rattle.mk_jobs.specs.Keeping.{IsOf, IsShown, Private, Public, Role, Waits, World}
 use Rattle.mk_jobs.proofs.{Chains.IsPart, Clients.OwnStays, Heaps.{Creates, Stores}, Puts.Puts}
 

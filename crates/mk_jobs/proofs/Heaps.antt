@@ -1,10 +1,13 @@
 -- What one operation leaves of a heap: what it changes, and that all else stays.
 use Rattle.std.proofs.{Common.set, lemmas.List.get_or_at}
-use Rattle.mk_laws.proofs.Vocabulary.{false, List, NeverState, Null, Ptr, Value, allocation_at, ap, arith, get_or}
-use Rattle.mk_laws.proofs.Vocabulary.{get_or-set_other, get_or-set_same, global_at, kinds_of, length, no_allocation}
-use Rattle.mk_laws.proofs.Vocabulary.{refl, register_at, set_by, suc, sym, with_freed, with_global, with_new}
-use Rattle.mk_laws.proofs.Vocabulary.{with_register, with_word, word_at, words_of, zero, ℕ, [], ◌*◌, ◌++◌, ◌+◌, ◌<◌}
-use Rattle.mk_laws.proofs.Vocabulary.{◌∙◌, ◌∷◌, ◌≡◌, ◌≢◌}
+use Rattle.mk_heap.proofs.Below.Laws.Vocabulary.{false, List, NeverState, Null, Ptr, Value, allocation_at, ap, arith}
+use Rattle.mk_heap.proofs.Below.Laws.Vocabulary.{get_or}
+use Rattle.mk_heap.proofs.Below.Laws.Vocabulary.{get_or-set_other, get_or-set_same, global_at, kinds_of, length}
+use Rattle.mk_heap.proofs.Below.Laws.Vocabulary.{no_allocation}
+use Rattle.mk_heap.proofs.Below.Laws.Vocabulary.{refl, register_at, set_by, suc, sym, with_freed, with_global, with_new}
+use Rattle.mk_heap.proofs.Below.Laws.Vocabulary.{with_register, with_word, word_at, words_of, zero, ℕ, [], ◌*◌, ◌++◌}
+use Rattle.mk_heap.proofs.Below.Laws.Vocabulary.{◌+◌, ◌<◌}
+use Rattle.mk_heap.proofs.Below.Laws.Vocabulary.{◌∙◌, ◌∷◌, ◌≡◌, ◌≢◌}
 use Rattle.mk_never.specs.{NeverHeap.Allocation, Types.zero_words}
 
 -- Register d of caller k is set to v.

@@ -1,5 +1,5 @@
 -- Points of different kinds of jobs: a job stays with the points of its own, and ends at one.
-use Rattle.mk_laws.proofs.Vocabulary.{List, Op, ap, inl, inr, subst, sym, [], ◌∙◌, ◌∷◌, ◌≡◌}
+use Rattle.mk_heap.proofs.Below.Laws.Vocabulary.{List, Op, ap, inl, inr, subst, sym, [], ◌∙◌, ◌∷◌, ◌≡◌}
 use Rattle.mk_never.specs.declared.operations.Reply.{Reply}
 use Rattle.mk_heap.specs.Below.Words.States.{PassState}
 use Rattle.mk_jobs.specs.{Jobs.{Asks, Leads, Replied}, Passes.GoesToEnd, Typing.Plan, declared.steps.Step.{Step}}

@@ -2,9 +2,10 @@
 use Rattle.std.proofs.lemmas.List.{take_more}
 use Rattle.mk_jobs.proofs.RunVocabulary.{AreJobRuns, DoesJobs, GoesToEnd, JobRun, PassState, Plan, Replied, all_of}
 use Rattle.mk_jobs.{proofs.RunVocabulary.{replied_to}, specs.Jobs.IsJobRun}
-use Rattle.mk_laws.proofs.Vocabulary.{List, ℕ, ap, append-nil, append_assoc, get_or, length, map, refl, sym, take, []}
-use Rattle.mk_laws.proofs.Vocabulary.{◌++◌}
-use Rattle.mk_laws.proofs.Vocabulary.{◌+◌, ◌<◌, ◌∙◌, ◌∷◌, ◌≡◌}
+use Rattle.mk_heap.proofs.Below.Laws.Vocabulary.{List, ℕ, ap, append-nil, append_assoc, get_or, length, map, refl, sym}
+use Rattle.mk_heap.proofs.Below.Laws.Vocabulary.{take, []}
+use Rattle.mk_heap.proofs.Below.Laws.Vocabulary.{◌++◌}
+use Rattle.mk_heap.proofs.Below.Laws.Vocabulary.{◌+◌, ◌<◌, ◌∙◌, ◌∷◌, ◌≡◌}
 
 all_in_parts : {Job Done : Type 0} (rs ss : List (JobRun Job Done)) → all_of (rs ++ ss) ≡ all_of rs ++ all_of ss
 all_in_parts [] ss = refl

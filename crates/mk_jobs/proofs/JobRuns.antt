@@ -3,8 +3,9 @@ use Rattle.std.proofs.lemmas.List.{length-replicate}
 use Rattle.mk_jobs.proofs.RunVocabulary.{AreAdmitted, AreBelow, AreJobRuns, Call, Config, Dones, Event, HaveDone}
 use Rattle.mk_jobs.proofs.RunVocabulary.{IsHistory, JobRun, Jobs, NeverState, Null, Plan, Replied, after_op, all_of}
 use Rattle.mk_jobs.proofs.RunVocabulary.{asked, calls, never_first, own_replied, replied_in, reply_of}
-use Rattle.mk_laws.proofs.Vocabulary.{Bool, Kind, List, ℕ, ap, arith, false, if◌then◌else◌, length, ne_eqb, refl, suc}
-use Rattle.mk_laws.proofs.Vocabulary.{true, zero, [], ◌*◌, ◌++◌, ◌+◌, ◌<◌, ◌==◌, ◌∙◌, ◌∷◌, ◌≡◌, ◌≤◌, sym}
+use Rattle.mk_heap.proofs.Below.Laws.Vocabulary.{Bool, Kind, List, ℕ, ap, arith, false, if◌then◌else◌, length, ne_eqb}
+use Rattle.mk_heap.proofs.Below.Laws.Vocabulary.{refl, suc}
+use Rattle.mk_heap.proofs.Below.Laws.Vocabulary.{true, zero, [], ◌*◌, ◌++◌, ◌+◌, ◌<◌, ◌==◌, ◌∙◌, ◌∷◌, ◌≡◌, ◌≤◌, sym}
 use Rattle.mk_never.{proofs.Later.{op_stays}, specs.NeverHeap.{start_of}}
 use Rattle.mk_jobs.specs.{Jobs.{IsFounding, jobs_of_first}, Runs.{AreJobsOf, AreRunsOf}}
 

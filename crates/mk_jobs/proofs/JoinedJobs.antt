@@ -7,8 +7,9 @@ use Rattle.mk_jobs.proofs.RunVocabulary.{IsMadeFor, IsReady, Jobs, Joined, OwnAr
 use Rattle.mk_jobs.proofs.RunVocabulary.{TurnsOfAreExact, WordsState, all_of, caller_of_pass, pass_for, replied_in}
 use Rattle.mk_jobs.proofs.{RunVocabulary.{replied_to, with_joined}, OwnCalls.none_of, Replies.same_replied}
 use Rattle.mk_jobs.specs.{declared.joining.Worked.Worked, Joining.{AreExactFrom, HasWorked}}
-use Rattle.mk_laws.proofs.Vocabulary.{Bool, List, Some, ℕ, ap, arith, caller_number, drop, get_or, length, refl, subst}
-use Rattle.mk_laws.proofs.Vocabulary.{sym, true, [], ◌++◌, ◌+◌, ◌<◌, ◌∙◌, ◌∷◌, ◌≡◌, ◌≤◌, ◌⊎◌, inl, inr, suc}
+use Rattle.mk_heap.proofs.Below.Laws.Vocabulary.{Bool, List, Some, ℕ, ap, arith, caller_number, drop, get_or, length}
+use Rattle.mk_heap.proofs.Below.Laws.Vocabulary.{refl, subst}
+use Rattle.mk_heap.proofs.Below.Laws.Vocabulary.{sym, true, [], ◌++◌, ◌+◌, ◌<◌, ◌∙◌, ◌∷◌, ◌≡◌, ◌≤◌, ◌⊎◌, inl, inr, suc}
 use Rattle.mk_never.specs.declared.never_heap.NoMemory.{NoMemory}
 use Rattle.mk_core.specs.History.{calls_from}
 use Rattle.mk_heap.proofs.Below.{Objects.ExactTurns.stay_exact_behind_others, Words.Seats.{has_first, has_left}}

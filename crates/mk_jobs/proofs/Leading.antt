@@ -1,10 +1,14 @@
 -- Where the answer of a step leads, and what the registers hold there.
 use Rattle.std.proofs.Common.{IfSome}
-use Rattle.mk_laws.proofs.Vocabulary.{Answer, Bool, List, NeverState, None, Null, Num, Op, Option, Ptr, Some, To, Value}
-use Rattle.mk_laws.proofs.Vocabulary.{answer_of, ap, arith, bit, eqb-true, false, false≢true, flagged, get_or-set_other}
-use Rattle.mk_laws.proofs.Vocabulary.{get_or, get_or-set_same, if◌then◌else◌, inl, inr, is_same, length, ltb-true}
-use Rattle.mk_laws.proofs.Vocabulary.{nat_lt, refl, register_at, subst, sym, target_of, true, with_new, with_register}
-use Rattle.mk_laws.proofs.Vocabulary.{word_at, ℕ, ◌*◌, ◌+◌, ◌<◌, ◌==◌, ◌∙◌, ◌≡◌, ◌⊎◌, after_free}
+use Rattle.mk_heap.proofs.Below.Laws.Vocabulary.{Answer, Bool, List, NeverState, None, Null, Num, Op, Option, Ptr, Some}
+use Rattle.mk_heap.proofs.Below.Laws.Vocabulary.{To, Value}
+use Rattle.mk_heap.proofs.Below.Laws.Vocabulary.{answer_of, ap, arith, bit, eqb-true, false, false≢true, flagged}
+use Rattle.mk_heap.proofs.Below.Laws.Vocabulary.{get_or-set_other}
+use Rattle.mk_heap.proofs.Below.Laws.Vocabulary.{get_or, get_or-set_same, if◌then◌else◌, inl, inr, is_same, length}
+use Rattle.mk_heap.proofs.Below.Laws.Vocabulary.{ltb-true}
+use Rattle.mk_heap.proofs.Below.Laws.Vocabulary.{nat_lt, refl, register_at, subst, sym, target_of, true, with_new}
+use Rattle.mk_heap.proofs.Below.Laws.Vocabulary.{with_register}
+use Rattle.mk_heap.proofs.Below.Laws.Vocabulary.{word_at, ℕ, ◌*◌, ◌+◌, ◌<◌, ◌==◌, ◌∙◌, ◌≡◌, ◌⊎◌, after_free}
 use Rattle.mk_never.specs.{Admitted.IsOfKind, NeverHeap.{after_op, global_at, reply_of}}
 use Rattle.mk_never.specs.declared.operations.Reply.{Reply}
 use Rattle.mk_heap.specs.Dispatching.{as_told}

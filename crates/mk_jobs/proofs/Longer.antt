@@ -1,7 +1,9 @@
 -- An object of a caller's own is linked to the last of a row.
 use Rattle.std.proofs.Common.{ap₂}
-use Rattle.mk_laws.proofs.Vocabulary.{List, NeverState, Null, Ptr, Value, allocation_at, ap, cases_eq, inl, inr}
-use Rattle.mk_laws.proofs.Vocabulary.{number_of, refl, subst, sym, word_at, ℕ, [], ◌++◌, ◌∙◌, ◌∷◌, ◌≡◌, ◌≢◌, ◌⊎◌}
+use Rattle.mk_heap.proofs.Below.Laws.Vocabulary.{List, NeverState, Null, Ptr, Value, allocation_at, ap, cases_eq, inl}
+use Rattle.mk_heap.proofs.Below.Laws.Vocabulary.{inr}
+use Rattle.mk_heap.proofs.Below.Laws.Vocabulary.{number_of, refl, subst, sym, word_at, ℕ, [], ◌++◌, ◌∙◌, ◌∷◌, ◌≡◌, ◌≢◌}
+use Rattle.mk_heap.proofs.Below.Laws.Vocabulary.{◌⊎◌}
 use Rattle.mk_jobs.specs.{Keeping.{Private, Public, World}, Laws.IsOneOf, Jobs.numbers_in}
 use Rattle.mk_jobs.proofs.{Chains.{IsChain, IsNotAmong, IsPart, numbers_stay, word_of}, Heaps.Stores, Puts.Puts}
 use Rattle.mk_jobs.proofs.Rows.{HasRow, not_root}

@@ -1,10 +1,14 @@
 -- What an operation of a caller at a point leaves, by what its registers hold there.
 use Rattle.std.proofs.Common.{le-ltb}
-use Rattle.mk_laws.proofs.Vocabulary.{Bool, IsSound, Kind, List, NeverState, Null, Num, Op, Ptr, Value, WordOf}
-use Rattle.mk_laws.proofs.Vocabulary.{allocation_at, and_right, ap, arith, bit, cond, false, global_at, is_large}
-use Rattle.mk_laws.proofs.Vocabulary.{is_same, is_unmapped, kinds_of, length, number_of, refl, register_at, subst, sym}
-use Rattle.mk_laws.proofs.Vocabulary.{target_of, Option, true, with_register, with_word, word_at, words_of, ℕ, ◌*◌, ◌+◌}
-use Rattle.mk_laws.proofs.Vocabulary.{◌<◌, ◌∙◌, ◌≡◌, ◌≢◌, ◌≤◌, nat_lt, ltb-true}
+use Rattle.mk_heap.proofs.Below.Laws.Vocabulary.{Bool, IsSound, Kind, List, NeverState, Null, Num, Op, Ptr, Value}
+use Rattle.mk_heap.proofs.Below.Laws.Vocabulary.{WordOf}
+use Rattle.mk_heap.proofs.Below.Laws.Vocabulary.{allocation_at, and_right, ap, arith, bit, cond, false, global_at}
+use Rattle.mk_heap.proofs.Below.Laws.Vocabulary.{is_large}
+use Rattle.mk_heap.proofs.Below.Laws.Vocabulary.{is_same, is_unmapped, kinds_of, length, number_of, refl, register_at}
+use Rattle.mk_heap.proofs.Below.Laws.Vocabulary.{subst, sym}
+use Rattle.mk_heap.proofs.Below.Laws.Vocabulary.{target_of, Option, true, with_register, with_word, word_at, words_of}
+use Rattle.mk_heap.proofs.Below.Laws.Vocabulary.{ℕ, ◌*◌, ◌+◌}
+use Rattle.mk_heap.proofs.Below.Laws.Vocabulary.{◌<◌, ◌∙◌, ◌≡◌, ◌≢◌, ◌≤◌, nat_lt, ltb-true}
 use Rattle.mk_never.specs.{Laws.{Reaches, StoresTo}, NeverHeap.{Allocation, after_free, after_op, reply_of}}
 use Rattle.mk_never.{specs.declared.operations.Reply.{Reply}, proofs.Sameness.{equal_from_same, same_from_equal}}
 use Rattle.mk_jobs.specs.{Keeping.{IsThere, Unborn, World}, Typing.Plan}

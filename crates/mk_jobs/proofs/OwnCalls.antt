@@ -2,8 +2,9 @@
 use Rattle.std.proofs.lemmas.List.{append_cancel_left}
 use Rattle.mk_jobs.proofs.RunVocabulary.{AreBelow, AreOfOthers, Call, Caller, Config, Decided, Event, asked, calls}
 use Rattle.mk_jobs.proofs.RunVocabulary.{calls_from, left}
-use Rattle.mk_laws.proofs.Vocabulary.{Bool, List, ℕ, ap, append-nil, eq-eqb, if◌then◌else◌, refl, sym, [], ◌++◌, ◌<◌}
-use Rattle.mk_laws.proofs.Vocabulary.{◌∙◌, ◌∷◌, ◌≡◌}
+use Rattle.mk_heap.proofs.Below.Laws.Vocabulary.{Bool, List, ℕ, ap, append-nil, eq-eqb, if◌then◌else◌, refl, sym, []}
+use Rattle.mk_heap.proofs.Below.Laws.Vocabulary.{◌++◌, ◌<◌}
+use Rattle.mk_heap.proofs.Below.Laws.Vocabulary.{◌∙◌, ◌∷◌, ◌≡◌}
 use Rattle.mk_core.proofs.HistoryParts.{calls_in_parts}
 use Rattle.mk_heap.proofs.Below.Callers.OwnSteps.{by_append, calls_by, others_add_none}
 

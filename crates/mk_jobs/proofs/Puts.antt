@@ -1,6 +1,7 @@
 -- What an operation makes of who knows an allocation: one role is put in place of another.
-use Rattle.mk_laws.proofs.Vocabulary.{Bool, Ptr, Value, arith, cond, eq-eqb, false, if◌then◌else◌, ne_eqb, ap, refl}
-use Rattle.mk_laws.proofs.Vocabulary.{subst, sym, true, ℕ, ◌==◌, ◌∙◌, ◌≡◌, ◌≢◌, ◌||◌}
+use Rattle.mk_heap.proofs.Below.Laws.Vocabulary.{Bool, Ptr, Value, arith, cond, eq-eqb, false, if◌then◌else◌, ne_eqb}
+use Rattle.mk_heap.proofs.Below.Laws.Vocabulary.{ap, refl}
+use Rattle.mk_heap.proofs.Below.Laws.Vocabulary.{subst, sym, true, ℕ, ◌==◌, ◌∙◌, ◌≡◌, ◌≢◌, ◌||◌}
 use Rattle.mk_jobs.specs.{Keeping.{Public, Role}, Laws.is_pointer_to}
 
 -- Allocation b now has this role, and all others have theirs.

@@ -1,6 +1,7 @@
 -- What callers may rely on after each kind of operation.
-use Rattle.mk_laws.proofs.Vocabulary.{List, Null, Value, ap, cases_eq, get_or, global_at, inl, inr, no_allocation}
-use Rattle.mk_laws.proofs.Vocabulary.{subst, sym, word_at, ℕ, ◌∙◌, ◌≡◌, ◌≢◌, ◌⊎◌}
+use Rattle.mk_heap.proofs.Below.Laws.Vocabulary.{List, Null, Value, ap, cases_eq, get_or, global_at, inl, inr}
+use Rattle.mk_heap.proofs.Below.Laws.Vocabulary.{no_allocation}
+use Rattle.mk_heap.proofs.Below.Laws.Vocabulary.{subst, sym, word_at, ℕ, ◌∙◌, ◌≡◌, ◌≢◌, ◌⊎◌}
 use Rattle.mk_never.specs.NeverHeap.{Allocation}
 use Rattle.mk_jobs.{specs.Keeping.{Covers, IsShown, Private, Public, Role, Taken, World}, proofs.Chains.{word_of}}
 use Rattle.mk_jobs.proofs.{Having.{IsPassed, IsShownOf, Relies}, Heaps.{Frees, Stores}, Puts.{Puts, PutsTwo}}

@@ -4,9 +4,12 @@ use Rattle.mk_jobs.proofs.RunVocabulary.{NeverState, Op, PassState, Replied, aft
 use Rattle.mk_jobs.proofs.RunVocabulary.{caller_of_pass, calls, calls_from, flagged, left, never_behind, never_first}
 use Rattle.mk_jobs.proofs.RunVocabulary.{never_of, own_replied, register_at, replied_in, replied_to, reply_of, value_of}
 use Rattle.mk_jobs.proofs.OwnCalls.{none_since}
-use Rattle.mk_laws.proofs.Vocabulary.{Bool, KeepsRegisters, List, ℕ, ap, append-nil, arith, bases_of, eq-eqb, false}
-use Rattle.mk_laws.proofs.Vocabulary.{if◌then◌else◌, is_under_turn, length, map-append, refl, subst, sym, [], ◌++◌, ◌<◌}
-use Rattle.mk_laws.proofs.{Vocabulary.{◌==◌, ◌∙◌, ◌∷◌, ◌≡◌}, CallSorts.flag_is, LastEvents.{comes_last, stands}}
+use Rattle.mk_heap.proofs.Below.Laws.Vocabulary.{Bool, KeepsRegisters, List, ℕ, ap, append-nil, arith, bases_of, eq-eqb}
+use Rattle.mk_heap.proofs.Below.Laws.Vocabulary.{false}
+use Rattle.mk_heap.proofs.Below.Laws.Vocabulary.{if◌then◌else◌, is_under_turn, length, map-append, refl, subst, sym, []}
+use Rattle.mk_heap.proofs.Below.Laws.Vocabulary.{◌++◌, ◌<◌}
+use Rattle.mk_heap.proofs.Below.Laws.{Vocabulary.{◌==◌, ◌∙◌, ◌∷◌, ◌≡◌}, CallSorts.flag_is}
+use Rattle.mk_heap.proofs.Below.Laws.LastEvents.{comes_last, stands}
 use Rattle.mk_never.specs.Admitted.{IsCaller}
 use Rattle.mk_core.proofs.{Histories.calls_more, HistoryParts.calls_in_parts}
 use Rattle.mk_heap.proofs.Below.Objects.OneCalls.{OneCall, before_call, one_call, through_call}

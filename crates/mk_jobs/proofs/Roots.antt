@@ -1,7 +1,9 @@
 -- Objects with a root, to which global 0 points once it is placed: how they are founded, and how jobs begin.
-use Rattle.mk_laws.proofs.Vocabulary.{Kind, List, None, Null, Op, Option, Ptr, Some, allocation_at, ap, arith, cases_eq}
-use Rattle.mk_laws.proofs.Vocabulary.{kinds_of, length, suc, zero, [], ◌∷◌, ◌≤◌, global_at, inl, inr, refl, register_at}
-use Rattle.mk_laws.proofs.Vocabulary.{subst, sym, ℕ, ◌∙◌, ◌≡◌, ◌≢◌, ◌⊎◌}
+use Rattle.mk_heap.proofs.Below.Laws.Vocabulary.{Kind, List, None, Null, Op, Option, Ptr, Some, allocation_at, ap}
+use Rattle.mk_heap.proofs.Below.Laws.Vocabulary.{arith, cases_eq}
+use Rattle.mk_heap.proofs.Below.Laws.Vocabulary.{kinds_of, length, suc, zero, [], ◌∷◌, ◌≤◌, global_at, inl, inr, refl}
+use Rattle.mk_heap.proofs.Below.Laws.Vocabulary.{register_at}
+use Rattle.mk_heap.proofs.Below.Laws.Vocabulary.{subst, sym, ℕ, ◌∙◌, ◌≡◌, ◌≢◌, ◌⊎◌}
 use Rattle.mk_never.specs.{NeverHeap.{reply_of, start_of}, declared.operations.Reply.Reply}
 use Rattle.mk_jobs.specs.Keeping.{Covers, Gone, IsShown, IsThere, Moves, Public, Role, Unborn, World, after}
 use Rattle.mk_jobs.{specs.{Jobs.node_kinds, Typing.Plan}, proofs.Having.{IsShownOf, not_null}}

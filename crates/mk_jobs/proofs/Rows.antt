@@ -1,8 +1,9 @@
 -- A root whose word `at` points to a row of objects: those that callers share. They are of type ty, linked by their
 -- word i, and have numbers in word j.
 use Rattle.std.proofs.Common.{ap₂}
-use Rattle.mk_laws.proofs.Vocabulary.{List, Null, Ptr, Value, allocation_at, ap, cases_eq, inl, inr, number_of, subst}
-use Rattle.mk_laws.proofs.Vocabulary.{sym, word_at, ℕ, [], ◌∙◌, ◌∷◌, ◌≡◌, ◌≢◌, ◌⊎◌}
+use Rattle.mk_heap.proofs.Below.Laws.Vocabulary.{List, Null, Ptr, Value, allocation_at, ap, cases_eq, inl, inr}
+use Rattle.mk_heap.proofs.Below.Laws.Vocabulary.{number_of, subst}
+use Rattle.mk_heap.proofs.Below.Laws.Vocabulary.{sym, word_at, ℕ, [], ◌∙◌, ◌∷◌, ◌≡◌, ◌≢◌, ◌⊎◌}
 use Rattle.mk_jobs.specs.{Keeping.{Covers, IsShown, Private, Public, Role, Taken, World}, Laws.IsOneOf}
 use Rattle.mk_jobs.{specs.Jobs.{numbers_in}, proofs.Puts.{Puts}}
 use Rattle.mk_jobs.proofs.Chains.{IsChain, IsNotAmong, IsPart, chain_stays, hidden, next_of, not_one_of, numbers_stay}

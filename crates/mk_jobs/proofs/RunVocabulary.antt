@@ -4,9 +4,11 @@ pub use Rattle.mk_heap.specs.{Below.Callers.Called.Called, Hosts.{HostState, pas
 pub use Rattle.mk_heap.specs.Below.Objects.{TurnCalls.OwnAreExact, TurnCycles.TurnsOfAreExact}
 pub use Rattle.mk_heap.specs.Below.Words.States.{Has, HasCallers, PassState, WordsState}
 pub use Rattle.mk_heap.specs.Dispatching.{Answers, StaysAdmitted, as_told}
-pub use Rattle.mk_laws.proofs.Vocabulary.{Decided, asked, flagged, AreOfOthers, IsHistory, calls, calls_from, left}
-pub use Rattle.mk_laws.proofs.Vocabulary.{never_behind, answer_of, Config, Answer, Event, Seat, Caller, Host}
-pub use Rattle.mk_laws.proofs.Vocabulary.{AreAdmitted, Call, NeverState, after_calls, register_at, IsTyped, Op, Null}
+pub use Rattle.mk_heap.proofs.Below.Laws.Vocabulary.{Decided, asked, flagged, AreOfOthers, IsHistory, calls, calls_from}
+pub use Rattle.mk_heap.proofs.Below.Laws.Vocabulary.{left}
+pub use Rattle.mk_heap.proofs.Below.Laws.Vocabulary.{never_behind, answer_of, Config, Answer, Event, Seat, Caller, Host}
+pub use Rattle.mk_heap.proofs.Below.Laws.Vocabulary.{AreAdmitted, Call, NeverState, after_calls, register_at, IsTyped}
+pub use Rattle.mk_heap.proofs.Below.Laws.Vocabulary.{Op, Null}
 pub use Rattle.mk_core.specs.History.{Grows, never_first}
 pub use Rattle.mk_never.specs.{NeverHeap.{after_op, reply_of}, declared.operations.Reply.Reply}
 pub use Rattle.mk_jobs.specs.{Passes.{Clears, next_by, op_of}, Runs.{AreDone, DoesJobs, HaveDone}}

@@ -1,6 +1,7 @@
 -- A register that the object doesn't use stays as it is.
-use Rattle.mk_laws.proofs.Vocabulary.{Null, Value, arith, flagged, get_or-set_other, register_at, false, with_register}
-use Rattle.mk_laws.proofs.Vocabulary.{ℕ, ◌*◌, ◌+◌, ◌<◌, ◌≡◌, ◌≢◌}
+use Rattle.mk_heap.proofs.Below.Laws.Vocabulary.{Null, Value, arith, flagged, get_or-set_other, register_at, false}
+use Rattle.mk_heap.proofs.Below.Laws.Vocabulary.{with_register}
+use Rattle.mk_heap.proofs.Below.Laws.Vocabulary.{ℕ, ◌*◌, ◌+◌, ◌<◌, ◌≡◌, ◌≢◌}
 use Rattle.mk_never.{proofs.Edits.{if_by, left_at_by}, specs.declared.values.Target.{Target}}
 use Rattle.mk_never.specs.{NeverHeap.{NeverState, after_free, after_op, left_at}, declared.operations.Op.Op}
 use Rattle.mk_core.specs.declared.events.Answer.{Answer}

@@ -7,9 +7,10 @@ use Rattle.mk_jobs.proofs.{RunVocabulary.{register_at, replied_to, reply_of, val
 use Rattle.mk_jobs.proofs.{Leading.steps_on, Meeting.IsStateOf, Replies.{Happens, from_turn, once_open, stays}}
 use Rattle.mk_jobs.proofs.{Stepping.admits, Unused.{SetsBelow, from_stays, used_only}}
 use Rattle.mk_jobs.specs.{Jobs.IsEnd, Typing.IsTyped}
-use Rattle.mk_laws.proofs.Vocabulary.{Bool, List, Option, Some, ℕ, ap, append-nil, append_assoc, arith, false, inl, inr}
-use Rattle.mk_laws.proofs.Vocabulary.{is_under_turn, refl, subst, sym, true, [], ◌++◌, ◌<◌, ◌∙◌, ◌∷◌, ◌≡◌}
-use Rattle.mk_laws.proofs.{CallSorts.flag_is, LastEvents.stands}
+use Rattle.mk_heap.proofs.Below.Laws.Vocabulary.{Bool, List, Option, Some, ℕ, ap, append-nil, append_assoc, arith}
+use Rattle.mk_heap.proofs.Below.Laws.Vocabulary.{false, inl, inr}
+use Rattle.mk_heap.proofs.Below.Laws.Vocabulary.{is_under_turn, refl, subst, sym, true, [], ◌++◌, ◌<◌, ◌∙◌, ◌∷◌, ◌≡◌}
+use Rattle.mk_heap.proofs.Below.Laws.{CallSorts.flag_is, LastEvents.stands}
 use Rattle.mk_heap.specs.{Below.{Callers.States.Admits, Objects.TurnCalls.MayTakeTurns}, Dispatching.unflagged}
 use Rattle.mk_never.specs.Admitted.{IsAdmitted, IsTyped as IsTypedState}
 use Rattle.mk_jobs.specs.declared.steps.Step.TheVariants as step

@@ -1,6 +1,9 @@
-use Rattle.mk_laws.proofs.Vocabulary.{Answer, Bool, Flight, None, Op, Some, Step, ℕ, and_from, ap, arith, begun}
-use Rattle.mk_laws.proofs.Vocabulary.{if◌then◌else◌, le-leb, lt-ltb, nat_le, nat_lt, ne_eqb, onward, page_met}
-use Rattle.mk_laws.proofs.Vocabulary.{progress_reg, refl, refused, subst, sym, true, ◌&&◌, ◌*◌, ◌+◌, ◌<◌, ◌∙◌, ◌≡◌, ◌≢◌}
+use Rattle.mk_heap.proofs.Below.Laws.Vocabulary.{Answer, Bool, Flight, None, Op, Some, Step, ℕ, and_from, ap, arith}
+use Rattle.mk_heap.proofs.Below.Laws.Vocabulary.{begun}
+use Rattle.mk_heap.proofs.Below.Laws.Vocabulary.{if◌then◌else◌, le-leb, lt-ltb, nat_le, nat_lt, ne_eqb, onward}
+use Rattle.mk_heap.proofs.Below.Laws.Vocabulary.{page_met}
+use Rattle.mk_heap.proofs.Below.Laws.Vocabulary.{progress_reg, refl, refused, subst, sym, true, ◌&&◌, ◌*◌, ◌+◌, ◌<◌}
+use Rattle.mk_heap.proofs.Below.Laws.Vocabulary.{◌∙◌, ◌≡◌, ◌≢◌}
 use Rattle.mk_geom.specs.Addresses.{heap_word_at}
 use Rattle.mk_core.specs.{declared.seats.Stage.TheVariants.{Dirty, Leave, LoadP, Probe, Write}, Calls.value_written}
 use Rattle.mk_core.specs.Effects.{progress_probe}

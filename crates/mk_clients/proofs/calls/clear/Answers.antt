@@ -1,4 +1,4 @@
-use Rattle.mk_laws.proofs.Vocabulary.{Flight, Op, Step, ap, refl}
+use Rattle.mk_heap.proofs.Below.Laws.Vocabulary.{Flight, Op, Step, ap, refl}
 use Rattle.mk_clients.proofs.calls.clear.Goals as goal
 use Rattle.mk_clients.proofs.Admitting.{own_step}
 

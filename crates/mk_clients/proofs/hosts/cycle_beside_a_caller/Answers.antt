@@ -1,4 +1,4 @@
-use Rattle.mk_laws.proofs.Vocabulary.{Caller, Config, IsWithinLimits, ap, subst, sym, [], ◌∙◌, ◌∷◌, ◌≡◌}
+use Rattle.mk_heap.proofs.Below.Laws.Vocabulary.{Caller, Config, IsWithinLimits, ap, subst, sym, [], ◌∙◌, ◌∷◌, ◌≡◌}
 use Rattle.mk_heap.proofs.ClientSteps.{has_said_over, one_is_joined, pass_of_first, pass_of_later}
 use Rattle.mk_heap.specs.{Hosts.HostState, Below.Words.States.PassState}
 use Rattle.mk_clients.proofs.hosts.cycle_beside_a_caller.Goals as goal

@@ -1,4 +1,4 @@
-use Rattle.mk_laws.proofs.Vocabulary.{Config, arith, subst, sym, ◌≤◌}
+use Rattle.mk_heap.proofs.Below.Laws.Vocabulary.{Config, arith, subst, sym, ◌≤◌}
 use Rattle.mk_heap.proofs.ClientSteps.{behind_one, pass_of_next}
 use Rattle.mk_clients.proofs.hosts.two_callers.Goals as goal
 

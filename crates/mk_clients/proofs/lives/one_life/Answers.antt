@@ -1,5 +1,7 @@
-use Rattle.mk_laws.proofs.Vocabulary.{Caller, Config, List, Marker, Seat, ap, arith, cases_Bool, inl, inr, lt-ltb}
-use Rattle.mk_laws.proofs.Vocabulary.{marker_at, outside, refl, seat_exists, subst, sym, true, [], ◌++◌, ◌∷◌, ◌≡◌}
+use Rattle.mk_heap.proofs.Below.Laws.Vocabulary.{Caller, Config, List, Marker, Seat, ap, arith, cases_Bool, inl, inr}
+use Rattle.mk_heap.proofs.Below.Laws.Vocabulary.{lt-ltb}
+use Rattle.mk_heap.proofs.Below.Laws.Vocabulary.{marker_at, outside, refl, seat_exists, subst, sym, true, [], ◌++◌, ◌∷◌}
+use Rattle.mk_heap.proofs.Below.Laws.Vocabulary.{◌≡◌}
 use Rattle.mk_core.specs.History.{is_same_seat, left_from}
 use Rattle.mk_heap.proofs.Below.Words.Seats.{has_all, has_first, has_left, has_right, same_seat, without_keeps}
 use Rattle.mk_heap.specs.Below.Words.States.{Has, all_seats, without_seat, PassState, now_of}

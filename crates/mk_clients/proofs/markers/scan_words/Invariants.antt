@@ -1,4 +1,4 @@
-use Rattle.mk_laws.proofs.Vocabulary.{◌*◌, ◌+◌, ◌-◌, ◌≡◌, ◌≤◌}
+use Rattle.mk_heap.proofs.Below.Laws.Vocabulary.{◌*◌, ◌+◌, ◌-◌, ◌≡◌, ◌≤◌}
 use Rattle.mk_clients.specs.Clients.{IsAt, IsAttending}
 use Rattle.mk_clients.proofs.markers.scan_words.Given as goal
 

@@ -1,4 +1,4 @@
-use Rattle.mk_laws.proofs.Vocabulary.{true, ◌≡◌}
+use Rattle.mk_heap.proofs.Below.Laws.Vocabulary.{true, ◌≡◌}
 use Rattle.mk_heap.specs.Below.Markers.Markers.{attends}
 use Rattle.mk_clients.proofs.marking.mark_some.Given as goal
 

@@ -1,4 +1,4 @@
-use Rattle.mk_laws.proofs.Vocabulary.{◌∙◌}
+use Rattle.mk_heap.proofs.Below.Laws.Vocabulary.{◌∙◌}
 use Rattle.mk_clients.proofs.moves.first_register_is_null.Goals as goal
 use Rattle.mk_clients.proofs.{Beginnings.{admits, given, idle, tells_null}, Sameness.told}
 

@@ -1,4 +1,4 @@
-use Rattle.mk_laws.proofs.Vocabulary.{ap, ◌++◌, ◌∙◌}
+use Rattle.mk_heap.proofs.Below.Laws.Vocabulary.{ap, ◌++◌, ◌∙◌}
 use Rattle.mk_heap.proofs.Below.Objects.Vocabulary.{PassState, caller_of_pass, own_calls}
 use Rattle.mk_clients.{proofs.OwnedCalls.{done_behind, entry_now}, specs.Owned.{store_then_load}}
 use Rattle.mk_clients.proofs.numbers.number_in_new_object.Goals as goal

@@ -1,4 +1,4 @@
-use Rattle.mk_laws.proofs.Vocabulary.{arith, refl}
+use Rattle.mk_heap.proofs.Below.Laws.Vocabulary.{arith, refl}
 use Rattle.mk_clients.proofs.stops.hold_all.Goals as goal
 use Rattle.mk_clients.proofs.TurnFacts.{holds_none, holds_on, holds_one_more, settled, tidy_kept}
 

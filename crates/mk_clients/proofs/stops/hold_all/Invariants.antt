@@ -1,4 +1,4 @@
-use Rattle.mk_laws.proofs.Vocabulary.{◌-◌}
+use Rattle.mk_heap.proofs.Below.Laws.Vocabulary.{◌-◌}
 use Rattle.mk_clients.proofs.stops.hold_all.Given as goal
 use Rattle.mk_clients.proofs.TurnFacts.{HoldsSoFar}
 

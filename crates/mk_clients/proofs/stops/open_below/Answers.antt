@@ -1,4 +1,4 @@
-use Rattle.mk_laws.proofs.Vocabulary.{ℕ, arith, refl, subst, ◌+◌, ◌-◌, ◌≡◌}
+use Rattle.mk_heap.proofs.Below.Laws.Vocabulary.{ℕ, arith, refl, subst, ◌+◌, ◌-◌, ◌≡◌}
 use Rattle.mk_clients.{proofs.TurnFacts.{holds_on, none_below, opens_last}, specs.Clients.{HoldsBelow}}
 use Rattle.mk_clients.proofs.stops.open_below.Goals as goal
 

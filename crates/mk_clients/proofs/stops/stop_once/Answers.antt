@@ -1,4 +1,4 @@
-use Rattle.mk_laws.proofs.Vocabulary.{subst, sym}
+use Rattle.mk_heap.proofs.Below.Laws.Vocabulary.{subst, sym}
 use Rattle.mk_heap.specs.Below.Words.States.{PassState, WordsState}
 use Rattle.mk_clients.{proofs.TurnFacts.{all_are_held}, specs.Clients.{HoldsBelow, Settled}}
 use Rattle.mk_clients.proofs.stops.stop_once.Goals as goal

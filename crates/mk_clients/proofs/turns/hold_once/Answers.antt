@@ -1,4 +1,4 @@
-use Rattle.mk_laws.proofs.Vocabulary.{ℕ, refl, subst, sym, ◌<◌}
+use Rattle.mk_heap.proofs.Below.Laws.Vocabulary.{ℕ, refl, subst, sym, ◌<◌}
 use Rattle.mk_heap.specs.Below.Words.States.{PassState, WordsState}
 use Rattle.mk_clients.proofs.TurnFacts.{given_back, hold_leaves, hold_may, look_leaves, miss_leaves, none_held_is}
 use Rattle.mk_clients.proofs.turns.hold_once.Goals as goal

@@ -1,5 +1,5 @@
 use Rattle.std.proofs.Common.{All}
-use Rattle.mk_laws.proofs.Vocabulary.{length, ◌≡◌}
+use Rattle.mk_heap.proofs.Below.Laws.Vocabulary.{length, ◌≡◌}
 use Rattle.mk_jobs.proofs.engines.equal_engines.Given as goal
 
 abbrev pub invariant-loop-engine : goal.invariant-loop-engine

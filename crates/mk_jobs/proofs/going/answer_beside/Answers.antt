@@ -1,6 +1,6 @@
 use Rattle.mk_heap.proofs.Dispatched.{put_off_then, put_off_waits, stays_admitted_after}
 use Rattle.mk_jobs.proofs.RunVocabulary.{PassState, caller_of_pass}
-use Rattle.mk_laws.proofs.Vocabulary.{subst, sym, ◌<◌}
+use Rattle.mk_heap.proofs.Below.Laws.Vocabulary.{subst, sym, ◌<◌}
 use Rattle.mk_jobs.proofs.going.answer_beside.Goals as goal
 
 pub answer_when_open-requires-clause-admitted : goal.answer_when_open-requires-clause-admitted

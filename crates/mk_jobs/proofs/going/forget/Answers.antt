@@ -1,5 +1,5 @@
 use Rattle.mk_jobs.proofs.{Clearing.{clear_stays_admitted, none_cleared, one_cleared}, Walking.ready_on}
-use Rattle.mk_laws.proofs.Vocabulary.{arith, refl}
+use Rattle.mk_heap.proofs.Below.Laws.Vocabulary.{arith, refl}
 use Rattle.mk_jobs.proofs.going.forget.Goals as goal
 
 pub loop-register-init : goal.loop-register-init

@@ -1,5 +1,5 @@
 use Rattle.mk_jobs.proofs.{Clearing.goes_cleared, Holds.none_held, RunVocabulary.GoesToEnd}
-use Rattle.mk_laws.proofs.Vocabulary.{subst}
+use Rattle.mk_heap.proofs.Below.Laws.Vocabulary.{subst}
 use Rattle.mk_jobs.proofs.going.found.Goals as goal
 
 pub go-done-requires-clause-holds : goal.go-done-requires-clause-holds

@@ -1,4 +1,4 @@
-use Rattle.mk_laws.proofs.Vocabulary.{Bool, ap, refl, subst, sym, true, [], ◌<◌, ◌∙◌, ◌∷◌, ◌≡◌}
+use Rattle.mk_heap.proofs.Below.Laws.Vocabulary.{Bool, ap, refl, subst, sym, true, [], ◌<◌, ◌∙◌, ◌∷◌, ◌≡◌}
 use Rattle.mk_jobs.proofs.RunVocabulary.{Answer, Answers, CallerState, Op, PassState, StaysAdmitted, caller_of_pass}
 use Rattle.mk_jobs.proofs.{RunVocabulary.{next_by, op_of}, Walking.{advances, goes_nowhere, goes_through, may_ask}}
 use Rattle.mk_jobs.proofs.{Walking.ready_on, going.go.Goals.{In-Some-op_of, Joined-answer_at_once}}

@@ -1,5 +1,5 @@
 use Rattle.mk_jobs.proofs.{JobLists.{does_next, does_none}, RunVocabulary.GoesToEnd}
-use Rattle.mk_laws.proofs.Vocabulary.{subst}
+use Rattle.mk_heap.proofs.Below.Laws.Vocabulary.{subst}
 use Rattle.mk_jobs.proofs.job_lists.run_jobs.Goals as goal
 
 pub loop-index-preserved : goal.loop-index-preserved

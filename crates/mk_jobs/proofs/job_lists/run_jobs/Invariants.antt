@@ -1,5 +1,5 @@
 use Rattle.mk_jobs.proofs.RunVocabulary.{DoesJobs, IsReady, OwnAreExact}
-use Rattle.mk_laws.proofs.Vocabulary.{take}
+use Rattle.mk_heap.proofs.Below.Laws.Vocabulary.{take}
 use Rattle.mk_jobs.proofs.job_lists.run_jobs.Given as goal
 
 abbrev pub invariant-loop-index : goal.invariant-loop-index

@@ -3,7 +3,7 @@ use Rattle.mk_jobs.proofs.RunVocabulary.{HasMade, HaveWorked, IsBetweenJobs, rep
 use Rattle.mk_jobs.proofs.JoinedJobs.{next_list, next_ready, next_unasked, no_lists, none_joined}
 use Rattle.mk_jobs.specs.Joining.{AreCallersFrom, HasWorked}
 use Rattle.mk_heap.proofs.Crews.{caller_made}
-use Rattle.mk_laws.proofs.Vocabulary.{Some, arith, drop, length, subst, sym, [], ◌+◌, ◌-◌, ◌<◌, ◌≡◌}
+use Rattle.mk_heap.proofs.Below.Laws.Vocabulary.{Some, arith, drop, length, subst, sym, [], ◌+◌, ◌-◌, ◌<◌, ◌≡◌}
 use Rattle.mk_jobs.proofs.joining.+fn-run_from-join+arg3+run_from.Goals as goal
 
 pub join-worked-requires-after_bounds : goal.join-worked-requires-after_bounds

@@ -1,4 +1,4 @@
-use Rattle.mk_laws.proofs.Vocabulary.{length}
+use Rattle.mk_heap.proofs.Below.Laws.Vocabulary.{length}
 use Rattle.mk_jobs.proofs.joining.+fn-run_from-join+arg3+run_from.Given as goal
 
 abbrev pub decreases-join+arg3 : goal.decreases-join+arg3

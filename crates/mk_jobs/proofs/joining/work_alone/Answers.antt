@@ -1,6 +1,6 @@
 use Rattle.std.proofs.{Common.slice_get, lemmas.Option.slice_get-get_or}
 use Rattle.mk_jobs.proofs.JoinedJobs.{has_worked, ready_between}
-use Rattle.mk_laws.proofs.Vocabulary.{Some, arith, get_or, ◌≡◌}
+use Rattle.mk_heap.proofs.Below.Laws.Vocabulary.{Some, arith, get_or, ◌≡◌}
 use Rattle.mk_jobs.proofs.joining.work_alone.Goals as goal
 
 pub new-caller-requires-clause-idle : goal.new-caller-requires-clause-idle

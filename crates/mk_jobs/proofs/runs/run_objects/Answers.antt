@@ -1,5 +1,5 @@
 use Rattle.mk_jobs.proofs.EndedRuns.{is_run}
-use Rattle.mk_laws.proofs.Vocabulary.{refl, ◌∙◌}
+use Rattle.mk_heap.proofs.Below.Laws.Vocabulary.{refl, ◌∙◌}
 use Rattle.mk_jobs.proofs.runs.run_objects.Goals as goal
 
 pub returns : goal.returns

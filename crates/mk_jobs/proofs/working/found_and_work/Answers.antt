@@ -1,6 +1,6 @@
 use Rattle.mk_jobs.proofs.{EndedRuns.founds_object, JoinedJobs.{is_ready, next_ready, ready_between}}
 use Rattle.mk_jobs.proofs.RunVocabulary.{replied_to}
-use Rattle.mk_laws.proofs.Vocabulary.{arith}
+use Rattle.mk_heap.proofs.Below.Laws.Vocabulary.{arith}
 use Rattle.mk_heap.proofs.Crews.{caller_made}
 use Rattle.mk_jobs.proofs.working.found_and_work.Goals as goal
 

@@ -1,4 +1,4 @@
-use Rattle.mk_laws.proofs.Vocabulary.{refl}
+use Rattle.mk_heap.proofs.Below.Laws.Vocabulary.{refl}
 use Rattle.mk_jobs.proofs.EndedRuns.{callers_home, callers_joined, have_ended}
 use Rattle.mk_jobs.proofs.working.work.Goals as goal
 
