@@ -3,7 +3,8 @@ use Rattle.mk_laws.proofs.Vocabulary.{Bool, IsWithinLimits, Op, arith, false, sy
 use Rattle.mk_core.specs.Moments.{IsBetween}
 use Rattle.mk_never.specs.declared.operations.Reply.{Reply}
 use Rattle.mk_jobs.specs.{Jobs.Asks, declared.steps.Step.Step}
-use Rattle.mk_stack.specs.{Stack.{step_of, with_number, stack_config}, declared.jobs.Done.Done}
+use Rattle.mk_jobs.specs.Runs.{object_config}
+use Rattle.mk_stack.specs.{Stack.{stack_plan, step_of, with_number}, declared.jobs.Done.Done}
 use Rattle.mk_stack.specs.declared.{jobs.Job.Job, points.Point.Point}
 
 -- It is a point of a push.
@@ -39,5 +40,5 @@ ends_fit (Point.Checking Job.Pop) d is = absurd (cc is)
 ends_fit _ d is = absurd (cc is)
 
 pub is_within_limits : (pages resident callers markers : ℕ) → IsBetween 1 4096 pages → IsBetween 1 pages resident
-    → IsBetween 1 16 callers → markers ≤ 8 → IsWithinLimits (stack_config pages resident callers markers)
+    → IsBetween 1 16 callers → markers ≤ 8 → IsWithinLimits (object_config stack_plan pages resident callers markers)
 is_within_limits pages resident callers markers p r c m = grind arith

@@ -4,10 +4,8 @@ use Rattle.std.specs.Prelude.{if◌then◌else◌}
 use Rattle.std.proofs.Common.{arith}
 use Rattle.mk_never.specs.declared.{types.Kind.Kind, values.Value.TheVariants.{Null, Ptr}}
 use Rattle.mk_never.specs.NeverHeap.{NeverState, global_at, word_at}
-use Rattle.mk_core.specs.declared.config.Config.{Config}
 use Rattle.mk_jobs.specs.Typing.{Plan, Hold, Anything, MayPoint, Points, Owns, Owes, IsTyped, IsTypedStep}
 use Rattle.mk_jobs.specs.{declared.{steps.Step.Step, linked.Full.Full}, Jobs.{AreLinked, numbers_in}}
-use Rattle.mk_jobs.specs.Runs.{object_config}
 use Rattle.mk_stack.specs.declared.{jobs.{Job.Job, Done.Done}, points.Point.Point}
 
 -- the operation of a point, and where its answers lead
@@ -103,10 +101,6 @@ pub record HasNodes (n : NeverState) (parts xs : List ℕ) : Type 0 where
 -- The stack of these allocations has these numbers, or none was founded.
 abbrev pub HasNumbers : NeverState → List ℕ → List ℕ → Type 0
 HasNumbers n parts xs = ((global_at n 0 ≡ Null) × (parts ≡ []) × (xs ≡ [])) ⊎ HasNodes n parts xs
-
--- the heap of a stack
-abbrev pub stack_config : ℕ → ℕ → ℕ → ℕ → Config
-stack_config = object_config stack_plan
 
 -- what became of a push
 abbrev pub pushed : Result (Unit {0}) Full → Done

@@ -2,8 +2,8 @@
 ghost use Rattle.std.specs.Prelude.{◌≤◌, [], length, IfOk};
 ghost use Rattle.mk_core.specs.Moments.{IsBetween};
 ghost use Rattle.mk_heap.specs.Hosts.{history_of};
-ghost use Rattle.mk_jobs.specs.{Passes.{HasDone, IsReady}, Runs.{AreExplainedJobs, IsRun}};
-ghost use Rattle.mk_stack.specs.Stack.{stack_plan, HasNumbers, left_by, popped, pushed, stack_config};
+ghost use Rattle.mk_jobs.specs.{Passes.{HasDone, IsReady}, Runs.{AreExplainedJobs, IsRun, object_config}};
+ghost use Rattle.mk_stack.specs.Stack.{stack_plan, HasNumbers, left_by, popped, pushed};
 
 use crate::jobs::{Done, Job};
 use crate::stacks::Stack;
@@ -74,9 +74,9 @@ pub fn run_stack<E: Engine + Send, P: Pace + Sync, R: Threads + Wait + Sync>(
     requires markers { markers ≤ 8 }
     requires callers { IsBetween 1 16 (length lists.now) }
     ensures runs { IfOk result
-        (IsRun stack_plan E.ways.on (stack_config pages resident (length lists.now) markers) lists.now) }
+        (IsRun stack_plan E.ways.on (object_config stack_plan pages resident (length lists.now) markers) lists.now) }
     ensures explained { IfOk result (λ outcome. AreExplainedJobs stack_plan [] left_by HasNumbers
-        (stack_config pages resident (length lists.now) markers) (history_of outcome.report) lists.now
+        (object_config stack_plan pages resident (length lists.now) markers) (history_of outcome.report) lists.now
         outcome.done.items) }
 {
     run::<Stack, E, P, R>(rt, alloc, pages, resident, markers, lists, pace)
