@@ -1,9 +1,11 @@
 -- Callers that make and free objects keep to pointers to first words.
 use Rattle.std.proofs.Common.{IfErr, IfOk, OnErr}
-use Rattle.mk_laws.proofs.Vocabulary.{Answer, Bool, Event, List, NeverState, Null, Op, Seat, Value, ℕ, after_free, ap}
-use Rattle.mk_laws.proofs.Vocabulary.{arith, cases_eq, false, flagged, get_or-set_other, inl, inr, length, refl}
-use Rattle.mk_laws.proofs.Vocabulary.{register_at, subst, sym, true, [], ◌*◌, ◌+◌, ◌<◌, ◌∙◌, ◌∷◌, ◌≡◌, ◌≢◌}
-use Rattle.mk_laws.proofs.OtherCalls.{never_continues}
+use Rattle.mk_run.proofs.Below.Laws.Vocabulary.{Answer, Bool, Event, List, NeverState, Null, Op, Seat, Value, ℕ}
+use Rattle.mk_run.proofs.Below.Laws.Vocabulary.{after_free, ap}
+use Rattle.mk_run.proofs.Below.Laws.Vocabulary.{arith, cases_eq, false, flagged, get_or-set_other, inl, inr, length}
+use Rattle.mk_run.proofs.Below.Laws.Vocabulary.{refl}
+use Rattle.mk_run.proofs.Below.Laws.Vocabulary.{register_at, subst, sym, true, [], ◌*◌, ◌+◌, ◌<◌, ◌∙◌, ◌∷◌, ◌≡◌, ◌≢◌}
+use Rattle.mk_run.proofs.Below.Laws.OtherCalls.{never_continues}
 use Rattle.mk_heap_tests.proofs.Vocabulary.{BothMayAllocate, CallerState, Err, IsAtHome, IsIdleCaller, IsPassOfObjects}
 use Rattle.mk_heap_tests.proofs.Vocabulary.{MayAllocate, Ok, OnOk, PassState, Result, WordsState, caller_of_pass}
 use Rattle.mk_heap_tests.proofs.{Vocabulary.value_of, JoinedHosts.{has_registers, null_at_first, pass_after}}

@@ -1,9 +1,12 @@
 -- The host's callers and markers before their first call, and after their last.
 use Rattle.std.proofs.lemmas.List.{length-replicate}
-use Rattle.mk_laws.proofs.Vocabulary.{Caller, Config, Event, Host, List, Null, Seat, ℕ, all_below-at, ap, arith, asked}
-use Rattle.mk_laws.proofs.Vocabulary.{calls, false, host_has_turn, inl, inr, is_held, length, lt-ltb, never_behind, not}
-use Rattle.mk_laws.proofs.Vocabulary.{not-true, refl, subst, sym, true, [], ◌*◌, ◌++◌, ◌+◌, ◌<◌, ◌∙◌, ◌∷◌, ◌≡◌, ◌⊎◌}
-use Rattle.mk_laws.proofs.OrderlyLists.{at_first}
+use Rattle.mk_run.proofs.Below.Laws.Vocabulary.{Caller, Config, Event, Host, List, Null, Seat, ℕ, all_below-at, ap}
+use Rattle.mk_run.proofs.Below.Laws.Vocabulary.{arith, asked}
+use Rattle.mk_run.proofs.Below.Laws.Vocabulary.{calls, false, host_has_turn, inl, inr, is_held, length, lt-ltb}
+use Rattle.mk_run.proofs.Below.Laws.Vocabulary.{never_behind, not}
+use Rattle.mk_run.proofs.Below.Laws.Vocabulary.{not-true, refl, subst, sym, true, [], ◌*◌, ◌++◌, ◌+◌, ◌<◌, ◌∙◌, ◌∷◌}
+use Rattle.mk_run.proofs.Below.Laws.Vocabulary.{◌≡◌, ◌⊎◌}
+use Rattle.mk_run.proofs.Below.Laws.OrderlyLists.{at_first}
 use Rattle.mk_heap_tests.proofs.Vocabulary.{CallerState, Has, HoldsNull, HostState, IsAtHome, IsCaller, IsIdleCaller}
 use Rattle.mk_heap_tests.proofs.Vocabulary.{IsPassFor, PassState, WordsState, caller_of_pass, has_all, now_of, pass_for}
 use Rattle.mk_heap_tests.proofs.Vocabulary.{value_of}

@@ -1,8 +1,10 @@
 -- A marker that is out, or comes in, the host's turn and cycle beside it, and the caller that was joined.
 use Rattle.std.specs.Result.{is_err}
-use Rattle.mk_laws.proofs.Vocabulary.{Caller, Config, Event, Host, List, Marker, MarkerState, None, Seat, Steady, Step}
-use Rattle.mk_laws.proofs.Vocabulary.{ℕ, ap, arith, eq-eqb, false, is_held, is_number_of, marker_at, others_are_held}
-use Rattle.mk_laws.proofs.Vocabulary.{outside, phase_of, refl, subst, sym, true, [], ◌%◌, ◌∙◌, ◌∷◌, ◌≡◌}
+use Rattle.mk_run.proofs.Below.Laws.Vocabulary.{Caller, Config, Event, Host, List, Marker, MarkerState, None, Seat}
+use Rattle.mk_run.proofs.Below.Laws.Vocabulary.{Steady, Step}
+use Rattle.mk_run.proofs.Below.Laws.Vocabulary.{ℕ, ap, arith, eq-eqb, false, is_held, is_number_of, marker_at}
+use Rattle.mk_run.proofs.Below.Laws.Vocabulary.{others_are_held}
+use Rattle.mk_run.proofs.Below.Laws.Vocabulary.{outside, phase_of, refl, subst, sym, true, [], ◌%◌, ◌∙◌, ◌∷◌, ◌≡◌}
 use Rattle.mk_heap_tests.proofs.Vocabulary.{CallerState, Err, Has, HostState, IsAtHome, IsEnabledTo, IsTurn, Ok, OnOk}
 use Rattle.mk_heap_tests.proofs.Vocabulary.{PassState, Result, WordsState, has_all, now_of, pass_for}
 use Rattle.mk_heap_tests.proofs.JoinedHosts.{HasJoinedOne, IsUnused, free_at_first, has_joined, none_is_held_at}

@@ -1,6 +1,6 @@
 -- A caller's turn for a New, from its `take` to its `give`.
-use Rattle.mk_laws.proofs.Vocabulary.{Answer, Bool, Caller, IsHistory, Op, Some, Step, ℕ, ap, arith, at_rest}
-use Rattle.mk_laws.proofs.Vocabulary.{caller_number, false, length, lt-ltb, refl, sym, ◌<◌, ◌∙◌, ◌≡◌}
+use Rattle.mk_run.proofs.Below.Laws.Vocabulary.{Answer, Bool, Caller, IsHistory, Op, Some, Step, ℕ, ap, arith, at_rest}
+use Rattle.mk_run.proofs.Below.Laws.Vocabulary.{caller_number, false, length, lt-ltb, refl, sym, ◌<◌, ◌∙◌, ◌≡◌}
 use Rattle.mk_heap_tests.proofs.Vocabulary.{IsEnabledTo, IsPassFor, IsPassOfObjects, IsTurn, PassState, WordsState}
 use Rattle.mk_heap_tests.proofs.Vocabulary.{caller_of_pass, now_of}
 use Rattle.mk_run.proofs.Below.Objects.CalledTurns.{Taken, callers, take_allowed, taken_phase, taken_same}

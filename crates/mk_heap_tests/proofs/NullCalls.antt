@@ -1,7 +1,8 @@
 -- Calls on registers that are null.
 use Rattle.std.proofs.Common.{IfErr, IfOk, OnErr}
-use Rattle.mk_laws.proofs.Vocabulary.{Answer, Bool, Null, Op, Some, ℕ, ap, arith, length, refl, subst, sym, ◌<◌, ◌∙◌}
-use Rattle.mk_laws.proofs.Vocabulary.{◌≡◌, ◌≢◌}
+use Rattle.mk_run.proofs.Below.Laws.Vocabulary.{Answer, Bool, Null, Op, Some, ℕ, ap, arith, length, refl, subst, sym}
+use Rattle.mk_run.proofs.Below.Laws.Vocabulary.{◌<◌, ◌∙◌}
+use Rattle.mk_run.proofs.Below.Laws.Vocabulary.{◌≡◌, ◌≢◌}
 use Rattle.mk_heap_tests.proofs.Vocabulary.{Err, HoldsNull, IsCaller, Ok, OnOk, PassState, Result, caller_of_pass}
 use Rattle.mk_heap_tests.proofs.Vocabulary.{value_of}
 use Rattle.mk_run.proofs.Below.Callers.After.{calls_leave_other_registers}

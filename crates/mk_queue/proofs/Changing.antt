@@ -1,6 +1,7 @@
 -- What holds of the nodes of a queue, and that it stays a queue.
-use Rattle.mk_laws.proofs.Vocabulary.{List, Null, Option, Ptr, Some, Value, arith, cases_eq, global_at, inl, inr, refl}
-use Rattle.mk_laws.proofs.Vocabulary.{subst, sym, word_at, ℕ, ◌∙◌, ◌∷◌, ◌≡◌, ◌≢◌, ◌⊎◌}
+use Rattle.mk_heap.proofs.Below.Laws.Vocabulary.{List, Null, Option, Ptr, Some, Value, arith, cases_eq, global_at, inl}
+use Rattle.mk_heap.proofs.Below.Laws.Vocabulary.{inr, refl}
+use Rattle.mk_heap.proofs.Below.Laws.Vocabulary.{subst, sym, word_at, ℕ, ◌∙◌, ◌∷◌, ◌≡◌, ◌≢◌, ◌⊎◌}
 use Rattle.mk_jobs.specs.Keeping.{Covers, IsShown, Public, World}
 use Rattle.mk_jobs.proofs.{Chains.{IsPart, word_of}, Heaps.Stores, Roots.{founded_still, of_root, shared_covered}}
 use Rattle.mk_jobs.proofs.Having.{HasRoot, IsShownOf, PointsTo, Relies, not_null, points_stay}

@@ -1,5 +1,5 @@
 -- An enqueue ends as one, and a dequeue as one.
-use Rattle.mk_laws.proofs.Vocabulary.{Bool, Op, Option, Some, arith, false, true, ℕ, ◌≡◌, ◌≢◌}
+use Rattle.mk_heap.proofs.Below.Laws.Vocabulary.{Bool, Op, Option, Some, arith, false, true, ℕ, ◌≡◌, ◌≢◌}
 use Rattle.mk_never.specs.declared.operations.Reply.{Reply}
 use Rattle.mk_jobs.specs.{Jobs.Asks, declared.steps.Step.Step}
 use Rattle.mk_queue.specs.{Queue.{step_of, with_number}, declared.jobs.{Done.Done, Job.Job}}

@@ -1,6 +1,7 @@
 -- What holds of a queue, and of each caller at its point, at every place of an interleaving.
-use Rattle.mk_laws.proofs.Vocabulary.{List, None, Null, Option, Ptr, Some, Value, get_or, global_at, number_of}
-use Rattle.mk_laws.proofs.Vocabulary.{register_at, suc, word_at, zero, ℕ, [], ◌∷◌, ◌≡◌, ◌≢◌, ◌⊎◌}
+use Rattle.mk_heap.proofs.Below.Laws.Vocabulary.{List, None, Null, Option, Ptr, Some, Value, get_or, global_at}
+use Rattle.mk_heap.proofs.Below.Laws.Vocabulary.{number_of}
+use Rattle.mk_heap.proofs.Below.Laws.Vocabulary.{register_at, suc, word_at, zero, ℕ, [], ◌∷◌, ◌≡◌, ◌≢◌, ◌⊎◌}
 use Rattle.mk_jobs.{specs.Keeping.{Public, World}, proofs.{Roots.{IsChecked, IsShared}, Rows.HasRow}}
 use Rattle.mk_jobs.proofs.Having.{HasOwn, HasRoot, IsFounder, IsPassed, IsShownOf, PointsTo, Relies}
 use Rattle.mk_queue.specs.{declared.jobs.Done.Done, declared.jobs.Job.Job, declared.points.Point.Point}

@@ -1,5 +1,6 @@
 -- The queue is always explained: what its operations keep.
-use Rattle.mk_laws.proofs.Vocabulary.{List, None, Option, Some, inl, inr, refl, word_at, ℕ, [], ◌∙◌, ◌∷◌, ◌≡◌}
+use Rattle.mk_heap.proofs.Below.Laws.Vocabulary.{List, None, Option, Some, inl, inr, refl, word_at, ℕ, [], ◌∙◌, ◌∷◌}
+use Rattle.mk_heap.proofs.Below.Laws.Vocabulary.{◌≡◌}
 use Rattle.mk_jobs.specs.{Keeping.{Keeps, Public, World}, Laws.{IsAlwaysExplained, IsOneOf}, declared.steps.Step.Step}
 use Rattle.mk_jobs.proofs.{Chains.linked, Explained.explained, Roots.unshared, Rows.part_role}
 use Rattle.mk_queue.specs.Queue.{queue_is_typed, queue_plan, step_of, HasNumbers, left_by}

@@ -1,6 +1,7 @@
 -- Each operation of a queue's jobs.
-use Rattle.mk_laws.proofs.Vocabulary.{Bool, Kind, List, None, Op, Option, Some, Value, ap, arith, cond, eq-eqb, inl}
-use Rattle.mk_laws.proofs.Vocabulary.{inr, number_of, refl, subst, sym, word_at, ℕ, [], ◌++◌, ◌∙◌, ◌∷◌, ◌≡◌}
+use Rattle.mk_heap.proofs.Below.Laws.Vocabulary.{Bool, Kind, List, None, Op, Option, Some, Value, ap, arith, cond}
+use Rattle.mk_heap.proofs.Below.Laws.Vocabulary.{eq-eqb, inl}
+use Rattle.mk_heap.proofs.Below.Laws.Vocabulary.{inr, number_of, refl, subst, sym, word_at, ℕ, [], ◌++◌, ◌∙◌, ◌∷◌, ◌≡◌}
 use Rattle.mk_jobs.{specs.Keeping.{Public, Taken, World, after}, proofs.Rows.{HasRow, first_of, not_root, row_popped}}
 use Rattle.mk_jobs.proofs.{Chains.{IsPart, word_of}, Heaps.Stores, Longer.row_longer, Clients.{Client, MovesAt}}
 use Rattle.mk_jobs.proofs.Clients.{by_dropping, by_exchange, by_freeing, by_load, by_load_number, by_new, by_null}

@@ -1,6 +1,7 @@
 -- What a caller has stays so after an operation on which it may rely.
-use Rattle.mk_laws.proofs.Vocabulary.{List, Null, Option, Some, Value, ap, arith, get_or, inl, inr, number_of}
-use Rattle.mk_laws.proofs.Vocabulary.{register_at, subst, sym, word_at, ℕ, ◌∙◌, ◌≡◌, ◌≢◌}
+use Rattle.mk_heap.proofs.Below.Laws.Vocabulary.{List, Null, Option, Some, Value, ap, arith, get_or, inl, inr}
+use Rattle.mk_heap.proofs.Below.Laws.Vocabulary.{number_of}
+use Rattle.mk_heap.proofs.Below.Laws.Vocabulary.{register_at, subst, sym, word_at, ℕ, ◌∙◌, ◌≡◌, ◌≢◌}
 use Rattle.mk_jobs.{specs.Keeping.{Waits, World}, proofs.Having.{own_stays, own_waits, points_stay}}
 use Rattle.mk_jobs.proofs.{Clients.OwnStays, Having.{root_stays, HasOwn, IsSame, PointsTo, founder_waits, not_null}}
 use Rattle.mk_queue.{specs.{declared.jobs.Done.Done, declared.points.Point.Point}, proofs.Invariant.{Rely}}

@@ -1,5 +1,5 @@
 -- A push ends as a push may, and a pop as a pop. The heap of a stack is within the limits.
-use Rattle.mk_laws.proofs.Vocabulary.{Bool, IsWithinLimits, Op, arith, false, sym, true, ℕ, ◌≡◌, ◌≢◌, ◌≤◌}
+use Rattle.mk_heap.proofs.Below.Laws.Vocabulary.{Bool, IsWithinLimits, Op, arith, false, sym, true, ℕ, ◌≡◌, ◌≢◌, ◌≤◌}
 use Rattle.mk_core.specs.Moments.{IsBetween}
 use Rattle.mk_never.specs.declared.operations.Reply.{Reply}
 use Rattle.mk_jobs.specs.{Jobs.Asks, declared.steps.Step.Step}

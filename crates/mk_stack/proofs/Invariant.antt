@@ -1,6 +1,7 @@
 -- What holds of a stack, and of each caller at its point, at every place of an interleaving.
-use Rattle.mk_laws.proofs.Vocabulary.{List, None, Null, Option, Some, Value, get_or, number_of, register_at, ℕ, [], ◌≡◌}
-use Rattle.mk_laws.proofs.Vocabulary.{◌⊎◌}
+use Rattle.mk_heap.proofs.Below.Laws.Vocabulary.{List, None, Null, Option, Some, Value, get_or, number_of, register_at}
+use Rattle.mk_heap.proofs.Below.Laws.Vocabulary.{ℕ, [], ◌≡◌}
+use Rattle.mk_heap.proofs.Below.Laws.Vocabulary.{◌⊎◌}
 use Rattle.mk_jobs.{specs.Keeping.{World}, proofs.Rows.{HasRow}}
 use Rattle.mk_jobs.proofs.{Having.{HasOwn, HasRoot, HasWord, IsFounder, PointsTo, Relies}, Roots.{IsChecked, IsShared}}
 use Rattle.mk_stack.specs.{declared.jobs.Done.Done, declared.jobs.Job.Job, declared.points.Point.Point}

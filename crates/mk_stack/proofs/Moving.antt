@@ -1,6 +1,7 @@
 -- Each operation of a stack's jobs.
-use Rattle.mk_laws.proofs.Vocabulary.{Bool, Kind, List, None, Option, Some, Value, ap, arith, cond, eq-eqb, false≢true}
-use Rattle.mk_laws.proofs.Vocabulary.{inl, inr, number_of, refl, subst, sym, word_at, ℕ, [], ◌∙◌, ◌∷◌, ◌≡◌}
+use Rattle.mk_heap.proofs.Below.Laws.Vocabulary.{Bool, Kind, List, None, Option, Some, Value, ap, arith, cond, eq-eqb}
+use Rattle.mk_heap.proofs.Below.Laws.Vocabulary.{false≢true}
+use Rattle.mk_heap.proofs.Below.Laws.Vocabulary.{inl, inr, number_of, refl, subst, sym, word_at, ℕ, [], ◌∙◌, ◌∷◌, ◌≡◌}
 use Rattle.mk_jobs.{specs.Keeping.{Public, Taken, World}, proofs.Rows.{points_first, row_popped, row_pushed}}
 use Rattle.mk_jobs.proofs.Clients.{Client, MovesAt, by_exchange, by_freeing, by_load, by_load_number, by_new, by_null}
 use Rattle.mk_jobs.proofs.Clients.{by_store, by_store_global, by_store_number, decides_so, leads, takes_public}

@@ -1,5 +1,5 @@
 -- What a caller has stays so after an operation on which it may rely.
-use Rattle.mk_laws.proofs.Vocabulary.{List, Option, arith, inl, inr, refl, subst, sym, ℕ, ◌<◌, ◌∙◌, ◌≢◌}
+use Rattle.mk_heap.proofs.Below.Laws.Vocabulary.{List, Option, arith, inl, inr, refl, subst, sym, ℕ, ◌<◌, ◌∙◌, ◌≢◌}
 use Rattle.mk_jobs.specs.Keeping.{Covers, Waits, World}
 use Rattle.mk_jobs.proofs.{Clients.OwnStays, Relying.relies_covered, Roots.shared_covered, Rows.row_covered}
 use Rattle.mk_jobs.proofs.Having.{IsSame, founder_waits, own_stays, own_waits, points_stay, root_stays, word_stays}

@@ -1,4 +1,4 @@
-use Rattle.mk_laws.proofs.Vocabulary.{Caller, Config, ap, arith, length, refl, subst, sym, ◌<◌, ◌∙◌}
+use Rattle.mk_run.proofs.Below.Laws.Vocabulary.{Caller, Config, ap, arith, length, refl, subst, sym, ◌<◌, ◌∙◌}
 use Rattle.mk_heap_tests.proofs.JoinedHosts.{caller_is_home, first_split, still_unused, unused}
 use Rattle.mk_heap_tests.proofs.LateMarkers.{host_after_splits}
 use Rattle.mk_run.proofs.Below.Words.Seats.{without_keeps}

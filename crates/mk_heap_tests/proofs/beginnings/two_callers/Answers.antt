@@ -1,4 +1,4 @@
-use Rattle.mk_laws.proofs.Vocabulary.{Config, ap, length, subst, sym, ◌<◌, ◌∙◌}
+use Rattle.mk_run.proofs.Below.Laws.Vocabulary.{Config, ap, length, subst, sym, ◌<◌, ◌∙◌}
 use Rattle.mk_heap_tests.proofs.JoinedHosts.{first_of, second_of}
 use Rattle.mk_heap_tests.proofs.beginnings.two_callers.Goals as goal
 

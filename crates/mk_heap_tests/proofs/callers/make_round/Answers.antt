@@ -2,7 +2,7 @@ use Rattle.mk_heap_tests.proofs.{Vocabulary.HoldsNull, NullCalls.{may_compare, m
 use Rattle.mk_heap_tests.proofs.NullCalls.{stays_answered, stays_done, stays_read, stays_said, stays_then}
 use Rattle.mk_heap_tests.proofs.callers.make_round.Goals.{After-get_global-loaded, After-move_ptr-moved}
 use Rattle.mk_heap_tests.proofs.callers.make_round.Goals.{After-same-same, After-set_global-stored}
-use Rattle.mk_laws.proofs.Vocabulary.{Answer, Op, arith}
+use Rattle.mk_run.proofs.Below.Laws.Vocabulary.{Answer, Op, arith}
 use Rattle.mk_heap_tests.specs.HeldObjects.{StaysNull}
 use Rattle.mk_heap_tests.proofs.callers.make_round.Goals as goal
 

@@ -1,4 +1,4 @@
-use Rattle.mk_laws.proofs.Vocabulary.{true, ◌≡◌}
+use Rattle.mk_run.proofs.Below.Laws.Vocabulary.{true, ◌≡◌}
 use Rattle.mk_heap_tests.specs.HeldObjects.{StaysNull}
 use Rattle.mk_heap_tests.proofs.callers.make_rounds.Given as goal
 

@@ -1,4 +1,4 @@
-use Rattle.mk_laws.proofs.Vocabulary.{arith}
+use Rattle.mk_run.proofs.Below.Laws.Vocabulary.{arith}
 use Rattle.mk_run.proofs.Below.Heaps.ClientSteps.{may_clear}
 use Rattle.mk_heap_tests.proofs.gates.clear.Goals as goal
 

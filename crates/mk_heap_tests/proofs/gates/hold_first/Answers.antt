@@ -1,4 +1,4 @@
-use Rattle.mk_laws.proofs.Vocabulary.{Host, Seat, ap, arith, is_number_of, subst, sym, ◌<◌, ◌∙◌, ◌≡◌}
+use Rattle.mk_run.proofs.Below.Laws.Vocabulary.{Host, Seat, ap, arith, is_number_of, subst, sym, ◌<◌, ◌∙◌, ◌≡◌}
 use Rattle.mk_heap_tests.proofs.Vocabulary.{PassState, WordsState}
 use Rattle.mk_run.proofs.{Below.Cycles.HoldingSteps.hold_allowed, Below.Heaps.ClientSteps.pass_of_later}
 use Rattle.mk_run.proofs.Below.Heaps.Overs.{fresh_free}

@@ -1,4 +1,4 @@
-use Rattle.mk_laws.proofs.Vocabulary.{arith, subst, sym}
+use Rattle.mk_run.proofs.Below.Laws.Vocabulary.{arith, subst, sym}
 use Rattle.mk_heap_tests.proofs.{Vocabulary.PassState, HeldObjects.may_at_first, LateMarkers.attends_not}
 use Rattle.mk_run.specs.Below.Markers.Markers.{IsOut}
 use Rattle.mk_heap_tests.proofs.late_markers.come_to_a_cycle.Goals as goal

@@ -1,4 +1,4 @@
-use Rattle.mk_laws.proofs.Vocabulary.{arith}
+use Rattle.mk_run.proofs.Below.Laws.Vocabulary.{arith}
 use Rattle.mk_heap_tests.proofs.{JoinedHosts.callers_are_joined, LateMarkers.joined_one, LateMarkers.only_seat}
 use Rattle.mk_heap_tests.proofs.late_markers.come_when_over.Goals as goal
 

@@ -1,4 +1,4 @@
-use Rattle.mk_laws.proofs.Vocabulary.{ap}
+use Rattle.mk_run.proofs.Below.Laws.Vocabulary.{ap}
 use Rattle.mk_heap_tests.proofs.{Vocabulary.PassState, JoinedHosts.{caller_is_home, first_split, still_unused, unused}}
 use Rattle.mk_heap_tests.proofs.LateMarkers.{host_after_splits, marker_is_home, marker_is_outside, marker_split}
 use Rattle.mk_heap_tests.proofs.late_markers.split_for_one.Goals as goal

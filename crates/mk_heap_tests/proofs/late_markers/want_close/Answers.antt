@@ -1,4 +1,4 @@
-use Rattle.mk_laws.proofs.Vocabulary.{is_held, sym, true, ◌∙◌, ◌≡◌}
+use Rattle.mk_run.proofs.Below.Laws.Vocabulary.{is_held, sym, true, ◌∙◌, ◌≡◌}
 use Rattle.mk_heap_tests.proofs.{Vocabulary.now_of, LateMarkers.{HasHeld, all_held, may_hold, may_want, on_ok}}
 use Rattle.mk_heap_tests.proofs.{LateMarkers.stop_table, late_markers.want_close.Goals.Else-is_err}
 use Rattle.mk_heap_tests.proofs.late_markers.want_close.Goals as goal

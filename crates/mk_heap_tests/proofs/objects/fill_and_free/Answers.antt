@@ -1,4 +1,4 @@
-use Rattle.mk_laws.proofs.Vocabulary.{arith}
+use Rattle.mk_run.proofs.Below.Laws.Vocabulary.{arith}
 use Rattle.mk_heap_tests.proofs.HeldObjects.{both_then, first_on, goes_on_then, second_on}
 use Rattle.mk_heap_tests.proofs.objects.fill_and_free.Goals as goal
 

@@ -1,6 +1,6 @@
 use Rattle.mk_heap_tests.proofs.{Vocabulary.BothMayAllocate, HeldObjects.{both_may, first_on, pass_of_objects}}
 use Rattle.mk_heap_tests.proofs.retiring.fill_and_retire.Goals.{After-new-other}
-use Rattle.mk_laws.proofs.Vocabulary.{arith}
+use Rattle.mk_run.proofs.Below.Laws.Vocabulary.{arith}
 use Rattle.mk_heap_tests.proofs.retiring.fill_and_retire.Goals as goal
 
 may : (g : _) (c : After-new-other g)

@@ -1,4 +1,4 @@
-use Rattle.mk_laws.proofs.Vocabulary.{subst}
+use Rattle.mk_run.proofs.Below.Laws.Vocabulary.{subst}
 use Rattle.mk_heap_tests.proofs.NewTurns.{double_back, double_may_give, freed_back, freed_may_give, is_unloaded}
 use Rattle.mk_heap_tests.proofs.NewTurns.{may_retire, phase, taken_table}
 use Rattle.mk_run.specs.Below.Objects.Retiring.{Retires}

@@ -1,4 +1,4 @@
-use Rattle.mk_laws.proofs.Vocabulary.{arith}
+use Rattle.mk_run.proofs.Below.Laws.Vocabulary.{arith}
 use Rattle.mk_heap_tests.proofs.{JoinedHosts.first_for, LateMarkers.host_may, NewTurns.may_free}
 use Rattle.mk_heap_tests.proofs.turns.holders.Goals as goal
 

@@ -1,4 +1,4 @@
-use Rattle.mk_laws.proofs.Vocabulary.{Flight, ap, false, refl}
+use Rattle.mk_run.proofs.Below.Laws.Vocabulary.{Flight, ap, false, refl}
 use Rattle.mk_run.proofs.Below.Objects.Going.{give_allowed}
 use Rattle.mk_heap_tests.proofs.NewTurns.{may_make, passed_back, placed_table, seeks, taken_table, unplaced}
 use Rattle.mk_heap_tests.proofs.turns.place.Goals as goal
