@@ -1,8 +1,8 @@
 -- The texts of the scripts, one after the other, are all that a run prints.
 use Rattle.std.proofs.Common.{ap₂}
 use Rattle.std.specs.List.{flat_map, range_with_len}
-use Rattle.mk_laws.proofs.Vocabulary.{Config, Event, List, ℕ, ap, arith, false, if◌then◌else◌, length, refl}
-use Rattle.mk_laws.proofs.Vocabulary.{slice_index_or, suc, true, [], ◌++◌, ◌+◌, ◌<◌, ◌∙◌, ◌∷◌, ◌≡◌}
+use Rattle.mk_run.proofs.Below.Laws.Vocabulary.{Config, Event, List, ℕ, ap, arith, false, if◌then◌else◌, length, refl}
+use Rattle.mk_run.proofs.Below.Laws.Vocabulary.{slice_index_or, suc, true, [], ◌++◌, ◌+◌, ◌<◌, ◌∙◌, ◌∷◌, ◌≡◌}
 use Rattle.mk_check.specs.{Declarations.config_of, Feed.{output, text_behind}, declared.text.Text.Text}
 use Rattle.mk_run.specs.Below.{Cycles.Beside.CyclesMarkRootsFirst, Heaps.Hosts.{HasCounts, MarkersAreBelow}}
 use Rattle.mk_run.specs.Below.Cycles.BeginCycle.{CyclesHoldGatesFirst}

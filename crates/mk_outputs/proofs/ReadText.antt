@@ -4,7 +4,7 @@ use Rattle.mk_outputs.proofs.Vocabulary.{declarations, lines_of_scripts, next_st
 use Rattle.mk_outputs.proofs.{Vocabulary.{turns_of, [], ◌++◌, ◌<◌, ◌^◌, ◌≡◌, ◌≤◌}, ReadLines.{AreRead, AreRead-append}}
 use Rattle.mk_outputs.proofs.{ReadLines.program_of-lines, ReadDeclarations.declarations_are_read}
 use Rattle.mk_outputs.proofs.ReadScripts.{draw-lt, scripts_are_read}
-use Rattle.mk_outputs.specs.Generated.{generated_program, generated_lines, generated_text}
+use Rattle.mk_outputs.specs.Generated.{generated_program, generated_text}
 use Rattle.mk_script.specs.Grammar.{at_end}
 
 pub numbers_some : (start : ℕ) → 1 ≤ count_of_numbers start
@@ -34,7 +34,7 @@ pub program_of-generated_text : (start count : ℕ) → count ≤ 3000000
     → program_of (generated_text start count) ≡ Ok (generated_program start count)
 unfolding generated_program generated_text lines items
 program_of-generated_text start count most =
-    program_of-lines (generated_lines start count) (generated_program start count)
-    (lines_are_read (turns_of count) (count_of_numbers start) (next_state start) (omega (arith, most))
-    (numbers_some start) (omega (arith, draw-lt (next_state start) 100 (omega arith))))
+    program_of-lines (lines (turns_of count) (count_of_numbers start) (next_state start))
+    (generated_program start count) (lines_are_read (turns_of count) (count_of_numbers start) (next_state start)
+    (omega (arith, most)) (numbers_some start) (omega (arith, draw-lt (next_state start) 100 (omega arith))))
     (ends (turns_of count) (count_of_numbers start) (next_state start)) refl refl

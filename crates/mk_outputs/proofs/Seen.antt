@@ -5,7 +5,7 @@ use Rattle.std.proofs.{Common.if◌then◌else◌, lemmas.List.Sums.sum_by-cons}
 use Rattle.std.specs.{List.{flat_map, range_with_len}, Prelude.Ok as Accepted}
 use Rattle.mk_core.specs.declared.{config.Config.Config, events.{Answer.Answer, Event.Event}}
 use Rattle.mk_script.specs.{Grammar.program_of, Scopes.script_names, declared.items.Item.Item}
-use Rattle.mk_check.specs.{Declarations.config_of, Feed.{is_refusal, answers_given, output}}
+use Rattle.mk_check.specs.{Declarations.config_of, Feed.{answers_given, output}}
 use Rattle.mk_check.specs.{Observed.told_to, Typing.{IsWellTyped, TypingFault, first_typing_fault}}
 use Rattle.mk_run.specs.Below.Heaps.{Hosts.history_of, declared.reports.Report.Report}
 use Rattle.mk_run.specs.Headline.{TellsAsMuch}
@@ -13,7 +13,7 @@ use Rattle.mk_run.specs.Below.Chains.declared.kept.Kept.{Kept}
 use Rattle.mk_run.proofs.ObservedRuns.{runs_can_be_observed}
 use Rattle.mk_outputs.specs.declared.{commands.{Command.Command, Options.Options}, outputs.Output.Output}
 use Rattle.mk_outputs.specs.declared.{commands.TextCommand.TextCommand, statuses.Status.Status}
-use Rattle.mk_outputs.specs.{Commands.{is_sweep, markers_beside}, RunOutputs.kept_text, Laws.OutputsAreSeen}
+use Rattle.mk_outputs.specs.{Commands.{is_sweep, markers_beside}, RunOutputs.kept_text, Outputs.IsOutputOfCommand}
 use Rattle.mk_outputs.specs.{Generated.generated_program, Outputs.{IsOutput, typed_or}}
 use Rattle.mk_outputs.specs.declared.commands.Request.{Request}
 use Rattle.mk_io.specs.Bytes.{TakesAll}
@@ -114,7 +114,8 @@ of_summary : (program : List Item) (markers : ℕ) (report : Option Report) (byt
 of_summary program markers None bytes h = absurd h
 of_summary program markers (Some r) bytes h = sums_up program markers (history_of r) bytes h
 
-pub outputs_are_seen : OutputsAreSeen
+pub outputs_are_seen : (command : Command) (old new : Option (List ℕ)) (output : Output)
+    → IsOutputOfCommand command old new output → IsSeen command old output.bytes.items
 outputs_are_seen (Command.OnText (TextCommand.Run options)) old new output h =
     let on = h.is_output in
     record {

@@ -2,10 +2,10 @@
 use Rattle.std.proofs.{Common.{codes, count_by, slice_get, sum_by}, lemmas.{Fmt.decimal_digit, List.drop_all}}
 use Rattle.std.proofs.lemmas.{List.Sums.sum_by-cons, Option.slice_get_within}
 use Rattle.std.specs.{Fmt.decimal, List.{flat_map, range_with_len}}
-use Rattle.mk_laws.proofs.Vocabulary.{Answer, Config, Event, List, Some, ℕ, ap, append-nil, append_assoc, arith, drop}
-use Rattle.mk_laws.proofs.Vocabulary.{false, false≢true, get_or, length, refl, slice_index_or, suc, sym, true, [], ◌++◌}
-use Rattle.mk_laws.proofs.Vocabulary.{◌+◌, ◌<◌}
-use Rattle.mk_laws.proofs.Vocabulary.{◌∙◌, ◌∷◌, ◌≡◌, ◌≤◌}
+use Rattle.mk_run.proofs.Below.Laws.Vocabulary.{Answer, Config, Event, List, Some, ℕ, ap, append-nil, append_assoc, arith, drop}
+use Rattle.mk_run.proofs.Below.Laws.Vocabulary.{false, false≢true, get_or, length, refl, slice_index_or, suc, sym, true, [], ◌++◌}
+use Rattle.mk_run.proofs.Below.Laws.Vocabulary.{◌+◌, ◌<◌}
+use Rattle.mk_run.proofs.Below.Laws.Vocabulary.{◌∙◌, ◌∷◌, ◌≡◌, ◌≤◌}
 use Rattle.mk_check.specs.{Declarations.config_of, Laws.IsScript, declared.text.Text.Text}
 use Rattle.mk_check.specs.Feed.{is_refusal, answers_given}
 use Rattle.mk_run.specs.Below.Cycles.{BeginCycle.CyclesHoldGatesFirst, Beside.CyclesMarkRootsFirst}
@@ -18,9 +18,13 @@ use Rattle.mk_outputs.proofs.GeneratedLaws.{generated_declares_nodes, generated_
 use Rattle.mk_outputs.specs.Generated.{all_names, generated_program}
 use Rattle.mk_run.proofs.Headline.{all_given, ends_of_run, none_is_left, noted_of_run}
 use Rattle.mk_run.proofs.Headline.{runs_keep_their_promises, runs_stand_in_one_history}
-use Rattle.mk_outputs.specs.RunOutputs.{AreFew, all_ops, line_of_text, lines_from, summary_of_texts}
+use Rattle.mk_outputs.specs.RunOutputs.{AreFew, line_of_text, lines_from, summary_of_texts}
 use Rattle.mk_outputs.specs.RunOutputs.{IsSummaryOfRun, line_of_script, summary}
 use Rattle.mk_script.{proofs.Spacing.drop_next, specs.{Scopes.script_names, declared.items.Item.Item}}
+
+-- the operations of all scripts
+abbrev pub all_ops : List Text → ℕ
+all_ops texts = sum_by (λ (text : Text). text.ops) texts
 
 -- Lines and sums, place by place.
 

@@ -6,7 +6,10 @@ use Rattle.mk_outputs.proofs.{Vocabulary.{◌≡◌, ◌≤◌}, ReadScripts.dra
 use Rattle.mk_outputs.proofs.{TypedBody.body_is_typed, TypedLines.{go_on, typed_then}}
 use Rattle.mk_outputs.specs.Generated.{generated_program}
 use Rattle.mk_check.specs.{Blocks.before_next_script, Typing.Around, Typing.IsWellTyped, Typing.fault_from}
-use Rattle.mk_check.{proofs.Among.{offsets_fault, pointers_fault}, specs.Typing.{length_fault, typing_fault}}
+use Rattle.mk_check.specs.Typing.{◌or◌, inside_fault, length_fault, type_fault, typing_fault, words_fault}
+use Rattle.mk_check.specs.declared.typing_faults.TypeKind.{TypeKind}
+use Rattle.mk_script.specs.declared.items.{At.At}
+use Rattle.std.specs.Prelude.{Option, Some}
 
 none_before_scripts : (turns numbers x : ℕ) (names : List (List ℕ))
     → before_next_script (scripts turns numbers x names) ≡ []
@@ -41,17 +44,22 @@ module _ (turns numbers : ℕ) (rest : List Item) (few : turns ≤ 62500) (some 
       (body_is_typed numbers turns number place rest (draw-lt behind numbers some))
       (λ later. scripts_are_typed names behind later ((before ++ Script name ∷ []) ++ script_body turns number place)))
 
-numbers_have_types : (a : Around) (count : ℕ) → pointers_fault a (replicate count Number) ≡ None
-numbers_have_types a zero = refl
-numbers_have_types a (suc more) = numbers_have_types a more
+no_numbers_fault : (fault : At → Option TypeKind) (count : ℕ) → words_fault fault (replicate count Number) ≡ None
+no_numbers_fault fault zero = refl
+no_numbers_fault fault (suc more) = no_numbers_fault fault more
 
-numbers_are_inside : (a : Around) (count : ℕ) → offsets_fault a (replicate count Number) ≡ None
-numbers_are_inside a zero = refl
-numbers_are_inside a (suc more) = numbers_are_inside a more
+-- a type of numbers alone
+numbers_are_typed : (a : Around) (count : ℕ) → words_fault (λ at. type_fault a at.name) (replicate count Number)
+    or words_fault (λ at. inside_fault a (Some at)) (replicate count Number) ≡ None
+numbers_are_typed a count =
+    rw (no_numbers_fault (λ at. type_fault a at.name) count, no_numbers_fault (λ at. inside_fault a (Some at)) count)
+    refl
 
 declarations_are_typed : (numbers : ℕ) (rest : List Item) → fault_from (declarations numbers ++ rest) 5
     (declarations numbers) rest ≡ None → IsWellTyped (declarations numbers ++ rest)
-declarations_are_typed numbers rest none = rw (numbers_have_types _ numbers, numbers_are_inside _ numbers) none
+declarations_are_typed numbers rest none =
+    let around : Around = record { program = declarations numbers ++ rest; script = [] } in
+    go_on 3 _ _ (numbers_are_typed around numbers) none
 
 pub generated_is_well_typed : (start count : ℕ) → count ≤ 3000000 → IsWellTyped (generated_program start count)
 unfolding generated_program program

@@ -2,9 +2,9 @@
 use Rattle.std.specs.Prelude.{ℕ, Bool, true, false, ◌<◌, ◌≤◌, ◌||◌, nat_lt, nat_le, List, [], ◌∷◌, Option, Some, None}
 use Rattle.std.specs.{Prelude.{option_and_then, option_map, if◌then◌else◌}, Str.bytes_eq}
 use Rattle.mk_script.specs.Operands.{number_of_word}
-use Rattle.mk_outputs.specs.declared.commands.Command.{Command, TheVariants.{OnText, Gen}}
-use Rattle.mk_outputs.specs.declared.commands.Marking.{Marking, TheVariants.{Stop, Beside}}
-use Rattle.mk_outputs.specs.declared.commands.{Marking.TheVariants.Sweep, TextCommand.TextCommand}
+use Rattle.mk_outputs.specs.{declared.commands.Command.Command, declared.commands.Command.TheVariants.{OnText, Gen}}
+use Rattle.mk_outputs.specs.{declared.commands.Marking.Marking, declared.commands.Marking.TheVariants.{Stop, Beside}}
+use Rattle.mk_outputs.specs.{declared.commands.Marking.TheVariants.Sweep, declared.commands.TextCommand.TextCommand}
 use Rattle.mk_outputs.specs.declared.commands.TextCommand.TheVariants.{Run, Check, Print, Replay, Trace}
 use Rattle.mk_outputs.specs.Given.{Given, Numbers, no_number, one_number, two_numbers, runs, gens, bare, given_by}
 use lib.Chars.{codes}
@@ -59,19 +59,15 @@ abbrev pub gen_of : Given → Option Command
 gen_of g = gen_from (markers_of g.markers) (option_and_then number_of_word (start_of g.numbers))
     (option_and_then number_of_word (count_of g.numbers))
 
--- a command that takes no option and no further word
-abbrev pub alone_of : TextCommand → Given → Option Command
-alone_of command g = Some (OnText command)
-
 -- the command of this name, with what the words after it give
 abbrev pub command_named : List ℕ → List (List ℕ) → Option Command
 command_named name words =
     if bytes_eq name (codes "run") then option_and_then run_of (given_by runs words)
-    else if bytes_eq name (codes "check") then option_and_then (alone_of Check) (given_by bare words)
-    else if bytes_eq name (codes "print") then option_and_then (alone_of Print) (given_by bare words)
-    else if bytes_eq name (codes "replay") then option_and_then (alone_of Replay) (given_by bare words)
+    else if bytes_eq name (codes "check") then option_and_then (λ _. Some (OnText Check)) (given_by bare words)
+    else if bytes_eq name (codes "print") then option_and_then (λ _. Some (OnText Print)) (given_by bare words)
+    else if bytes_eq name (codes "replay") then option_and_then (λ _. Some (OnText Replay)) (given_by bare words)
     else if bytes_eq name (codes "gen") then option_and_then gen_of (given_by gens words)
-    else if bytes_eq name (codes "trace") then option_and_then (alone_of Trace) (given_by bare words)
+    else if bytes_eq name (codes "trace") then option_and_then (λ _. Some (OnText Trace)) (given_by bare words)
     else None
 
 -- how many markers there are

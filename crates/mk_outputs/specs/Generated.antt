@@ -1,6 +1,6 @@
 -- The programs of the generator, line by line, the draws that they are made of, and their texts.
 use Rattle.std.specs.{Prelude.{ℕ, ◌+◌, ◌*◌, ◌/◌, ◌%◌, ◌^◌, List, [], ◌∷◌, ◌++◌, replicate}, Fmt.decimal}
-use Rattle.mk_script.specs.declared.items.{TypeWord.TheVariants.{Number, Pointer}, Item.Item}
+use Rattle.mk_script.specs.{declared.items.TypeWord.TheVariants.{Number, Pointer}, declared.items.Item.Item}
 use Rattle.mk_script.specs.declared.items.Item.TheVariants.{Heap, TypeLine, Global, Script, Ptr, Num, New, Free, Getn}
 use Rattle.mk_script.specs.declared.items.Item.TheVariants.{Setn, Setp, Clear, Loadg, Storeg, Const, Repeat, End}
 use Rattle.mk_check.specs.Typing.{base_of}
@@ -136,12 +136,6 @@ lines_of_scripts turns numbers x (name ∷ names) =
     ((codes "script " ++ name) ∷ body_lines turns (draw (next_state x) 1000) (draw (next_state (next_state x)) numbers))
     ++ lines_of_scripts turns numbers (next_state (next_state x)) names
 
--- the lines of the generated text
-abbrev pub generated_lines : ℕ → ℕ → List (List ℕ)
-generated_lines start count =
-    declaration_lines (count_of_numbers start)
-    ++ lines_of_scripts (turns_of count) (count_of_numbers start) (next_state start) all_names
-
 -- the lines, each with its newline
 abbrev pub text_of_lines : List (List ℕ) → List ℕ
 text_of_lines [] = []
@@ -149,4 +143,5 @@ text_of_lines (line ∷ lines) = line ++ (codes "\n" ++ text_of_lines lines)
 
 -- the text
 unfoldable pub generated_text : ℕ → ℕ → List ℕ
-generated_text start count = text_of_lines (generated_lines start count)
+generated_text start count = text_of_lines (declaration_lines (count_of_numbers start)
+    ++ lines_of_scripts (turns_of count) (count_of_numbers start) (next_state start) all_names)

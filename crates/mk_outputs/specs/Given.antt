@@ -1,6 +1,6 @@
 -- The words after a command's name, by what the command takes.
 use Rattle.std.specs.Prelude.{ℕ, Bool, true, false, List, [], ◌∷◌, ◌==◌, if◌then◌else◌, slice_get, Option, Some, None}
-use Rattle.std.specs.{Prelude.{is_some, option_and_then, option_map}, Str.{bytes_eq, chars}}
+use Rattle.std.specs.{Prelude.{is_some, option_and_then, option_map}, Option.option_map_or, Str.{bytes_eq, chars}}
 use lib.Chars.{codes}
 
 -- what a command takes: options, numbers, or nothing
@@ -44,11 +44,6 @@ abbrev pub said_dashed : Option (List ℕ) → Said
 said_dashed None = plain
 said_dashed (Some rest) = if is_some (slice_get (chars rest) 0) then unknown else plain
 
--- what a word that is no flag says
-abbrev pub said_other : Option (List ℕ) → List ℕ → Said
-said_other (Some digits) word = markers_said (Some digits)
-said_other None word = said_dashed (behind (codes "-") word)
-
 -- what a word says
 abbrev pub said : List ℕ → Said
 said word =
@@ -57,7 +52,8 @@ said word =
     else if bytes_eq word (codes "--sweep") then flag_said sweep_flag
     else if bytes_eq word (codes "--why") then flag_said why_flag
     else if bytes_eq word (codes "--report") then flag_said report_flag
-    else said_other (behind (codes "--markers=") word) word
+    else option_map_or (λ digits. markers_said (Some digits)) (behind (codes "--markers=") word)
+    (said_dashed (behind (codes "-") word))
 
 -- the words that are no options
 pub data Numbers : Type 0 where
@@ -118,10 +114,6 @@ set_flag sweep_flag g = record g { sweep = true }
 set_flag why_flag g = record g { why = true }
 set_flag report_flag g = record g { report = true }
 
--- the flag is given, once
-abbrev pub with_flag : Flag → Given → Option Given
-with_flag flag g = if has_flag flag g then None else Some (set_flag flag g)
-
 -- a number is given
 abbrev pub with_number : Form → Given → List ℕ → Option Given
 with_number gens g word = option_map (λ numbers. record g { numbers = numbers }) (more_numbers g.numbers word)
@@ -131,7 +123,8 @@ with_number _ g word = None
 abbrev pub given_said : Form → Said → List ℕ → Given → Option Given
 given_said form ends word g = Some (record g { ended = true })
 given_said form (markers_said v) word g = if takes_markers form then markers_by v g else None
-given_said form (flag_said flag) word g = if takes_flags form then with_flag flag g else None
+given_said form (flag_said flag) word g =
+    if takes_flags form then (if has_flag flag g then None else Some (set_flag flag g)) else None
 given_said form unknown word g = None
 given_said form plain word g = with_number form g word
 

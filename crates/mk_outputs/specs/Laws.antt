@@ -6,10 +6,9 @@ use Rattle.mk_core.specs.declared.events.Answer.{Answer}
 use Rattle.mk_script.specs.{declared.items.Item.Item, Grammar.program_of, Scopes.script_names}
 use Rattle.mk_check.specs.{Observed.{ObservedRun, told_to}, Typing.IsWellTyped, Blocks.{script_of, script_length}}
 use Rattle.mk_check.specs.{Declarations.{pages_of, resident_of, types_of, globals_of}, Feed.{feed, has_ended}}
-use Rattle.mk_outputs.specs.declared.commands.Command.{Command, TheVariants.{OnText, Gen}}
-use Rattle.mk_outputs.specs.declared.commands.{Options.Options, TextCommand.TheVariants.Run}
+use Rattle.mk_outputs.specs.{declared.commands.Command.Command, declared.commands.Command.TheVariants.{OnText, Gen}}
+use Rattle.mk_outputs.specs.{declared.commands.Options.Options, declared.commands.TextCommand.TheVariants.Run}
 use Rattle.mk_outputs.specs.{Commands.command_of, Generated.{generated_program, all_names}, RunOutputs.summary_by}
-use Rattle.mk_outputs.specs.{declared.outputs.Output.Output, Outputs.IsOutputOfCommand}
 
 -- What is written of a run, by what can be observed of it: the calls of its scripts, and what they print where a heap
 -- that never reuses storage replies to them.
@@ -48,12 +47,6 @@ pub record HasSeen (words : List (List ℕ)) (left : Option (List ℕ)) (W : Lis
   pub named : command_of words ≡ Some command
   pub is_seen : IsSeen command left bytes
   pub written : W bytes
-
--- What a command writes on what the source had left is seen.
-abbrev pub OutputsAreSeen : Type 0
-OutputsAreSeen =
-    (command : Command) (old new : Option (List ℕ)) (output : Output)
-    → IsOutputOfCommand command old new output → IsSeen command old output.bytes.items
 
 -- A heap of 256 pages, all of which may be resident; a type of a number and a link to its like, and one of this many
 -- numbers; a global for the first; and the scripts.

@@ -1,25 +1,24 @@
 -- What a command writes, and the status that it ends with where nothing fails.
-use Rattle.std.specs.{declared.result.Result.Result, Prelude.{◌≡◌, ◌⊎◌, ℕ, List, [], Option, Some, None, IfSome}}
-use Rattle.std.specs.Prelude.{IsSomeAnd, Ok as Accepted, Err as Refused}
+use Rattle.std.specs.{declared.result.Result.Result, Prelude.{◌≡◌, ◌⊎◌, ℕ, List, Option, Some, None, IsSomeAnd}}
+use Rattle.std.specs.Prelude.{Ok as Accepted, Err as Refused}
 use Rattle.mk_core.specs.{declared.events.Event.Event, History.AreEnabled}
-use Rattle.mk_laws.specs.Promises.{KeepsAllPromises}
-use Rattle.mk_io.specs.declared.reading.ReadStop.{ReadStop}
-use Rattle.mk_script.specs.declared.{faults.Which.TheVariants.Bytes, items.Item.Item}
+use Rattle.mk_run.specs.Below.Laws.Promises.{KeepsAllPromises}
+use Rattle.mk_io.specs.{Bytes.TakesAll, declared.reading.ReadStop.ReadStop}
+use Rattle.mk_script.specs.{declared.faults.Which.TheVariants.Bytes, declared.items.Item.Item}
 use Rattle.mk_script.specs.{declared.faults.TextStop.TextStop, Grammar.program_of, Canonical.canonical_text}
 use Rattle.mk_check.specs.{declared.typing_faults.TypeStop.TypeStop, Typing.{TypingFault, first_typing_fault}}
 use Rattle.mk_check.specs.{Declarations.config_of, Feed.output as output_behind}
 use Rattle.mk_outputs.specs.{declared.commands.Command.Command, Generated.generated_program}
 use Rattle.mk_outputs.specs.declared.commands.TextCommand.{TextCommand}
 use Rattle.mk_outputs.specs.declared.commands.TextCommand.TheVariants.{Run, Check, Print, Replay, Trace}
-use Rattle.mk_outputs.specs.{declared.{commands.Request.Request, outputs.Output.Output}, Commands.command_of}
-use Rattle.mk_outputs.specs.declared.statuses.Status.{Status, TheVariants.{Ok, NoMemory}}
+use Rattle.mk_outputs.specs.{declared.commands.Request.Request, declared.outputs.Output.Output, Commands.command_of}
+use Rattle.mk_outputs.specs.{declared.statuses.Status.Status, declared.statuses.Status.TheVariants.{Ok, NoMemory}}
 use Rattle.mk_outputs.specs.declared.statuses.Status.TheVariants.{ReadFault, Text, IllTyped, Limit, NotEnabled}
 use Rattle.mk_outputs.specs.RunOutputs.{IsOutputOfRun, IsSummaryOfRun}
-use Rattle.mk_replay.specs.declared.{schedule.Entry.Entry, replaying.ReplayStop.ReplayStop}
+use Rattle.mk_replay.specs.{declared.schedule.Entry.Entry, declared.replaying.ReplayStop.ReplayStop}
 use Rattle.mk_replay.specs.{Schedules.replay_of, Replays.{history_of, refusal_of}}
-use Rattle.mk_trace.specs.declared.{faults.TraceStop.TraceStop, peaks.Peaks.Peaks}
-use Rattle.mk_trace.specs.Grammar.{Contents, trace_of}
-use Rattle.mk_trace.specs.{Playing.{IsPlayed, ArePeaks}, Peaks.peaks_text}
+use Rattle.mk_trace.specs.{declared.faults.TraceStop.TraceStop, declared.peaks.Peaks.Peaks}
+use Rattle.mk_trace.specs.{Grammar.{Contents, trace_of}, Playing.{IsPlayed, ArePeaks}, Peaks.peaks_text}
 use Rattle.mk_run.specs.Below.Heaps.Hosts.{history_of as history_of_report}
 use lib.Chars.{codes}
 
@@ -45,10 +44,10 @@ status_of_text_stop (TextStop.Text line kind) = Text line kind
 status_of_text_stop (TextStop.Limit line which found) = Limit line which found
 status_of_text_stop TextStop.NoMemory = NoMemory
 
--- the status of a command on a text
-abbrev pub status_of_text : TextCommand → Result (List Item) TextStop → Status
-status_of_text command (Accepted program) = status_of_program command program
-status_of_text command (Refused stop) = status_of_text_stop stop
+-- the status of what is accepted, or that of the refusal
+abbrev pub status_by : {X Stop : Type 0} → (X → Status) → (Stop → Status) → Result X Stop → Status
+status_by accepted refused (Accepted x) = accepted x
+status_by accepted refused (Refused stop) = refused stop
 
 -- the status of an ill-typed program
 abbrev pub status_of_type_stop : TypeStop → Status
@@ -66,11 +65,6 @@ abbrev pub status_of_schedule : List Item → List Entry → Status
 status_of_schedule program schedule =
     typed_or (first_typing_fault program) (status_of_refusal (refusal_of program schedule))
 
--- the same, of a text that may be refused
-abbrev pub status_of_replay : Result (List Item × List Entry) TextStop → Status
-status_of_replay (Accepted parts) = status_of_schedule parts.0 parts.1
-status_of_replay (Refused stop) = status_of_text_stop stop
-
 -- the status of a trace that is refused
 abbrev pub status_of_trace_stop : TraceStop → Status
 status_of_trace_stop (TraceStop.Text line kind) = Text line kind
@@ -78,16 +72,12 @@ status_of_trace_stop (TraceStop.IllTyped line kind) = IllTyped line kind
 status_of_trace_stop (TraceStop.Limit line which found) = Limit line which found
 status_of_trace_stop TraceStop.NoMemory = NoMemory
 
--- Each trace without a fault is played to its end.
-abbrev pub status_of_trace : Result Contents TraceStop → Status
-status_of_trace (Accepted contents) = Ok
-status_of_trace (Refused stop) = status_of_trace_stop stop
-
--- the status of a command on an input, where nothing fails
+-- The status of a command on an input, where nothing fails. Each trace without a fault is played to its end.
 abbrev pub status_on : TextCommand → List ℕ → Status
-status_on Replay input = status_of_replay (replay_of input)
-status_on Trace input = status_of_trace (trace_of input)
-status_on command input = status_of_text command (program_of input)
+status_on Replay input =
+    status_by (λ parts. status_of_schedule parts.0 parts.1) status_of_text_stop (replay_of input)
+status_on Trace input = status_by (λ _. Ok) status_of_trace_stop (trace_of input)
+status_on command input = status_by (status_of_program command) status_of_text_stop (program_of input)
 
 -- What a command writes on a program. What a run writes is of the history that the report on its heap has.
 abbrev pub IsOutputOf : TextCommand → List Item → Output → Type 0
@@ -138,7 +128,7 @@ IsOutput command input output = IsOutputOnProgram command input output
 -- tell its bytes, there is such an input.
 pub record IsOutputOnSource (command : TextCommand) (old new : Option (List ℕ)) (output : Output) : Type 0 where
   pub input : List ℕ
-  pub read : IfSome old (λ left. (input ≡ left) × (new ≡ Some []))
+  pub read : TakesAll old new input
   pub is_output : IsOutput command input output
 
 -- What `gen` writes: it sums up the run of the generated program. Nothing is read.

@@ -3,16 +3,16 @@ use Rattle.std.specs.Prelude.{ℕ, List, [], ◌∷◌, ◌++◌, slice_index_or
 use Rattle.std.specs.{Prelude.{◌+◌, ◌≤◌, slice_get, Bool, true, false, if◌then◌else◌}, List.{flat_map, range_with_len}}
 use Rattle.std.specs.Fmt.{decimal}
 use Rattle.mk_core.specs.{Allocations.{held_by_allocations, fresh_words_of}, Counts.{ends, releases, full_answers}}
-use Rattle.mk_core.specs.{Counts.in_a_word, History.left, declared.{config.Config.Config, events.Event.Event}}
+use Rattle.mk_core.specs.{Counts.in_a_word, History.left, declared.config.Config.Config, declared.events.Event.Event}
 use Rattle.mk_core.specs.declared.events.Answer.{Answer}
 use Rattle.mk_script.specs.{declared.items.Item.Item, Canonical.line_text, Scopes.{script_names, global_names}}
 use Rattle.mk_script.specs.Scopes.{pointer_names}
 use Rattle.mk_check.specs.{Blocks.script_of, Feed.{is_refusal, answers_given, output}, declared.text.Text.Text}
 use Rattle.mk_check.specs.Declarations.{config_of}
-use Rattle.mk_run.specs.Below.Chains.declared.kept.{Kept.Kept, Root.Root}
-use Rattle.mk_run.specs.Below.{Chains.declared.kept.Root.TheVariants.{Register, Global}, Heaps.Hosts.quarantined}
+use Rattle.mk_run.specs.{Below.Chains.declared.kept.Kept.Kept, Below.Chains.declared.kept.Root.Root}
+use Rattle.mk_run.specs.{Below.Chains.declared.kept.Root.TheVariants.{Register, Global}, Below.Heaps.Hosts.quarantined}
 use Rattle.mk_run.specs.{Below.Heaps.declared.reports.Report.Report, Headline.{KeepsRunPromises, StandsInOneHistory}}
-use Rattle.mk_run.specs.Below.{Chains.Chains.AreKept, Heaps.Ending.EndsWithCycle}
+use Rattle.mk_run.specs.{Below.Chains.Chains.AreKept, Below.Heaps.Ending.EndsWithCycle}
 use Rattle.mk_outputs.specs.{declared.commands.Options.Options, Commands.{is_sweep, markers_beside}}
 use lib.Chars.{codes}
 
@@ -103,13 +103,9 @@ abbrev pub lines_from : ℕ → List Text → List ℕ
 lines_from k [] = []
 lines_from k (text ∷ texts) = line_of_text k text ++ lines_from (k + 1) texts
 
--- the operations of all scripts
-abbrev pub all_ops : List Text → ℕ
-all_ops texts = sum_by (λ (text : Text). text.ops) texts
-
 -- the whole summary
 abbrev pub summary_of_texts : List Text → List ℕ
-summary_of_texts texts = lines_from 0 texts ++ total_line (all_ops texts)
+summary_of_texts texts = lines_from 0 texts ++ total_line (sum_by (λ (text : Text). text.ops) texts)
 
 -- Each script made no more calls than a generated one makes at most.
 abbrev pub AreFew : List Text → Type 0

@@ -1,14 +1,12 @@
 -- What each command takes, and what clap is told of it. Private functions alone cite these.
 use Rattle.std.specs.Prelude.{Option, ◌≡◌, true, List, [], ◌∷◌, Some}
-use Rattle.mk_outputs.specs.declared.{commands.Command.Command, words.Named.Named}
-use Rattle.mk_outputs.specs.{declared.words.Named.TheVariants.{Run, Gen, Alone}, Commands.{run_of, gen_of, alone_of}}
-use Rattle.mk_outputs.specs.{Commands.{start_of, count_of}, Given.{Form, Given, runs, gens, bare, Flag, has_flag}}
-use Rattle.mk_outputs.specs.Given.{report_flag, sweep_flag, why_flag}
-use Rattle.clap.specs.{Values.bool_text, Walk.{Row, Rule, Text, first_of, one_of}, Simple.{App, Shape, new_rule}}
-use Rattle.clap.specs.{Simple.new_shape, declared.builder.action.ArgAction.TheVariants.{Set, SetTrue}}
+use Rattle.mk_outputs.specs.{declared.commands.Command.Command, declared.words.Named.Named}
+use Rattle.mk_outputs.specs.{declared.words.Named.TheVariants.{Run, Gen, Alone}, Commands.{run_of, gen_of, start_of}}
+use Rattle.mk_outputs.specs.{Commands.count_of, declared.commands.Command.TheVariants.OnText, Given.{Form, Given, runs}}
+use Rattle.mk_outputs.specs.Given.{gens, bare, Flag, has_flag, report_flag, sweep_flag, why_flag}
+use Rattle.clap.specs.{Values.bool_text, Walk.{Row, Rule, Text, first_of, one_of}, Simple.{App, new_rule, new_shape}}
+use Rattle.clap.specs.declared.builder.action.ArgAction.TheVariants.{Set, SetTrue}
 use lib.Chars.{codes}
-
--- What each command takes, and makes of what is given. Private functions alone cite these.
 
 -- the form of a command's words
 abbrev pub form_of : Named → Form
@@ -20,7 +18,7 @@ form_of (Alone command) = bare
 abbrev pub made_of : Named → Given → Option Command
 made_of Run given = run_of given
 made_of Gen given = gen_of given
-made_of (Alone command) given = alone_of command given
+made_of (Alone command) given = Some (OnText command)
 
 -- what clap is told of `--markers`
 abbrev pub markers_rule : Rule
@@ -47,13 +45,12 @@ rules_of runs =
 rules_of gens = markers_rule ∷ positional_rule (codes "start") ∷ positional_rule (codes "count") ∷ []
 rules_of bare = []
 
--- a command without help and version
-abbrev pub bare_shape : Text → Shape
-bare_shape name = record (new_shape name) { disable_help_flag = true; disable_version_flag = true }
-
--- a command with these rules
+-- a command with these rules, without help and version
 abbrev pub app_with : List Rule → Text → App
-app_with rules name = record { top = record (bare_shape name) { rules = rules }; subs = [] }
+app_with rules name = record {
+  top = record (new_shape name) { disable_help_flag = true; disable_version_flag = true; rules = rules };
+  subs = [];
+}
 
 -- the command of a form
 abbrev pub app_named : Form → Text → App

@@ -4,7 +4,7 @@ ghost use Rattle.mk_io.specs.{Bytes.TakesAll, Memory.Rose};
 ghost use Rattle.mk_script.specs.Grammar.{program_of};
 ghost use Rattle.mk_outputs.specs.Commands.{AreWithin, IsWithin, MarkersAreWithin};
 ghost use Rattle.mk_outputs.specs.Outputs.{IsOutputOfCommand, IsOutput, IsOutputOf, IsStatusOf, HasNoRead, status_on};
-ghost use Rattle.mk_outputs.specs.{Outputs.{status_of_program, status_of_text}, Laws.IsSeen};
+ghost use Rattle.mk_outputs.specs.{Outputs.{status_by, status_of_program, status_of_text_stop}, Laws.IsSeen};
 ghost use Rattle.mk_outputs.specs.Statuses.{IsBeforeWriting, IsOfText};
 
 use crate::commands::{Command, Options, TextCommand};
@@ -112,7 +112,8 @@ fn output_on<P: Pace + Sync, R: Threads + Wait + Sync>(
 fn read(alloc: Global, text: &[u8]) -> Result<Program, Status>
     ensures program { IfOk result (λ program. program_of text.now ≡ Ok program) }
     ensures refused { IfErr result (λ status. (status ≡ Status.NoMemory)
-        ⊎ ((command : TextCommand) → status ≡ status_of_text command (program_of text.now))) }
+        ⊎ ((command : TextCommand) → status
+        ≡ status_by (status_of_program command) status_of_text_stop (program_of text.now))) }
     ensures of_text { IfErr result (λ status. IsOfText status) }
 {
     Ok(parse(alloc, text)?)

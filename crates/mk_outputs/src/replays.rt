@@ -3,7 +3,7 @@ ghost use Rattle.std.specs.Prelude.{◌≡◌, ◌⊎◌, IfOk, IfErr, OnOk};
 ghost use Rattle.mk_core.specs.History.{AreEnabled};
 ghost use Rattle.mk_check.specs.{Declarations.config_of, Feed.output};
 ghost use Rattle.mk_replay.specs.Replays.{history_of};
-ghost use Rattle.mk_laws.specs.Promises.{KeepsAllPromises};
+ghost use Rattle.mk_run.specs.Below.Laws.Promises.{KeepsAllPromises};
 ghost use Rattle.mk_outputs.specs.{Outputs.{IsOutputOnSchedule, status_on, status_of_schedule}, Statuses.IsOfText};
 
 use crate::commands::TextCommand;

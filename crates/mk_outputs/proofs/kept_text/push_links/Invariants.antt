@@ -1,4 +1,4 @@
-use Rattle.mk_laws.proofs.Vocabulary.{drop, ◌++◌, ◌≡◌}
+use Rattle.mk_run.proofs.Below.Laws.Vocabulary.{drop, ◌++◌, ◌≡◌}
 use Rattle.mk_outputs.specs.RunOutputs.{links_text}
 use Rattle.mk_outputs.proofs.kept_text.push_links.Given as goal
 

@@ -1,4 +1,4 @@
-use Rattle.mk_laws.proofs.Vocabulary.{drop, slice_index_or, [], ◌≡◌}
+use Rattle.mk_run.proofs.Below.Laws.Vocabulary.{drop, slice_index_or, [], ◌≡◌}
 use Rattle.mk_script.specs.Scopes.{names_of}
 use Rattle.mk_outputs.proofs.names.name_among.Given as goal
 

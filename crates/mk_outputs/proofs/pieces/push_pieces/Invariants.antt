@@ -1,5 +1,5 @@
 use Rattle.std.specs.List.{flat_map}
-use Rattle.mk_laws.proofs.Vocabulary.{drop, ◌++◌, ◌≡◌}
+use Rattle.mk_run.proofs.Below.Laws.Vocabulary.{drop, ◌++◌, ◌≡◌}
 use Rattle.mk_outputs.proofs.pieces.push_pieces.Given as goal
 
 -- what stands so far, and the pieces that are left

@@ -1,8 +1,8 @@
 use Rattle.std.proofs.{Common.string_bytes, lemmas.Option.slice_get_read}
-use Rattle.mk_laws.proofs.Vocabulary.{List, ℕ, ap, arith, get_or, length, refl, ◌++◌, ◌<◌, ◌∙◌, ◌≡◌, ◌≤◌}
+use Rattle.mk_run.proofs.Below.Laws.Vocabulary.{List, ℕ, ap, arith, get_or, length, refl, ◌++◌, ◌<◌, ◌∙◌, ◌≡◌, ◌≤◌}
 use Rattle.mk_check.specs.declared.text.Text.{Text}
-use Rattle.mk_outputs.proofs.Summaries.{lines_done, lines_more, ops_done, ops_more}
-use Rattle.mk_outputs.specs.RunOutputs.{AreFew, all_ops, line_of_text}
+use Rattle.mk_outputs.proofs.Summaries.{all_ops, lines_done, lines_more, ops_done, ops_more}
+use Rattle.mk_outputs.specs.RunOutputs.{AreFew, line_of_text}
 use Rattle.mk_outputs.proofs.summing.summary_of.Goals as goal
 
 few_calls : (texts : List Text) → AreFew texts → (i : ℕ) (text : Text) → i < length texts → text ≡ get_or texts i text

@@ -1,6 +1,6 @@
 use Rattle.std.proofs.Common.{string_bytes}
-use Rattle.mk_laws.proofs.Vocabulary.{drop, ◌*◌, ◌++◌, ◌+◌, ◌≡◌, ◌≤◌}
-use Rattle.mk_outputs.specs.RunOutputs.{all_ops, lines_from}
+use Rattle.mk_run.proofs.Below.Laws.Vocabulary.{drop, ◌*◌, ◌++◌, ◌+◌, ◌≡◌, ◌≤◌}
+use Rattle.mk_outputs.{proofs.Summaries.all_ops, specs.RunOutputs.lines_from}
 use Rattle.mk_outputs.proofs.summing.summary_of.Given as goal
 
 abbrev pub invariant-loop-text : goal.invariant-loop-text

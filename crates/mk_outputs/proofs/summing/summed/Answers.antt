@@ -1,5 +1,5 @@
 use Rattle.std.proofs.Common.{Global, Vec, slice_get}
-use Rattle.mk_laws.proofs.Vocabulary.{List, ℕ, ap, arith, sym, ◌∙◌}
+use Rattle.mk_run.proofs.Below.Laws.Vocabulary.{List, ℕ, ap, arith, sym, ◌∙◌}
 use Rattle.mk_check.specs.declared.text.Text.{Text}
 use Rattle.mk_outputs.{proofs.Summaries.{are_few, four, run_is_summed}, specs.RunOutputs.{summary_of_texts}}
 use Rattle.mk_outputs.{proofs.Traced.{beside_traced, traced_is_no_sweep}, specs.Commands.{is_sweep, markers_beside}}

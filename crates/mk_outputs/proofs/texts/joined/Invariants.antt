@@ -1,5 +1,5 @@
 use Rattle.std.specs.List.{flat_map}
-use Rattle.mk_laws.proofs.Vocabulary.{take, ◌≡◌}
+use Rattle.mk_run.proofs.Below.Laws.Vocabulary.{take, ◌≡◌}
 use Rattle.mk_outputs.proofs.texts.joined.Given as goal
 
 -- the texts so far
