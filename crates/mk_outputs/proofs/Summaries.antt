@@ -2,8 +2,10 @@
 use Rattle.std.proofs.{Common.{codes, count_by, slice_get, sum_by}, lemmas.{Fmt.decimal_digit, List.drop_all}}
 use Rattle.std.proofs.lemmas.{List.Sums.sum_by-cons, Option.slice_get_within}
 use Rattle.std.specs.{Fmt.decimal, List.{flat_map, range_with_len}}
-use Rattle.mk_run.proofs.Below.Laws.Vocabulary.{Answer, Config, Event, List, Some, ℕ, ap, append-nil, append_assoc, arith, drop}
-use Rattle.mk_run.proofs.Below.Laws.Vocabulary.{false, false≢true, get_or, length, refl, slice_index_or, suc, sym, true, [], ◌++◌}
+use Rattle.mk_run.proofs.Below.Laws.Vocabulary.{Answer, Config, Event, List, Some, ℕ, ap, append-nil, append_assoc}
+use Rattle.mk_run.proofs.Below.Laws.Vocabulary.{arith, drop}
+use Rattle.mk_run.proofs.Below.Laws.Vocabulary.{false, false≢true, get_or, length, refl, slice_index_or, suc, sym, true}
+use Rattle.mk_run.proofs.Below.Laws.Vocabulary.{[], ◌++◌}
 use Rattle.mk_run.proofs.Below.Laws.Vocabulary.{◌+◌, ◌<◌}
 use Rattle.mk_run.proofs.Below.Laws.Vocabulary.{◌∙◌, ◌∷◌, ◌≡◌, ◌≤◌}
 use Rattle.mk_check.specs.{Declarations.config_of, Laws.IsScript, declared.text.Text.Text}
