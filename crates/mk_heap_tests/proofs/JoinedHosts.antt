@@ -14,9 +14,8 @@ use Rattle.mk_never.proofs.Later.{calls_stay}
 use Rattle.mk_core.specs.{History.{calls_from, never_first}, Moments.none_is_held}
 use Rattle.mk_run.specs.Below.{Callers.States.never_of, Heaps.Ending.CallersAreJoined}
 use Rattle.mk_run.specs.Below.Heaps.Hosts.{AllAreJoined, IsHost, first_host, with_caller_made, with_joined}
-use Rattle.mk_run.specs.Below.{Heaps.Hosts.IsPassOf, Words.States.all_seats}
+use Rattle.mk_run.specs.Below.{Heaps.Hosts.{IsFirstPass, IsPassOf}, Words.States.{all_seats, has_over}}
 use Rattle.mk_run.proofs.Below.{Heaps.HostsKept.first_is_host, Words.Seats.{has_first, has_left, has_right}}
-use Rattle.mk_run.specs.Below.Heaps.Hosts.{IsFirstPass}
 
 -- Each caller has eight registers, and there are 64 globals, whatever happened. Before the first call all are null.
 
